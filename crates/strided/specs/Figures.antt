@@ -1,0 +1,205 @@
+-- "Figures to check": the marked ones, and some that were found with the Rust where no marked one tells a fault apart, in one table with one
+-- theorem for all rows, by computation on the definitions.
+-- Assumes nothing.
+use mathlib.Core.Path.{_≡_, refl}
+use mathlib.Core.Bool.{Bool, true, false, _&&_}
+use mathlib.Core.List.{List, [], _∷_, _++_, map}
+use mathlib.Core.Option.{Option, none, some}
+use Prim.Native.Nat.{ℕ, zero, suc, _^_}
+use lib.Count.{leadingZeros}
+use lib.Dec.{eqb}
+use lib.IntN.{ℤ, pos, negsuc}
+use lib.ListN.{length, getD, take, replicate}
+use Rattle.strided.specs.declared.Purpose.{Purpose}
+use Rattle.strided.specs.declared.Purpose.the-variants.{Pointwise, PointwiseInto, Fold}
+use Rattle.strided.specs.declared.Refusal.{Refusal}
+use Rattle.strided.specs.declared.Answer.{Answer}
+use Rattle.strided.specs.declared.Answer.the-variants.{Served, Refused}
+use Rattle.strided.specs.declared.Plan.{Plan}
+use Rattle.strided.specs.declared.Walk.{Walk}
+use Rattle.strided.specs.declared.Planned.{Planned}
+use Rattle.strided.specs.declared.Begun.{Begun}
+use Rattle.strided.specs.declared.Told.{Told}
+use Rattle.strided.specs.declared.Marked.{Marked}
+use Rattle.strided.specs.declared.Outcome.{Outcome}
+use Rattle.strided.specs.declared.Outcome.the-variants.{Block, Ended, Rejected}
+use Rattle.strided.specs.declared.Stepped.{Stepped}
+use Rattle.strided.specs.Base.{padded, unless, until, sum, product, least, every, some-of, seek, greatest}
+use Rattle.strided.specs.Refusals.{number, layoutRefused}
+use Rattle.strided.specs.Ranks.{smaller, rankOf, ranks, rankTable}
+use Rattle.strided.specs.Weights.{packingWidth, shiftOf, termOf, sizeAt, rankIn, addend, weightAt, termFits, sumFits, axisFits, try, capTries, widthTries, weights}
+use Rattle.strided.specs.Order.{loopOrder, fusingOrder}
+use Rattle.strided.specs.Fuse.{eqZ, planAxes}
+use Rattle.strided.specs.Index.{originalIndex, indexInPlan, toldOriginal, toldPlan}
+use Rattle.strided.specs.Region.{regionOf, region, byteTable}
+use Rattle.strided.specs.Costs.{costOf, costs}
+use Rattle.strided.specs.Cut.{greatestScore, halving, lessening, halved, lessened, shrunk, leastRank, leastByte, keepsFirst, ones, cutting}
+use Rattle.strided.specs.Decline.{firstCut, insertRising, rising, apart, widthOf, passes, declined}
+use Rattle.strided.specs.Fit.{reuse, counts, loadOf, load, entersOf, enters, shortens, mostOf, fitFrom, fitted}
+use Rattle.strided.specs.Plan.{grows, cutBlocks, planFrom, planned}
+use Rattle.strided.specs.Begin.{beginRefused, begunAt}
+use Rattle.strided.specs.Step.{stepped}
+use Rattle.strided.specs.Mark.{repeats, markRefused, marked}
+
+-- ---- the rows
+
+pub data Figure : Type 0 where
+  -- ranks of strides
+  ranksAre : List ℤ → List ℕ → Figure
+  -- weights: extents, operands, strides; operand 0 is the lead
+  weightsAre : List ℕ → ℕ → List ℤ → List ℕ → Figure
+  -- the region of one operand: extents, strides, size
+  regionIs : List ℕ → List ℤ → ℕ → ℕ → Figure
+  -- planning: extents, sizes, strides, purpose; the plan's extents, blocks, and operand 0's strides
+  planIs : List ℕ → List ℕ → List ℤ → Purpose → List ℕ → List ℕ → List ℤ → Figure
+  -- planning refuses with this number
+  refusedIs : List ℕ → List ℕ → List ℤ → Purpose → ℕ → Figure
+  -- index finding: extents, sizes, strides, purpose; the counters and the original index, told both ways
+  indexIs : List ℕ → List ℕ → List ℤ → Purpose → List ℕ → List ℕ → Figure
+  -- a walk of one operand to its end: extents, blocks, strides, start; the offsets and the lengths of its blocks
+  walkIs : List ℕ → List ℕ → List ℤ → ℤ → List ℤ → List ℕ → Figure
+  -- the repeat mark: extents, strides
+  markIs : List ℕ → List ℤ → Bool → Figure
+
+-- strides that are not negative
+abbrev pub whole : List ℕ → List ℤ
+whole ns = map pos ns
+
+unfoldable pub figures : List Figure
+figures =
+    -- 0 and 1: ranks and weights
+    ranksAre (pos 0 ∷ pos 4 ∷ negsuc 1 ∷ pos 4 ∷ []) (1 ∷ 2 ∷ 1 ∷ 2 ∷ [])
+    ∷ weightsAre (4 ∷ 4 ∷ []) 2 (whole (1 ∷ 4 ∷ 4 ∷ 1 ∷ [])) (33 ∷ 12 ∷ [])
+    -- 2 to 4: fused axes
+    ∷ planIs (2 ∷ 3 ∷ 4 ∷ []) (8 ∷ []) (whole (1 ∷ 2 ∷ 6 ∷ [])) Pointwise (24 ∷ []) (24 ∷ []) (whole (1 ∷ []))
+    ∷ planIs (3 ∷ 2 ∷ []) (8 ∷ []) (negsuc 0 ∷ negsuc 2 ∷ []) Pointwise (6 ∷ []) (6 ∷ []) (negsuc 0 ∷ [])
+    ∷ planIs (1 ∷ 1 ∷ []) (8 ∷ []) (whole (5 ∷ 7 ∷ [])) Pointwise (1 ∷ []) (1 ∷ []) (whole (5 ∷ []))
+    -- 5 and 6: regions
+    ∷ regionIs (64 ∷ 64 ∷ []) (whole (1 ∷ 64 ∷ [])) 8 32768
+    ∷ regionIs (64 ∷ 65 ∷ []) (whole (1 ∷ 64 ∷ [])) 8 33280
+    -- 7 to 9: blocks; a copy is fitted, a sum is not
+    ∷ planIs (64 ∷ 64 ∷ []) (8 ∷ 8 ∷ []) (whole (1 ∷ 64 ∷ 64 ∷ 1 ∷ [])) (PointwiseInto 0) (64 ∷ 64 ∷ []) (64 ∷ 32 ∷ []) (whole (1 ∷ 64 ∷ []))
+    ∷ planIs (64 ∷ 64 ∷ []) (8 ∷ 8 ∷ []) (whole (1 ∷ 64 ∷ 512 ∷ 1 ∷ [])) (PointwiseInto 0) (64 ∷ 64 ∷ []) (6 ∷ 32 ∷ []) (whole (1 ∷ 64 ∷ []))
+    ∷ planIs (64 ∷ 64 ∷ []) (8 ∷ 8 ∷ []) (whole (1 ∷ 64 ∷ 512 ∷ 1 ∷ [])) (Fold 0) (64 ∷ 64 ∷ []) (64 ∷ 32 ∷ []) (whole (1 ∷ 64 ∷ []))
+    -- 10 to 12: walks, the last one at rank 9
+    ∷ walkIs (5 ∷ []) (2 ∷ []) (whole (3 ∷ [])) (pos 10) (whole (10 ∷ 16 ∷ 22 ∷ [])) (2 ∷ 2 ∷ 1 ∷ [])
+    ∷ walkIs (3 ∷ 3 ∷ []) (2 ∷ 2 ∷ []) (whole (1 ∷ 10 ∷ [])) (pos 0) (whole (0 ∷ 10 ∷ 2 ∷ 12 ∷ 20 ∷ 22 ∷ [])) (2 ∷ 2 ∷ 1 ∷ 1 ∷ 2 ∷ 1 ∷ [])
+    ∷ walkIs (3 ∷ 3 ∷ replicate 7 1) (2 ∷ 2 ∷ replicate 7 1) (whole (1 ∷ 10 ∷ replicate 7 0)) (pos 0)
+    (whole (0 ∷ 2 ∷ 10 ∷ 12 ∷ 20 ∷ 22 ∷ [])) (2 ∷ 1 ∷ 2 ∷ 1 ∷ 2 ∷ 1 ∷ [])
+    -- 13 on are not marked: they were found with the Rust. One operand, strides 32, 1: 32, 32 stay and 33, 32 fuse
+    ∷ planIs (32 ∷ 32 ∷ []) (8 ∷ []) (whole (32 ∷ 1 ∷ [])) (Fold 0) (32 ∷ 32 ∷ []) (32 ∷ 32 ∷ []) (whole (32 ∷ 1 ∷ []))
+    ∷ planIs (33 ∷ 32 ∷ []) (8 ∷ []) (whole (32 ∷ 1 ∷ [])) (Fold 0) (1056 ∷ []) (1056 ∷ []) (whole (1 ∷ []))
+    -- 15: ranks are taken once, and not afresh on the tail
+    ∷ planIs (2 ∷ 16 ∷ 33 ∷ []) (16 ∷ 0 ∷ []) (whole (2 ∷ 64 ∷ 100 ∷ 5 ∷ 2 ∷ 8 ∷ [])) (Fold 0)
+    (2 ∷ 16 ∷ 33 ∷ []) (2 ∷ 16 ∷ 31 ∷ []) (whole (2 ∷ 64 ∷ 100 ∷ []))
+    -- 16: the last axis wins ties of the score
+    ∷ planIs (4 ∷ 4 ∷ 5 ∷ 16 ∷ []) (64 ∷ 16 ∷ []) (whole (3 ∷ 4 ∷ 1 ∷ 4 ∷ 32 ∷ 5 ∷ 5 ∷ 4 ∷ [])) (PointwiseInto 1)
+    (16 ∷ 5 ∷ 4 ∷ 4 ∷ []) (4 ∷ 5 ∷ 3 ∷ 4 ∷ []) (whole (4 ∷ 1 ∷ 4 ∷ 3 ∷ []))
+    -- 17: the region of the tail, not of all axes
+    ∷ planIs (16 ∷ 8 ∷ 65 ∷ []) (64 ∷ 64 ∷ []) (whole (2048 ∷ 128 ∷ 2048 ∷ 32 ∷ 5 ∷ 2048 ∷ [])) Pointwise
+    (8 ∷ 16 ∷ 65 ∷ []) (8 ∷ 16 ∷ 65 ∷ []) (whole (128 ∷ 2048 ∷ 2048 ∷ []))
+    -- 18: halving rounds up
+    ∷ planIs (33 ∷ 8 ∷ 8 ∷ []) (1 ∷ 16 ∷ []) (whole (3 ∷ 5 ∷ 128 ∷ 100 ∷ 32 ∷ 5 ∷ [])) Pointwise
+    (33 ∷ 8 ∷ 8 ∷ []) (9 ∷ 8 ∷ 7 ∷ []) (whole (3 ∷ 5 ∷ 128 ∷ []))
+    -- 19: an operand of size 0 has ranks all 1
+    ∷ planIs (16 ∷ 8 ∷ 16 ∷ []) (0 ∷ 16 ∷ []) (whole (8 ∷ 4 ∷ 1 ∷ 4 ∷ 3 ∷ 64 ∷ [])) (PointwiseInto 1)
+    (8 ∷ 16 ∷ 16 ∷ []) (8 ∷ 16 ∷ 16 ∷ []) (whole (4 ∷ 8 ∷ 1 ∷ []))
+    -- 20 and 21: tiles declined; not where the first cut axis is axis 0
+    ∷ planIs (128 ∷ 64 ∷ 16 ∷ []) (4 ∷ 2 ∷ 2 ∷ []) (whole (1 ∷ 2064 ∷ 128 ∷ 1 ∷ 128 ∷ 8192 ∷ 1 ∷ 128 ∷ 8192 ∷ [])) Pointwise
+    (128 ∷ 16 ∷ 64 ∷ []) (128 ∷ 16 ∷ 64 ∷ []) (whole (1 ∷ 128 ∷ 2064 ∷ []))
+    ∷ planIs (32 ∷ 64 ∷ []) (0 ∷ 64 ∷ []) (whole (100 ∷ 8 ∷ 2 ∷ 64 ∷ [])) (PointwiseInto 0)
+    (64 ∷ 32 ∷ []) (15 ∷ 32 ∷ []) (whole (8 ∷ 100 ∷ []))
+    -- 22 to 24: the fit: exactly two operands, from the outermost axis, and not where the chosen stride is 0
+    ∷ planIs (16 ∷ 33 ∷ 5 ∷ []) (16 ∷ []) (whole (4 ∷ 512 ∷ 0 ∷ [])) (PointwiseInto 0)
+    (16 ∷ 33 ∷ 5 ∷ []) (16 ∷ 33 ∷ 5 ∷ []) (whole (4 ∷ 512 ∷ 0 ∷ []))
+    ∷ planIs (64 ∷ 5 ∷ 2 ∷ 4 ∷ []) (64 ∷ 8 ∷ []) (whole (256 ∷ 2 ∷ 0 ∷ 128 ∷ 4 ∷ 128 ∷ 5 ∷ 2 ∷ [])) (PointwiseInto 1)
+    (4 ∷ 64 ∷ 5 ∷ 2 ∷ []) (4 ∷ 1 ∷ 5 ∷ 2 ∷ []) (whole (128 ∷ 256 ∷ 2 ∷ 0 ∷ []))
+    ∷ planIs (128 ∷ 64 ∷ 8 ∷ 4 ∷ []) (64 ∷ 4 ∷ []) (whole (0 ∷ 16 ∷ 1024 ∷ 128 ∷ 0 ∷ 512 ∷ 0 ∷ 4096 ∷ [])) (PointwiseInto 1)
+    (64 ∷ 4 ∷ 8 ∷ 128 ∷ []) (64 ∷ 1 ∷ 8 ∷ 128 ∷ []) (whole (16 ∷ 128 ∷ 1024 ∷ 0 ∷ []))
+    -- 25 to 27: the refusal table's own cases of rows 5, 6 and 7; 28: a zero extent passes them
+    ∷ refusedIs (2 ^ 32 ∷ 2 ^ 32 ∷ []) (1 ∷ []) (whole (0 ∷ 0 ∷ [])) Pointwise 5
+    ∷ refusedIs (3 ∷ []) (1 ∷ []) (whole (2 ^ 62 ∷ [])) Pointwise 6
+    ∷ refusedIs (2 ∷ []) (8 ∷ []) (whole (2 ^ 60 ∷ [])) Pointwise 7
+    ∷ planIs (0 ∷ 3 ∷ []) (8 ∷ []) (whole (1 ∷ 2 ^ 62 ∷ [])) Pointwise (0 ∷ 3 ∷ []) (0 ∷ 3 ∷ []) (whole (1 ∷ 2 ^ 62 ∷ []))
+    -- 29 and 30: on a fused axis the one that came first in the order of fusing is quickest: as given, and in loop order
+    ∷ indexIs (2 ∷ 3 ∷ 4 ∷ []) (8 ∷ []) (whole (1 ∷ 2 ∷ 6 ∷ [])) Pointwise (11 ∷ []) (1 ∷ 2 ∷ 1 ∷ [])
+    ∷ indexIs (33 ∷ 32 ∷ []) (8 ∷ []) (whole (32 ∷ 1 ∷ [])) (Fold 0) (70 ∷ []) (2 ∷ 6 ∷ [])
+    -- 31 to 33: the repeat mark
+    ∷ markIs (3 ∷ 2 ∷ []) (whole (1 ∷ 0 ∷ [])) true
+    ∷ markIs (3 ∷ 1 ∷ []) (whole (1 ∷ 0 ∷ [])) false
+    ∷ markIs (0 ∷ 2 ∷ []) (whole (1 ∷ 0 ∷ [])) false
+    ∷ []
+
+-- ---- what the definitions give
+
+abbrev pub same : List ℕ → List ℕ → Bool
+same [] [] = true
+same [] (y ∷ ys) = false
+same (x ∷ xs) [] = false
+same (x ∷ xs) (y ∷ ys) = eqb x y && same xs ys
+
+abbrev pub sameZ : List ℤ → List ℤ → Bool
+sameZ [] [] = true
+sameZ [] (y ∷ ys) = false
+sameZ (x ∷ xs) [] = false
+sameZ (x ∷ xs) (y ∷ ys) = eqZ x y && sameZ xs ys
+
+abbrev pub sameBool : Bool → Bool → Bool
+sameBool true b = b
+sameBool false true = false
+sameBool false false = true
+
+-- the number of a refusal, 0 where there is none
+abbrev pub numberOf : Answer → ℕ
+numberOf Served = 0
+numberOf (Refused r) = number r
+
+-- a plan of one operand
+unfoldable pub planOf : List ℕ → List ℕ → List ℤ → Plan
+planOf es bs ts = record { rank = length es; operands = 1; extents = padded 64 0 es; blocks = padded 64 0 bs; strides = padded 512 (pos 0) ts }
+
+-- the blocks of a walk up to its end; a number above 0 is where a step was refused
+pub record Seen : Type 0 where
+  pub offsets : List ℤ
+  pub lengths : List ℕ
+  pub fault : ℕ
+
+abbrev pub shown : Outcome → ℤ → ℕ → Seen → Seen
+shown Block z n rest = record { offsets = z ∷ rest .offsets; lengths = n ∷ rest .lengths; fault = rest .fault }
+shown Ended z n rest = record { offsets = []; lengths = []; fault = 0 }
+shown (Rejected r) z n rest = record { offsets = []; lengths = []; fault = number r }
+
+unfoldable pub seen : ℕ → Plan → Walk → Seen
+seen zero p w = record { offsets = []; lengths = []; fault = 15 }
+seen (suc f) p w = let s : Stepped = stepped p w in shown (s .answer) (getD (s .offsets) 0 (pos 0)) (s .length) (seen f p (s .walk))
+
+-- a row is right
+unfoldable pub right : Figure → Bool
+right (ranksAre ss rs) = same (ranks ss) rs
+right (weightsAre es operands ss ws) = same (weights es operands ss 0) ws
+right (regionIs es ss size r) = eqb (region (byteTable (size ∷ []) ss) 1 es 0 (length es)) r
+right (planIs es sizes ss u fs bs ts) =
+    let a : Planned = planned es sizes ss u in
+    eqb (numberOf (a .answer)) 0 && (eqb (a .plan .rank) (length fs) && (eqb (a .plan .operands) (length sizes)
+    && (same (a .plan .extents) (padded 64 0 fs) && (same (a .plan .blocks) (padded 64 0 bs) && sameZ (take 64 (a .plan .strides)) (padded 64 (pos 0) ts)))))
+right (refusedIs es sizes ss u n) = let a : Planned = planned es sizes ss u in eqb (numberOf (a .answer)) n
+right (indexIs es sizes ss u cs x) =
+    let a : Told = toldOriginal es sizes ss u cs in
+    let b : Told = toldPlan es sizes ss u x in
+    eqb (numberOf (a .answer)) 0 && (eqb (a .count) (length x) && (same (a .index) (padded 64 0 x)
+    && (eqb (numberOf (b .answer)) 0 && (eqb (b .count) (length cs) && same (b .index) (padded 64 0 cs)))))
+right (walkIs es bs ts z zs ns) =
+    let a : Begun = begunAt (planOf es bs ts) (z ∷ []) in
+    let s : Seen = seen 100 (planOf es bs ts) (a .walk) in
+    eqb (numberOf (a .answer)) 0 && (sameZ (s .offsets) zs && (same (s .lengths) ns && eqb (s .fault) 0))
+right (markIs es ts b) = let a : Marked = marked es ts in eqb (numberOf (a .answer)) 0 && sameBool (a .repeats) b
+
+-- the numbers of the rows that are not right, from row n on
+unfoldable pub wrong : ℕ → List Figure → List ℕ
+wrong n [] = []
+wrong n (f ∷ fs) = unless (right f) n (wrong (suc n) fs)
+
+-- ALL ROWS ARE RIGHT
+pub figures-right : wrong 0 figures ≡ []
+unfolding figures planOf seen right wrong until sum product least every some-of seek greatest layoutRefused smaller rankOf ranks rankTable leadingZeros packingWidth shiftOf termOf sizeAt rankIn addend weightAt termFits sumFits axisFits try capTries widthTries weights loopOrder fusingOrder planAxes originalIndex indexInPlan toldOriginal toldPlan regionOf region costOf costs greatestScore halving lessening halved lessened shrunk leastRank leastByte keepsFirst ones cutting firstCut insertRising rising apart widthOf passes declined reuse counts loadOf load entersOf enters shortens mostOf fitFrom fitted grows cutBlocks planFrom planned beginRefused begunAt stepped repeats markRefused marked
+figures-right = refl

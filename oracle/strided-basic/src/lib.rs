@@ -1,0 +1,168 @@
+//! Shim of strided-basic: the original planner files behind a small public
+//! face. Only this file is a stand-in; the build fails if a constant here
+//! differs from the original's.
+
+include!(concat!(env!("OUT_DIR"), "/originals.rs"));
+
+pub mod probe;
+
+pub use inline::{InlineVec, OperandVec};
+pub use kernel::SMALL_TENSOR_THRESHOLD;
+pub use strided_view::*;
+
+// Constants of the original lib.rs.
+pub const BLOCK_MEMORY_SIZE: usize = 32 * 1024;
+pub const CACHE_LINE_SIZE: usize = 64;
+pub(crate) const L1_WAYS: usize = 8;
+pub(crate) const L1_LIVE_LINES_PER_SET: usize = L1_WAYS - L1_WAYS / 4;
+
+/// The limits of the original raw_ops.rs.
+pub(crate) mod raw_ops {
+    pub const RAW_FUSED_RANK_LIMIT: usize = 8;
+    pub(crate) const MAX_MOVING_AXES: usize = usize::BITS as usize;
+}
+
+/// Named by kernel.rs only in functions that the oracle never calls.
+pub struct Exec<'a>(std::marker::PhantomData<&'a ()>);
+
+/// Named by kernel.rs only in functions that the oracle never calls.
+pub mod cost {
+    #[derive(Clone, Copy)]
+    pub enum KernelClass {
+        Map,
+    }
+}
+
+/// Named by kernel.rs only in functions that the oracle never calls.
+pub mod threading {
+    pub fn is_parallel(_: crate::cost::KernelClass, _: usize, _: &crate::Exec<'_>) -> bool {
+        false
+    }
+}
+
+/// A plan of the original: axes in loop order with their blocks.
+pub struct Plan {
+    pub extents: Vec<usize>,
+    pub strides: Vec<Vec<isize>>,
+    pub blocks: Vec<usize>,
+}
+
+type OriginalPlan = (
+    InlineVec<usize>,
+    OperandVec<InlineVec<isize>>,
+    kernel::KernelPlan,
+);
+
+fn plan((extents, strides, plan): OriginalPlan) -> Plan {
+    Plan {
+        extents: extents.to_vec(),
+        strides: strides.iter().map(|row| row.to_vec()).collect(),
+        blocks: plan.block.to_vec(),
+    }
+}
+
+/// The original `total_len`; `None` if the product is above 2^64 - 1.
+pub fn total_len(extents: &[usize]) -> Option<usize> {
+    kernel::total_len(extents).ok()
+}
+
+/// The original `pointwise_plan`.
+pub fn pointwise_plan(
+    extents: &[usize],
+    strides: &[&[isize]],
+    chosen: Option<usize>,
+    sizes: &[usize],
+    total: usize,
+) -> Plan {
+    plan(kernel::pointwise_plan(
+        extents, strides, chosen, sizes, total,
+    ))
+}
+
+/// The original `fold_plan`.
+pub fn fold_plan(
+    extents: &[usize],
+    strides: &[&[isize]],
+    chosen: usize,
+    sizes: &[usize],
+    total: usize,
+) -> Plan {
+    plan(kernel::fold_plan(extents, strides, chosen, sizes, total))
+}
+
+/// The original `for_each_inner_block_preordered`.
+pub fn for_each_inner_block_preordered<S, F>(
+    extents: &[usize],
+    blocks: &[usize],
+    strides: &[S],
+    starts: &[isize],
+    f: F,
+) -> Result<()>
+where
+    S: AsRef<[isize]>,
+    F: FnMut(&[isize], usize, &[isize]) -> Result<()>,
+{
+    kernel::for_each_inner_block_preordered(extents, blocks, strides, starts, f)
+}
+
+/// The original `index_order`.
+pub fn index_order(strides: &[isize]) -> Vec<usize> {
+    strided_view::auxiliary::index_order(strides).to_vec()
+}
+
+/// The original `compute_importance`, with the lead's row first, as
+/// `compute_order` hands it over; the ranks are worked out here.
+pub fn compute_importance(extents: &[usize], strides: &[&[isize]]) -> Vec<u64> {
+    let ranks: Vec<Vec<usize>> = strides.iter().map(|row| index_order(row)).collect();
+    fuse::compute_importance(extents, strides, &ranks).to_vec()
+}
+
+/// The original `compute_order`.
+pub fn compute_order(
+    extents: &[usize],
+    strides: &[&[isize]],
+    chosen: Option<usize>,
+) -> Vec<usize> {
+    order::compute_order(extents, strides, chosen).to_vec()
+}
+
+/// The original `fuse_dims`.
+pub fn fuse_dims(extents: &[usize], strides: &[&[isize]]) -> Vec<usize> {
+    fuse::fuse_dims(extents, strides).to_vec()
+}
+
+/// The original `compress_dims`.
+pub fn compress_dims(extents: &[usize], strides: &[&[isize]]) -> (Vec<usize>, Vec<Vec<isize>>) {
+    let (extents, strides) = fuse::compress_dims(extents, strides);
+    let strides = strides.iter().map(|row| row.to_vec()).collect();
+    (extents.to_vec(), strides)
+}
+
+/// The original `compute_costs`.
+pub fn compute_costs(strides: &[&[isize]]) -> Vec<isize> {
+    fuse::compute_costs(strides).to_vec()
+}
+
+/// The original `model_exits`: whether the cutting rule is not run.
+pub fn model_exits(extents: &[usize], strides: &[&[isize]], sizes: &[usize]) -> bool {
+    block::model_exits(extents, strides, sizes)
+}
+
+/// The original `reduced_block_sizes`: the cut blocks before declining.
+pub fn reduced_block_sizes(
+    extents: &[usize],
+    strides: &[&[isize]],
+    sizes: &[usize],
+) -> Option<Vec<usize>> {
+    block::reduced_block_sizes(extents, strides, sizes).map(|blocks| blocks.to_vec())
+}
+
+/// The original `declines_tiles`.
+pub fn declines_tiles(
+    extents: &[usize],
+    strides: &[&[isize]],
+    sizes: &[usize],
+    blocks: &[usize],
+) -> bool {
+    block::declines_tiles(extents, strides, sizes, blocks)
+}

@@ -1,0 +1,248 @@
+//! The branches of the planner and of the walk, and which of them a layout
+//! reaches. The counted copies tell the inner branches; the plan and the
+//! blocks they are compared with come from the originals.
+
+use crate::answer::{lead_first, plan, rows, Axes};
+use crate::layout::{Layout, Purpose};
+use std::collections::BTreeSet;
+use strided_basic as original;
+use strided_basic::probe::Event;
+
+/// Declares the branches with the names they are counted under.
+macro_rules! branches {
+    ($($branch:ident = $name:literal,)*) => {
+        #[derive(Clone, Copy, Debug, PartialEq, Eq, PartialOrd, Ord)]
+        pub enum Branch {
+            $($branch,)*
+        }
+
+        impl Branch {
+            pub const ALL: &'static [Branch] = &[$(Branch::$branch,)*];
+
+            pub fn name(self) -> &'static str {
+                match self {
+                    $(Branch::$branch => $name,)*
+                }
+            }
+        }
+    };
+}
+
+branches! {
+    Refused1 = "refused by row 1",
+    Refused2 = "refused by row 2",
+    Refused4 = "refused by row 4",
+    Refused5 = "refused by row 5",
+    Refused6 = "refused by row 6",
+    Refused7 = "refused by row 7",
+    RankZero = "rank 0",
+    ZeroExtent = "zero extent",
+    SizeZero = "operand of size 0",
+    AllDropped = "all axes dropped",
+    TotalSmall = "total at most 1,024",
+    RanksZeroStride = "ranks with a zero stride",
+    RanksNegativeStride = "ranks with a negative stride",
+    RanksLeastStride = "ranks with the least stride",
+    WidthFull = "weights of width g",
+    WidthNarrower = "weights of a narrower width",
+    WidthOneCapped = "weights of width 1 with a cap",
+    LeadMoved = "lead other than operand 0",
+    OrderChanged = "loop order other than as given",
+    FuseBothZero = "fusing, both strides zero",
+    FuseNegative = "fusing, a negative stride",
+    FuseBrokenStride = "fusing broken by a stride",
+    FuseBrokenExtent = "fusing broken by an extent above 2^63 - 1",
+    FuseBrokenProduct = "fusing broken by a stride product above 64 bits",
+    FuseTotal = "fusing broken by an extent product above 2^64 - 1",
+    CutCapped = "cut: more steps than the cap",
+    RegionAbove64Bits = "region above 64 bits",
+    NoCutRegion = "no cut: region",
+    NoCutGrowing = "no cut: growing strides",
+    KeptFirst = "cut: first axis kept",
+    TailToOne = "cut: tail to 1",
+    Halved = "cut: halved",
+    Lessened = "cut: 1 taken off",
+    NothingShortened = "cut: rule ran, nothing shortened",
+    Declined = "declined",
+    DeclinedWideTail = "declined, more than 8 axes from the cut on",
+    DeclinedSizeZero = "declined, an operand of size 0",
+    KeptTiles = "not declined, first cut not axis 0",
+    KeptWidth = "not declined: width not a multiple of 64",
+    KeptTailLine = "not declined: stride not a multiple of 64",
+    KeptTailSpan = "not declined: stride less than the span",
+    FitSetOne = "fit: set 1 and go on",
+    FitGreatest = "fit: set the greatest block",
+    FitLoadWithin = "fit: load at most 6",
+    FitUnshortened = "fit: set a block, cutting shortened nothing",
+    FitSkipChosenZero = "fit: skipped, chosen stride 0",
+    FitSkipNotEntering = "fit: skipped, enters no product",
+    FitSkipBlockOne = "fit: skipped, block 1",
+    NoFitUnchosen = "no fit: P without chosen",
+    NoFitOperands = "no fit: P with other than two operands",
+    NoFitFold = "no fit: F",
+    WalkRank0 = "walk of rank 0",
+    WalkRank1 = "walk of rank 1",
+    WalkRank2 = "walk of rank 2",
+    WalkRank3 = "walk of rank 3",
+    WalkRank4 = "walk of rank 4",
+    WalkRank5 = "walk of rank 5",
+    WalkRank6 = "walk of rank 6",
+    WalkRank7 = "walk of rank 7",
+    WalkRank8 = "walk of rank 8",
+    WalkRank9Up = "walk of rank 9 and more",
+    WalkCutOne = "walk with one axis cut",
+    WalkCutSeveral = "walk with several axes cut",
+    WalkCutRank9Up = "walk of rank 9 and more with axis 0 cut",
+}
+
+fn refused(row: u32) -> Branch {
+    match row {
+        1 => Branch::Refused1,
+        2 => Branch::Refused2,
+        4 => Branch::Refused4,
+        5 => Branch::Refused5,
+        6 => Branch::Refused6,
+        7 => Branch::Refused7,
+        _ => unreachable!("row {row} refuses no layout"),
+    }
+}
+
+/// The branches that a layout reaches, its cutting within so many steps.
+///
+/// # Panics
+///
+/// If a counted copy answers otherwise than the original.
+pub fn branches(layout: &Layout, steps: u64) -> BTreeSet<Branch> {
+    let mut found = BTreeSet::new();
+    if let Some(row) = layout.refusal() {
+        found.insert(refused(row));
+        return found;
+    }
+    let mut note = |branch: Branch, here: bool| {
+        if here {
+            found.insert(branch);
+        }
+    };
+    let axes = Axes::of(layout);
+    let (extents, sizes) = (&axes.extents, &layout.sizes);
+    note(Branch::RankZero, layout.extents.is_empty());
+    note(Branch::ZeroExtent, layout.extents.contains(&0));
+    note(Branch::SizeZero, sizes.contains(&0));
+    let ones = !layout.extents.is_empty() && extents[..] == [1];
+    note(Branch::AllDropped, ones);
+    note(Branch::TotalSmall, !axes.large());
+
+    let all_strides = || layout.strides.iter().flatten();
+    note(Branch::RanksZeroStride, all_strides().any(|&s| s == 0));
+    note(Branch::RanksNegativeStride, all_strides().any(|&s| s < 0));
+    note(Branch::RanksLeastStride, all_strides().any(|&s| s == isize::MIN));
+    let led = lead_first(layout);
+    let (weights, seen) = original::probe::weights(&layout.extents, &led);
+    let answer = original::compute_importance(&layout.extents, &led);
+    assert_eq!(weights, answer, "the counted weights differ");
+    if let Some((width, cap)) = seen.weights {
+        let full = u64::from(64 - (layout.strides.len() as u64 + 1).leading_zeros());
+        note(Branch::WidthFull, width == full && cap == u64::MAX);
+        note(Branch::WidthNarrower, width < full && cap == u64::MAX);
+        note(Branch::WidthOneCapped, cap != u64::MAX);
+    }
+    note(Branch::LeadMoved, layout.chosen.is_some_and(|chosen| chosen > 0));
+    let moved = axes.ordered_extents != layout.extents || axes.ordered_strides != layout.strides;
+    note(Branch::OrderChanged, moved);
+
+    let ordered = rows(&axes.ordered_strides);
+    let (fused, seen) = original::probe::fuse(&axes.ordered_extents, &ordered);
+    assert_eq!(fused, axes.fused, "the counted fusing differs");
+    let met = |event| seen.events.contains(&event);
+    note(Branch::FuseBothZero, met(Event::FuseBothZero));
+    note(Branch::FuseNegative, met(Event::FuseNegative));
+    note(Branch::FuseBrokenStride, met(Event::FuseBrokenStride));
+    note(Branch::FuseBrokenExtent, met(Event::FuseBrokenExtent));
+    note(Branch::FuseBrokenProduct, met(Event::FuseBrokenProduct));
+    note(Branch::FuseTotal, met(Event::FuseTotalAbove64Bits));
+
+    if axes.large() {
+        let strides = rows(&axes.strides);
+        if original::probe::cut(extents, &strides, sizes, steps).capped {
+            note(Branch::CutCapped, true);
+            return found;
+        }
+        block_branches(layout, &axes, &mut note);
+    }
+    let plan = plan(layout, axes.total);
+    note(walk_rank(plan.extents.len()), true);
+    let is_cut = |axis: &usize| plan.blocks[*axis] < plan.extents[*axis];
+    let cut: Vec<usize> = (0..plan.extents.len()).filter(is_cut).collect();
+    let tiled = plan.extents.len() <= 8;
+    note(Branch::WalkCutOne, tiled && cut.len() == 1);
+    note(Branch::WalkCutSeveral, tiled && cut.len() > 1);
+    note(Branch::WalkCutRank9Up, !tiled && cut.first() == Some(&0));
+    found
+}
+
+/// The branches of cutting, declining and fitting.
+fn block_branches(layout: &Layout, axes: &Axes, note: &mut impl FnMut(Branch, bool)) {
+    let (extents, sizes) = (&axes.extents, &layout.sizes);
+    let strides = rows(&axes.strides);
+    let pointwise = layout.purpose == Purpose::Pointwise;
+    let fit = layout.chosen.filter(|_| pointwise);
+    let (blocks, seen) = original::probe::blocks(extents, &strides, sizes, fit, u64::MAX);
+    let answer = plan(layout, axes.total).blocks;
+    assert_eq!(blocks, answer, "the counted blocks differ");
+    let met = |event| seen.events.contains(&event);
+    note(Branch::RegionAbove64Bits, met(Event::RegionAbove64Bits));
+
+    let region = original::probe::region(extents, &strides, sizes);
+    let within = region <= original::BLOCK_MEMORY_SIZE as u128;
+    note(Branch::NoCutRegion, within);
+    let Some(cut) = original::reduced_block_sizes(extents, &strides, sizes) else {
+        let growing = strides.iter().all(|row| original::probe::increasing(row));
+        note(Branch::NoCutGrowing, !within && growing && !sizes.contains(&0));
+        return;
+    };
+    note(Branch::KeptFirst, met(Event::KeptFirst));
+    note(Branch::TailToOne, met(Event::TailToOne));
+    note(Branch::Halved, met(Event::Halved));
+    note(Branch::Lessened, met(Event::Lessened));
+    note(Branch::NothingShortened, cut == *extents);
+
+    let declined = original::declines_tiles(extents, &strides, sizes, &cut);
+    let first_cut = (0..cut.len()).find(|&axis| cut[axis] < extents[axis]);
+    let behind = first_cut.is_some_and(|axis| axis > 0);
+    note(Branch::Declined, declined);
+    note(Branch::DeclinedWideTail, declined && met(Event::SlabWideTail));
+    note(Branch::DeclinedSizeZero, declined && met(Event::SlabSizeZero));
+    note(Branch::KeptTiles, behind && !declined);
+    note(Branch::KeptWidth, behind && met(Event::SlabWidth));
+    note(Branch::KeptTailLine, behind && met(Event::SlabTailLine));
+    note(Branch::KeptTailSpan, behind && met(Event::SlabTailSpan));
+    if declined {
+        return;
+    }
+    note(Branch::FitSetOne, met(Event::FitSetOne));
+    note(Branch::FitGreatest, met(Event::FitGreatest));
+    note(Branch::FitLoadWithin, met(Event::FitLoadWithin));
+    note(Branch::FitSkipChosenZero, met(Event::FitSkipChosenZero));
+    note(Branch::FitSkipNotEntering, met(Event::FitSkipNotEntering));
+    note(Branch::FitSkipBlockOne, met(Event::FitSkipBlockOne));
+    note(Branch::FitUnshortened, cut == *extents && answer != cut);
+    let other = layout.strides.len() != 2;
+    note(Branch::NoFitUnchosen, pointwise && layout.chosen.is_none());
+    note(Branch::NoFitOperands, fit.is_some() && other);
+    note(Branch::NoFitFold, !pointwise);
+}
+
+fn walk_rank(rank: usize) -> Branch {
+    match rank {
+        0 => Branch::WalkRank0,
+        1 => Branch::WalkRank1,
+        2 => Branch::WalkRank2,
+        3 => Branch::WalkRank3,
+        4 => Branch::WalkRank4,
+        5 => Branch::WalkRank5,
+        6 => Branch::WalkRank6,
+        7 => Branch::WalkRank7,
+        8 => Branch::WalkRank8,
+        _ => Branch::WalkRank9Up,
+    }
+}
