@@ -9,17 +9,20 @@ use Prim.Native.Nat.{ℕ, zero, suc, _<_}
 use lib.ListN.{length, getD, take}
 use lib.IntN.{ℤ, pos, _+ℤ_, _-ℤ_, _*ℤ_}
 use Rattle.strided.specs.Base.{padded, nth}
-use Rattle.strided.specs.Layout.{Within, dot, strideRow}
+use Rattle.strided.specs.Layout.{NoZero, Within, dot, strideRow}
 use Rattle.strided.specs.Index.{indexInPlan, toldOriginal}
 use Rattle.strided.specs.Walk.{block, blocksOf, cellAt, runStrides}
-use Rattle.strided.specs.Begin.{planRows}
+use Rattle.strided.specs.Plan.{planned}
+use Rattle.strided.specs.Begin.{planRows, begunAt}
 use Rattle.strided.specs.Step.{planCutAxes, stepped}
 use Rattle.strided.specs.declared.Purpose.{Purpose}
 use Rattle.strided.specs.declared.Answer.the-variants.{Served}
 use Rattle.strided.specs.declared.Outcome.the-variants.{Block, Ended}
 use Rattle.strided.specs.declared.Outcome.{Outcome}
 use Rattle.strided.specs.declared.Plan.{Plan}
+use Rattle.strided.specs.declared.Planned.{Planned}
 use Rattle.strided.specs.declared.Walk.{Walk}
+use Rattle.strided.specs.declared.Begun.{Begun}
 use Rattle.strided.specs.declared.Stepped.{Stepped}
 use Rattle.strided.specs.declared.Told.{Told}
 
@@ -70,10 +73,20 @@ module _ (es sizes : List ℕ) (ss : List ℤ) (u : Purpose) (p : Plan) (steps :
     -- "and no index is met at two places"
     pub once : (m k i j : ℕ) (x : List ℕ) → Meets m k x → Meets i j x → (m ≡ i) × (k ≡ j)
     -- "At each place the index told is the one met"
-    pub tells : (m k : ℕ) (x : List ℕ) (q : Meets m k x) 
+    pub tells : (m k : ℕ) (x : List ℕ) (q : Meets m k x)
         → toldOriginal es sizes ss u (cellOf k (q .by)) ≡ record { answer = Served; count = length es; index = padded 64 0 x }
     -- "and each operand's offset less its start is the sum of index times original stride"; "its offsets are the block's plus k times the strides"
     pub offsets : (m k : ℕ) (x : List ℕ) (q : Meets m k x) (j : ℕ) → j < length sizes
         → getD (q .by .offsets) j (pos 0) +ℤ pos k *ℤ getD (q .by .strides) j (pos 0) -ℤ getD starts j (pos 0) ≡ dot x (strideRow ss (length es) j)
     -- "In the state that "ended" returns every offset is its start again."
     pub back : (m : ℕ) (s : Stepped) → nth steps m ≡ some s → s .answer ≡ Ended → s .walk .offsets ≡ padded 8 (pos 0) starts
+
+-- THE STATEMENT: for every layout without a zero extent that planning does not refuse, either purpose, its plan with each block size left or
+-- replaced by any number, every list of starts that the beginning does not refuse, and every number of steps
+abbrev pub Statement : Type 0
+Statement =
+    (es sizes : List ℕ) (ss : List ℤ) (u : Purpose) → NoZero es → planned es sizes ss u .answer ≡ Served
+    → (bs : List ℕ) (starts : List ℤ) → begunAt (replaced (planned es sizes ss u .plan) bs) starts .answer ≡ Served
+    → (n : ℕ)
+    → Demand3 es sizes ss u (replaced (planned es sizes ss u .plan) bs)
+    (stepsFrom (replaced (planned es sizes ss u .plan) bs) n (begunAt (replaced (planned es sizes ss u .plan) bs) starts .walk)) starts

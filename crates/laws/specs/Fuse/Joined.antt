@@ -12,9 +12,9 @@ use lib.Arith.{lt-one}
 use lib.ListN.{getD, length}
 use borrow.Author.Tests.{eqb-true}
 use lib.IntN.{ℤ, pos, _+ℤ_, _*ℤ_, +ℤ-idr, +ℤ-idl, zero-*ℤ}
-use Rattle.laws.specs.FuseLaws.{fuse-fits, row-fuse}
-use Rattle.laws.specs.Mixed.{kept, Run, told, welded, ravel-unravel, unravel-ravel, run-total}
-use Rattle.laws.specs.StrideLaws.{hdZ, keptBy, Steps, run-of, dot-unravel}
+use Rattle.laws.specs.Fuse.Indices.{fuse-fits, row-fuse}
+use Rattle.laws.specs.Fuse.Radix.{kept, Run, told, welded, ravel-unravel, unravel-ravel, run-total}
+use Rattle.laws.specs.Fuse.Strides.{hdZ, keptBy, Steps, run-of, dot-unravel}
 use Rattle.strided.specs.Base.{unless}
 use Rattle.strided.specs.Fuse.{fuse, fuseStep, fuseIf, canFuse, fusedAxes, orFirst, compress, keep}
 use Rattle.strided.specs.Index.{hd, tl, unravel, ravel, Raveled, planIndex, pad, unravelIndex}

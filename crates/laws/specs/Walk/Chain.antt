@@ -10,8 +10,8 @@ use borrow.Author.Tests.{ltb-true, ltb-false, lt-ltb, le-ltb}
 use mathlib.Core.Option.{Option, none, some}
 use Rattle.strided.specs.Base.{orElse, over, run}
 use Rattle.strided.specs.Walk.{CutAxis, ax, startsFrom, startsOf, lenAt, tiles, inner, inTile, counters, nextIn, nextStart, nextInner, nextTile, tileOf, next, zeros}
-use Rattle.laws.specs.States.{begin, Wide, Full}
-use Rattle.laws.specs.Trace.{All, all-map, all-over, Trace, trace-map, trace-over}
+use Rattle.laws.specs.Walk.States.{begin, Wide, Full}
+use Rattle.laws.specs.Base.Trace.{All, all-map, all-over, Trace, trace-map, trace-over}
 
 -- ---- one axis
 

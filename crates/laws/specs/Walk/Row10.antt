@@ -25,12 +25,12 @@ use Rattle.strided.specs.declared.Outcome.the-variants.{Block, Ended, Rejected}
 use Rattle.strided.specs.declared.Plan.{Plan}
 use Rattle.strided.specs.declared.Walk.{Walk}
 use Rattle.strided.specs.declared.Stepped.{Stepped}
-use Rattle.laws.specs.States.{stateAfter}
-use Rattle.laws.specs.Answers.{Begun}
-use Rattle.laws.specs.Demand.{axes-wide}
-use Rattle.laws.specs.Machine.{and-both, reach-state}
-use Rattle.laws.specs.Steps.{Ready, none-of, at, raw, step-at, rows-many, walk-state}
-use Rattle.laws.specs.Whole3.{NoneApplies, pass, or-none, not-false, served-walk}
+use Rattle.laws.specs.Walk.States.{stateAfter}
+use Rattle.laws.specs.Walk.Answers.{Begun}
+use Rattle.laws.specs.Walk.Demand.{axes-wide}
+use Rattle.laws.specs.Walk.Machine.{and-both, reach-state}
+use Rattle.laws.specs.Walk.Steps.{Ready, none-of, at, raw, step-at, rows-many, walk-state}
+use Rattle.laws.specs.Demand3.Whole.{NoneApplies, pass, or-none, not-false, served-walk}
 
 -- ---- an array with 0 behind its count is its counted part, padded
 

@@ -9,10 +9,10 @@ use native.Mathlib.Omega.{arith}
 use lib.Dec.{ltb, leb, eqb}
 use borrow.Author.Tests.{ltb-true, ltb-false, leb-true, leb-false, lt-ltb, le-ltb, eq-eqb, ne-eqb}
 use Rattle.strided.specs.Base.{over, run}
-use Rattle.laws.specs.Counting.{sum, same, sameList, count, inRange}
+use Rattle.laws.specs.Base.Counting.{sum, same, sameList, count, inRange}
 use Rattle.strided.specs.Walk.{CutAxis, ax, startsFrom, startsOf, lenAt, tiles, inner, inTile, counters, Block, block, blockAt, blocksOf}
-use Rattle.laws.specs.States.{cells, Inside, Wide}
-use Rattle.laws.specs.Sums.{sum-append, sum-cong, sum-scale, sum-scale-right, sum-over, sum-map}
+use Rattle.laws.specs.Walk.States.{cells, Inside, Wide}
+use Rattle.laws.specs.Base.Sums.{sum-append, sum-cong, sum-scale, sum-scale-right, sum-over, sum-map}
 
 -- ---- runs
 

@@ -11,14 +11,14 @@ use mathlib.Core.Option.{Option, none, some}
 use Rattle.strided.specs.Base.{nth, andThen, after}
 use Rattle.strided.specs.Walk.{CutAxis, ax, cut, cutAxes, counters, blockAt, blocksOf, lengthAt, next, runStrides, cellAt}
 use Rattle.strided.specs.Layout.{dot, Within}
-use Rattle.laws.specs.States.{begin, stateAfter, Wide, Inside}
-use Rattle.laws.specs.Answers.{Operand, startOf, planStrides, origStrides, offsetAt, Answer, given, ended, answerAt, answers, answer, handed}
-use Rattle.laws.specs.Listed.{Fused, Meets, Demand3}
-use Rattle.laws.specs.Trace.{Trace}
-use Rattle.laws.specs.Chain.{chain}
-use Rattle.laws.specs.Places.{MeetsPlan, length-pos, meets-inside, meets-all, meets-once, ended-iff}
-use Rattle.laws.specs.Offsets.{nth-map, offset-place}
-use Rattle.laws.specs.Machine.{machine-answers, machine-back}
+use Rattle.laws.specs.Walk.States.{begin, stateAfter, Wide, Inside}
+use Rattle.laws.specs.Walk.Answers.{Operand, startOf, planStrides, origStrides, offsetAt, Answer, given, ended, answerAt, answers, answer, handed}
+use Rattle.laws.specs.Walk.Listed.{Fused, Meets, Demand3}
+use Rattle.laws.specs.Base.Trace.{Trace}
+use Rattle.laws.specs.Walk.Chain.{chain}
+use Rattle.laws.specs.Walk.Places.{MeetsPlan, length-pos, meets-inside, meets-all, meets-once, ended-iff}
+use Rattle.laws.specs.Walk.Offsets.{nth-map, offset-place}
+use Rattle.laws.specs.Walk.Machine.{machine-answers, machine-back}
 
 -- ---- every plan's axes have block sizes of 1 or more
 

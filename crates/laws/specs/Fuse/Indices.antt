@@ -12,9 +12,9 @@ use lib.ListN.{getD, length}
 use lib.Signed.{mag}
 use borrow.Author.Tests.{eqb-true, eqb-false, eq-eqb, ne-eqb}
 use lib.IntN.{ℤ, pos, negsuc, _+ℤ_, _*ℤ_, *ℤ-zero}
-use Rattle.laws.specs.Mixed.{kept, Run, told, welded, ravel-unravel, unravel-ravel, run-total}
-use Rattle.laws.specs.StrideLaws.{hdZ, keptBy, Link, Steps, run-of, dot-unravel}
-use Rattle.laws.specs.StrideLaws.Steps.{sdone, smore, stop}
+use Rattle.laws.specs.Fuse.Radix.{kept, Run, told, welded, ravel-unravel, unravel-ravel, run-total}
+use Rattle.laws.specs.Fuse.Strides.{hdZ, keptBy, Link, Steps, run-of, dot-unravel}
+use Rattle.laws.specs.Fuse.Strides.Steps.{sdone, smore, stop}
 use Rattle.strided.specs.Fuse.{fuse, canFuse, fuseIf, fuseStep, joins, allJoin, eqZ}
 use Rattle.strided.specs.Index.{unravel, ravel, Raveled}
 use Rattle.strided.specs.Layout.{Within, NoZero, total, dot, row, inI64, extents, Axis}

@@ -14,9 +14,9 @@ use Rattle.strided.specs.Order.{orderTo, insert, insertIf, pick, loopOrder, fus
 use Rattle.strided.specs.Fuse.{fuse, fuseStep, fuseIf, canFuse, keep, orFirst, fusedAxes, planAxes}
 use Rattle.strided.specs.Index.{unravelBy, indexBy, originalIndex, indexInPlan}
 use Rattle.strided.specs.declared.Purpose.{Purpose}
-use Rattle.laws.specs.OrderLaws.{order-length, length-pick}
-use Rattle.laws.specs.Whole.{wholePlan, wholeUnravel, wholeIndex, whole-unravel-range, whole-index-range, whole-index-unravel, whole-unravel-index, whole-dot}
-use Rattle.laws.specs.Arrays.{extents-axes, length-axes, axes-row}
+use Rattle.laws.specs.Order.Permutation.{order-length, length-pick}
+use Rattle.laws.specs.Fuse.Ordered.{wholePlan, wholeUnravel, wholeIndex, whole-unravel-range, whole-index-range, whole-index-unravel, whole-unravel-index, whole-dot}
+use Rattle.laws.specs.Base.Arrays.{extents-axes, length-axes, axes-row}
 
 -- ---- a plan has no more axes than its layout
 

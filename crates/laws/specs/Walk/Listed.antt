@@ -11,8 +11,8 @@ use Rattle.strided.specs.Base.{nth}
 use Rattle.strided.specs.Layout.{Within, dot}
 use Rattle.strided.specs.Walk.{CutAxis, blocksOf, cellAt}
 use Rattle.strided.specs.Step.{WalkState, stateOf}
-use Rattle.laws.specs.States.{begin}
-use Rattle.laws.specs.Answers.{Operand, startOf, planStrides, origStrides, Answer, given, ended, answers, answer, handed, steps, stateFrom, answerOf}
+use Rattle.laws.specs.Walk.States.{begin}
+use Rattle.laws.specs.Walk.Answers.{Operand, startOf, planStrides, origStrides, Answer, given, ended, answers, answer, handed, steps, stateFrom, answerOf}
 
 -- the indices of a plan of extents es stand for those of the original layout, one to one and with the same offsets
 pub record Fused (orig es : List ℕ) (ops : List Operand) : Type 0 where

@@ -10,13 +10,13 @@ use lib.Dec.{ltb, leb, eqb}
 use borrow.Author.Tests.{ltb-true, ltb-false, lt-ltb, le-ltb, eqb-true, eqb-false}
 use mathlib.Core.Option.{Option, none, some}
 use Rattle.strided.specs.Base.{orElse, andThen, after, nth, over, run}
-use Rattle.laws.specs.Counting.{sum, same, sameList, count, inRange}
+use Rattle.laws.specs.Base.Counting.{sum, same, sameList, count, inRange}
 use Rattle.strided.specs.Walk.{CutAxis, ax, startsFrom, startsOf, lenAt, tiles, inner, inTile, counters, next}
-use Rattle.laws.specs.States.{begin, Wide, Inside, stateAfter, Reached, OnStart}
-use Rattle.laws.specs.Trace.{All, Trace}
-use Rattle.laws.specs.Sums.{sum-append, sum-cong, sum-scale, sum-scale-right, sum-over, sum-map}
-use Rattle.laws.specs.Cover.{same-eq, tile-sum, inner-sum, inside-one, one-inside, sum-zero}
-use Rattle.laws.specs.Chain.{IsStart, starts-all, chain}
+use Rattle.laws.specs.Walk.States.{begin, Wide, Inside, stateAfter, Reached, OnStart}
+use Rattle.laws.specs.Base.Trace.{All, Trace}
+use Rattle.laws.specs.Base.Sums.{sum-append, sum-cong, sum-scale, sum-scale-right, sum-over, sum-map}
+use Rattle.laws.specs.Walk.Cover.{same-eq, tile-sum, inner-sum, inside-one, one-inside, sum-zero}
+use Rattle.laws.specs.Walk.Chain.{IsStart, starts-all, chain}
 
 -- ---- a trace, by the number of steps
 

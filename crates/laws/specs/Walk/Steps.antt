@@ -23,12 +23,12 @@ use Rattle.strided.specs.declared.Refusal.{Refusal}
 use Rattle.strided.specs.declared.Plan.{Plan}
 use Rattle.strided.specs.declared.Walk.{Walk}
 use Rattle.strided.specs.declared.Stepped.{Stepped}
-use Rattle.laws.specs.States.{begin, stateAfter, Inside, Wide, Full}
-use Rattle.laws.specs.Arrays.{take-counted, blank-behind, blankZ-behind}
-use Rattle.laws.specs.Chain.{begin-full}
-use Rattle.laws.specs.Reach.{reach, after-suc}
-use Rattle.laws.specs.Machine.{both-and, reachable-of, starts-offsets, length-offsets, dot-zeros}
-use Rattle.laws.specs.Demand.{axes-wide}
+use Rattle.laws.specs.Walk.States.{begin, stateAfter, Inside, Wide, Full}
+use Rattle.laws.specs.Base.Arrays.{take-counted, blank-behind, blankZ-behind}
+use Rattle.laws.specs.Walk.Chain.{begin-full}
+use Rattle.laws.specs.Walk.Reach.{reach, after-suc}
+use Rattle.laws.specs.Walk.Machine.{both-and, reachable-of, starts-offsets, length-offsets, dot-zeros}
+use Rattle.laws.specs.Walk.Demand.{axes-wide}
 
 -- ---- lengths
 

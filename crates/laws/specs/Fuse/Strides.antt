@@ -10,9 +10,9 @@ use native.Mathlib.Omega.{arith}
 use lib.Dec.{eqb}
 use lib.Arith.{lt-one}
 use lib.IntN.{ℤ, pos, negsuc, _+ℤ_, _*ℤ_, +ℤ-idl, +ℤ-idr, +ℤ-assoc, zero-*ℤ}
-use Rattle.laws.specs.IntLaws.{add-*ℤ, *ℤ-assoc}
-use Rattle.laws.specs.Mixed.{kept, Run}
-use Rattle.laws.specs.Mixed.Run.{done, more, top}
+use Rattle.laws.specs.Base.Integers.{add-*ℤ, *ℤ-assoc}
+use Rattle.laws.specs.Fuse.Radix.{kept, Run}
+use Rattle.laws.specs.Fuse.Radix.Run.{done, more, top}
 use Rattle.strided.specs.Base.{unless}
 use Rattle.strided.specs.Index.{hd, tl, unravel}
 use Rattle.strided.specs.Layout.{Within, NoZero, dot}

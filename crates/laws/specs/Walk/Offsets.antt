@@ -10,7 +10,7 @@ use mathlib.Core.Option.{Option, none, some}
 use Rattle.strided.specs.Base.{nth}
 use Rattle.strided.specs.Walk.{CutAxis, ax, lengthAt, firstOf, runStrides, cellAt}
 use Rattle.strided.specs.Layout.{dot}
-use Rattle.laws.specs.Answers.{Operand, startOf, planStrides, offsetAt}
+use Rattle.laws.specs.Walk.Answers.{Operand, startOf, planStrides, offsetAt}
 
 -- ---- offsets
 

@@ -26,15 +26,15 @@ use Rattle.strided.specs.declared.Outcome.the-variants.{Block, Ended}
 use Rattle.strided.specs.declared.Plan.{Plan}
 use Rattle.strided.specs.declared.Stepped.{Stepped}
 use Rattle.strided.specs.declared.Told.{Told}
-use Rattle.laws.specs.States.{stateAfter, Inside}
-use Rattle.laws.specs.Arrays.{take-counted, getD-padded}
-use Rattle.laws.specs.Maps.{plan-in, orig-in, orig-plan, plan-orig, same-dot}
-use Rattle.laws.specs.Whole.{inr-length}
-use Rattle.laws.specs.Reach.{state-nth}
-use Rattle.laws.specs.Places.{MeetsPlan, length-pos, meets-inside, meets-once, ended-iff}
-use Rattle.laws.specs.Offsets.{dot-place, nth-map, cancel}
-use Rattle.laws.specs.Demand.{cut-inside}
-use Rattle.laws.specs.Steps.{Ready, at, raw, wide, as-many, rows-many, counters-many, walk-nth, walk-below, walk-is}
+use Rattle.laws.specs.Walk.States.{stateAfter, Inside}
+use Rattle.laws.specs.Base.Arrays.{take-counted, getD-padded}
+use Rattle.laws.specs.Fuse.Maps.{plan-in, orig-in, orig-plan, plan-orig, same-dot}
+use Rattle.laws.specs.Fuse.Ordered.{inr-length}
+use Rattle.laws.specs.Walk.Reach.{state-nth}
+use Rattle.laws.specs.Walk.Places.{MeetsPlan, length-pos, meets-inside, meets-once, ended-iff}
+use Rattle.laws.specs.Walk.Offsets.{dot-place, nth-map, cancel}
+use Rattle.laws.specs.Walk.Demand.{cut-inside}
+use Rattle.laws.specs.Walk.Steps.{Ready, at, raw, wide, as-many, rows-many, counters-many, walk-nth, walk-below, walk-is}
 
 -- ---- small facts
 

@@ -10,7 +10,7 @@ use Rattle.strided.specs.Base.{andThen}
 use Rattle.strided.specs.Layout.{dot}
 use Rattle.strided.specs.Walk.{CutAxis, Block, block, lengthAt, next, runStrides}
 use Rattle.strided.specs.Step.{WalkState, Step, refused, gave, over, stateOf, step}
-use Rattle.laws.specs.States.{stateAfter, onward}
+use Rattle.laws.specs.Walk.States.{stateAfter, onward}
 
 -- an operand of a walk: its start, its strides in the plan and its strides in the original layout
 pub data Operand : Type 0 where

@@ -9,13 +9,13 @@ use lib.Dec.{ltb}
 use borrow.Author.Tests.{ltb-true, ltb-false, lt-ltb}
 use mathlib.Core.Option.{Option, none, some}
 use Rattle.strided.specs.Base.{nth, over, run}
-use Rattle.laws.specs.Counting.{sum, same, sameList, count, inRange}
+use Rattle.laws.specs.Base.Counting.{sum, same, sameList, count, inRange}
 use Rattle.strided.specs.Walk.{CutAxis, ax, lenAt, counters, lengthAt, block, blockAt, blocksOf, cellAt}
-use Rattle.laws.specs.States.{cells, Wide, Inside, stateAfter}
-use Rattle.laws.specs.Sums.{sum-over, sum-map}
-use Rattle.laws.specs.Cover.{same-eq, run-in, nil-row, count-row, cover, one-inside, inside-one}
-use Rattle.laws.specs.Chain.{run-all}
-use Rattle.laws.specs.Reach.{mul-pos, sameList-refl, sameList-pos, same-pos, sum-pos, pos-sum, all-pos, state-nth, reach}
+use Rattle.laws.specs.Walk.States.{cells, Wide, Inside, stateAfter}
+use Rattle.laws.specs.Base.Sums.{sum-over, sum-map}
+use Rattle.laws.specs.Walk.Cover.{same-eq, run-in, nil-row, count-row, cover, one-inside, inside-one}
+use Rattle.laws.specs.Walk.Chain.{run-all}
+use Rattle.laws.specs.Walk.Reach.{mul-pos, sameList-refl, sameList-pos, same-pos, sum-pos, pos-sum, all-pos, state-nth, reach}
 
 -- ---- the cells of one block
 

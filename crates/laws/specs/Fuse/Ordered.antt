@@ -8,9 +8,9 @@ use native.Mathlib.Nat.{mul-left-comm}
 use native.Mathlib.Omega.{arith}
 use lib.ListN.{length, getD, replicate, length-replicate}
 use lib.IntN.{ℤ, pos}
-use Rattle.laws.specs.JoinLaws.{plan-total, unravel-range, plan-range, plan-unravel, unravel-plan, plan-dot}
-use Rattle.laws.specs.OrderLaws.{In, NoDup, Ins, insert-ins, down, order-length, order-below, order-has, order-nodup, dot-order, length-pick, length-place, pick-place, place-pick}
-use Rattle.laws.specs.OrderLaws.Ins.{here, there}
+use Rattle.laws.specs.Fuse.Joined.{plan-total, unravel-range, plan-range, plan-unravel, unravel-plan, plan-dot}
+use Rattle.laws.specs.Order.Permutation.{In, NoDup, Ins, insert-ins, down, order-length, order-below, order-has, order-nodup, dot-order, length-pick, length-place, pick-place, place-pick}
+use Rattle.laws.specs.Order.Permutation.Ins.{here, there}
 use Rattle.strided.specs.Fuse.{fuse, fusedAxes}
 use Rattle.strided.specs.Index.{unravelIndex, planIndex}
 use Rattle.strided.specs.Layout.{Within, NoZero, total, dot, Axis, extents, row, noAxis}

@@ -14,10 +14,10 @@ use mathlib.Core.Option.{Option, none, some}
 use Rattle.strided.specs.Base.{nth, andThen}
 use Rattle.strided.specs.Walk.{CutAxis, ax, cutAxes, counters, lengthAt, next, zeros, runStrides}
 use Rattle.strided.specs.Layout.{dot}
-use Rattle.laws.specs.Answers.{Operand, operand, startOf, planStrides, offsetAt, Answer, given, ended, answerAt, answers, steps, answerOf, stateFrom, Begun}
+use Rattle.laws.specs.Walk.Answers.{Operand, operand, startOf, planStrides, offsetAt, Answer, given, ended, answerAt, answers, steps, answerOf, stateFrom, Begun}
 use Rattle.strided.specs.Step.{WalkState, Step, refused, gave, over, offsetsFrom, startsFrom, stateOf, insideb, onStartb, zerosb, reachable, stepRunning, step}
-use Rattle.laws.specs.States.{begin, stateAfter, Wide, Inside, OnStart, onward}
-use Rattle.laws.specs.Reach.{reach, state-nth, after-suc}
+use Rattle.laws.specs.Walk.States.{begin, stateAfter, Wide, Inside, OnStart, onward}
+use Rattle.laws.specs.Walk.Reach.{reach, state-nth, after-suc}
 
 -- ---- tests
 

@@ -1,0 +1,2 @@
+-- Laws of ranks, weights and loop order.
+pub mod Permutation
