@@ -3,6 +3,7 @@
 
 // "Rank is 0 to 64", "1 to 8 operands".
 pub const MAX_RANK: usize = 64;
+
 pub const MAX_OPERANDS: usize = 8;
 
 // What a plan is for: pointwise with no chosen operand, pointwise into the chosen destination, or a fold ordered by the chosen operand.

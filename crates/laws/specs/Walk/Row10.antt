@@ -12,11 +12,9 @@ use lib.ListN.{length, take, drop, length-take}
 use borrow.Author.Tests.{eqb-true, ltb-false}
 use Rattle.strided.specs.Base.{padded}
 use Rattle.strided.specs.Refusals.{refusedBy, row1, row2, row5, row6, row8, row9}
-
 use Rattle.strided.specs.Begin.{planExtents, planRow, planRows, beginRows, beginRefused, begunAt, begunOr}
 use Rattle.strided.specs.Step.{WalkState, Step, refused, gave, over, step, reachable, planCutAxes, unpacked, packed, tidy, blank, blankZ, isNone, mayBegin, handedOut, stepRows, stepOr, notStepped, stepped, Reached}
 use Rattle.strided.specs.Step.{walkAfter}
-
 use Rattle.strided.specs.declared.Refusal.{Refusal}
 use Rattle.strided.specs.declared.Refusal.the-variants.{State}
 use Rattle.strided.specs.declared.Answer.the-variants.{Served}
