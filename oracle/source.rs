@@ -11,7 +11,10 @@ pub fn original(package: &str, file: &str) -> PathBuf {
     let folder = std::env::var("STRIDED_SRC").unwrap_or("../shared/docs/src".to_string());
     let path = root.join(folder).join(package).join("src").join(file);
     let path = path.canonicalize().unwrap_or_else(|error| {
-        panic!("{}: {error}; STRIDED_SRC names the source folder", path.display())
+        panic!(
+            "{}: {error}; STRIDED_SRC names the source folder",
+            path.display()
+        )
     });
     println!("cargo:rerun-if-changed={}", path.display());
     path
@@ -62,7 +65,9 @@ pub fn definition(text: &str, name: &str) -> Result<String, String> {
             line = line.strip_prefix(visibility).unwrap_or(line);
         }
         for keyword in ["const ", "type "] {
-            let rest = line.strip_prefix(keyword).and_then(|rest| rest.strip_prefix(name));
+            let rest = line
+                .strip_prefix(keyword)
+                .and_then(|rest| rest.strip_prefix(name));
             let Some(rest) = rest else {
                 continue;
             };
@@ -73,7 +78,10 @@ pub fn definition(text: &str, name: &str) -> Result<String, String> {
     }
     match found.as_slice() {
         [one] if one.ends_with(';') => Ok(one.clone()),
-        _ => Err(format!("{name} has {} one-line definitions, not one", found.len())),
+        _ => Err(format!(
+            "{name} has {} one-line definitions, not one",
+            found.len()
+        )),
     }
 }
 
@@ -82,7 +90,9 @@ pub fn same_definition(original: &str, shim: &str, name: &str) -> Result<(), Str
     let original = definition(original, name)?;
     let shim = definition(shim, name)?;
     if original != shim {
-        return Err(format!("{name} is `{original}` in the original and `{shim}` in the shim"));
+        return Err(format!(
+            "{name} is `{original}` in the original and `{shim}` in the shim"
+        ));
     }
     Ok(())
 }

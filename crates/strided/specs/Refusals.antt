@@ -11,6 +11,8 @@ use lib.ListN.{length, getD}
 use Rattle.strided.specs.declared.Purpose.{Purpose}
 use Rattle.strided.specs.declared.Refusal.{Refusal}
 use Rattle.strided.specs.declared.Refusal.the-variants.{Rank, Operands, StrideCount, Chosen, Total, Reach, Bytes, StartCount, Offsets, State, Index, Form, TextTotal, Room}
+use Rattle.strided.specs.declared.Answer.{Answer}
+use Rattle.strided.specs.declared.Answer.the-variants.{Served, Refused}
 use Rattle.strided.specs.Base.{some-of}
 use Rattle.strided.specs.Layout.{strideRow, chosen, total, hasZero, within, reach, reachDown, inI64, maxU, maxI}
 
@@ -41,6 +43,11 @@ pub record Row : Type 0 where
 abbrev pub refusedBy : List Row → Option Refusal
 refusedBy [] = none
 refusedBy (r ∷ rs) = cond (r .applies) (some (r .refusal)) (refusedBy rs)
+
+-- what an entry answers that refuses so
+abbrev pub answered : Option Refusal → Answer
+answered none = Served
+answered (some r) = Refused r
 
 -- 1, "rank above 64"
 abbrev pub row1 : ℕ → Row

@@ -118,11 +118,7 @@ pub fn compute_importance(extents: &[usize], strides: &[&[isize]]) -> Vec<u64> {
 }
 
 /// The original `compute_order`.
-pub fn compute_order(
-    extents: &[usize],
-    strides: &[&[isize]],
-    chosen: Option<usize>,
-) -> Vec<usize> {
+pub fn compute_order(extents: &[usize], strides: &[&[isize]], chosen: Option<usize>) -> Vec<usize> {
     order::compute_order(extents, strides, chosen).to_vec()
 }
 

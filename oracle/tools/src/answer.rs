@@ -132,7 +132,11 @@ fn layout_answer(layout: &Layout, limits: &Limits) -> String {
     }
     let given = rows(&layout.strides);
     for (operand, row) in given.iter().enumerate() {
-        line(&mut out, &format!("ranks,{operand}"), original::index_order(row));
+        line(
+            &mut out,
+            &format!("ranks,{operand}"),
+            original::index_order(row),
+        );
     }
     let weights = original::compute_importance(&layout.extents, &lead_first(layout));
     line(&mut out, "weights", weights);

@@ -135,7 +135,10 @@ pub fn branches(layout: &Layout, steps: u64) -> BTreeSet<Branch> {
     let all_strides = || layout.strides.iter().flatten();
     note(Branch::RanksZeroStride, all_strides().any(|&s| s == 0));
     note(Branch::RanksNegativeStride, all_strides().any(|&s| s < 0));
-    note(Branch::RanksLeastStride, all_strides().any(|&s| s == isize::MIN));
+    note(
+        Branch::RanksLeastStride,
+        all_strides().any(|&s| s == isize::MIN),
+    );
     let led = lead_first(layout);
     let (weights, seen) = original::probe::weights(&layout.extents, &led);
     let answer = original::compute_importance(&layout.extents, &led);
@@ -146,7 +149,10 @@ pub fn branches(layout: &Layout, steps: u64) -> BTreeSet<Branch> {
         note(Branch::WidthNarrower, width < full && cap == u64::MAX);
         note(Branch::WidthOneCapped, cap != u64::MAX);
     }
-    note(Branch::LeadMoved, layout.chosen.is_some_and(|chosen| chosen > 0));
+    note(
+        Branch::LeadMoved,
+        layout.chosen.is_some_and(|chosen| chosen > 0),
+    );
     let moved = axes.ordered_extents != layout.extents || axes.ordered_strides != layout.strides;
     note(Branch::OrderChanged, moved);
 
@@ -197,7 +203,10 @@ fn block_branches(layout: &Layout, axes: &Axes, note: &mut impl FnMut(Branch, bo
     note(Branch::NoCutRegion, within);
     let Some(cut) = original::reduced_block_sizes(extents, &strides, sizes) else {
         let growing = strides.iter().all(|row| original::probe::increasing(row));
-        note(Branch::NoCutGrowing, !within && growing && !sizes.contains(&0));
+        note(
+            Branch::NoCutGrowing,
+            !within && growing && !sizes.contains(&0),
+        );
         return;
     };
     note(Branch::KeptFirst, met(Event::KeptFirst));
@@ -210,8 +219,14 @@ fn block_branches(layout: &Layout, axes: &Axes, note: &mut impl FnMut(Branch, bo
     let first_cut = (0..cut.len()).find(|&axis| cut[axis] < extents[axis]);
     let behind = first_cut.is_some_and(|axis| axis > 0);
     note(Branch::Declined, declined);
-    note(Branch::DeclinedWideTail, declined && met(Event::SlabWideTail));
-    note(Branch::DeclinedSizeZero, declined && met(Event::SlabSizeZero));
+    note(
+        Branch::DeclinedWideTail,
+        declined && met(Event::SlabWideTail),
+    );
+    note(
+        Branch::DeclinedSizeZero,
+        declined && met(Event::SlabSizeZero),
+    );
     note(Branch::KeptTiles, behind && !declined);
     note(Branch::KeptWidth, behind && met(Event::SlabWidth));
     note(Branch::KeptTailLine, behind && met(Event::SlabTailLine));

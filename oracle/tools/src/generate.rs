@@ -38,7 +38,11 @@ impl Random {
     /// A number whose bit count is drawn first, at most `greatest`.
     pub fn magnitude(&mut self, greatest: usize) -> usize {
         let bits = self.within(0, (usize::BITS - greatest.leading_zeros()) as usize);
-        let mask = if bits == 64 { usize::MAX } else { (1 << bits) - 1 };
+        let mask = if bits == 64 {
+            usize::MAX
+        } else {
+            (1 << bits) - 1
+        };
         (self.next_number() as usize & mask).min(greatest)
     }
 
@@ -97,7 +101,13 @@ pub fn layout(random: &mut Random, kind: Kind) -> Layout {
             Kind::Small => small(random),
             Kind::Refuse => return refuse(random),
             Kind::Mixed | Kind::Walk => {
-                let kinds = [Kind::Order, Kind::Fuse, Kind::Block, Kind::Refuse, Kind::Small];
+                let kinds = [
+                    Kind::Order,
+                    Kind::Fuse,
+                    Kind::Block,
+                    Kind::Refuse,
+                    Kind::Small,
+                ];
                 let kind = random.pick(&kinds);
                 return self::layout(random, kind);
             }
@@ -188,7 +198,11 @@ fn order(random: &mut Random) -> Layout {
         let mut bits = 63;
         for (done, &axis) in places[..moving].iter().enumerate() {
             let spare = bits - (moving - done);
-            let own = if random.chance(1, 2) { random.within(0, spare) } else { 0 };
+            let own = if random.chance(1, 2) {
+                random.within(0, spare)
+            } else {
+                0
+            };
             extents[axis] = random.within(2, 2 << own);
             bits -= own + 1;
         }
@@ -211,7 +225,11 @@ fn order(random: &mut Random) -> Layout {
                 2 => random.within(1, 4) as isize,
                 _ => signed(random, GREATEST, 1000),
             };
-            let mut stride = if zero || extent <= 1 { stride } else { stride.min(share as isize) };
+            let mut stride = if zero || extent <= 1 {
+                stride
+            } else {
+                stride.min(share as isize)
+            };
             if (zero || extent <= 1) && random.chance(1, 6) {
                 stride = any_stride(random);
             }
@@ -238,7 +256,9 @@ fn fuse(random: &mut Random) -> Layout {
     let mut bits = random.pick(&[8, 12, 20, 40]);
     let mut extents: Vec<usize> = Vec::new();
     let mut strides: Vec<Vec<isize>> = vec![Vec::new(); operands];
-    let mut next: Vec<isize> = (0..operands).map(|_| random.pick(&[1, 1, 1, 2, -1, -3])).collect();
+    let mut next: Vec<isize> = (0..operands)
+        .map(|_| random.pick(&[1, 1, 1, 2, -1, -3]))
+        .collect();
     for _ in 0..rank {
         let extent = match random.within(0, 9) {
             0 => 1,
@@ -352,7 +372,9 @@ fn packed(extents: &[usize], order: &[usize], first: usize, pad: usize) -> Vec<i
     let mut next = first;
     for &axis in order {
         row[axis] = next.min(GREATEST) as isize;
-        next = next.saturating_mul(extents[axis].max(1)).saturating_add(pad);
+        next = next
+            .saturating_mul(extents[axis].max(1))
+            .saturating_add(pad);
     }
     row
 }
@@ -420,11 +442,19 @@ fn block_slabs(random: &mut Random) -> Layout {
     let sizes = sizes(random, operands);
     let mut extents = block_extents(random, rank);
     let tidy = random.chance(2, 3);
-    extents[0] = if tidy { 64 } else { random.pick(&[8, 16, 32, 64, 9, 33]) };
+    extents[0] = if tidy {
+        64
+    } else {
+        random.pick(&[8, 16, 32, 64, 9, 33])
+    };
     let mut order: Vec<usize> = (1..rank).collect();
     let mut strides = Vec::new();
     for _ in 0..operands {
-        let unit = if tidy { 64 } else { random.pick(&[64, 128, 8, 65]) };
+        let unit = if tidy {
+            64
+        } else {
+            random.pick(&[64, 128, 8, 65])
+        };
         let pad = if tidy { 0 } else { random.pick(&[0, 64, 1]) };
         let mut row = packed(&extents, &order, unit, pad);
         row[0] = random.pick(&[1, 1, 1, 1, 1, -1, 2]);
@@ -587,7 +617,11 @@ fn refuse(random: &mut Random) -> Layout {
             layout.sizes = vec![4; operands];
             layout.strides = vec![vec![1, 2]; operands];
             let far = random.pick(&[operands, operands, 8, 64, usize::MAX]);
-            layout.chosen = Some(if past == 1 { far.max(operands) } else { operands - 1 });
+            layout.chosen = Some(if past == 1 {
+                far.max(operands)
+            } else {
+                operands - 1
+            });
             layout.purpose = random.pick(&[Purpose::Pointwise, Purpose::Fold]);
         }
         3 => refuse_total(random, &mut layout, past),
@@ -636,7 +670,10 @@ fn refuse_reach(random: &mut Random, layout: &mut Layout, past: usize) {
         0 if past == 1 => (vec![2], vec![isize::MIN]),
         0 => (vec![2], vec![sign * isize::MAX]),
         1 => (vec![(1 << 63) + past, 1], vec![sign, isize::MIN]),
-        2 => (vec![2, 2], vec![1 << 62, sign * ((1 << 62) - 1 + past as isize)]),
+        2 => (
+            vec![2, 2],
+            vec![1 << 62, sign * ((1 << 62) - 1 + past as isize)],
+        ),
         _ => (vec![8, 2], vec![sign * (isize::MAX / 7), past as isize]),
     };
     layout.extents = extents;
@@ -657,7 +694,10 @@ fn refuse_bytes(random: &mut Random, layout: &mut Layout, past: usize) {
     let sign = random.pick(&[1, -1]);
     let (extents, row) = match random.within(0, 2) {
         0 => (vec![2], vec![sign * reach as isize]),
-        1 => (vec![2, 2], vec![sign * (reach / 2) as isize, (reach - reach / 2) as isize]),
+        1 => (
+            vec![2, 2],
+            vec![sign * (reach / 2) as isize, (reach - reach / 2) as isize],
+        ),
         _ => (vec![reach + 1, 1], vec![sign, any_stride(random)]),
     };
     layout.extents = extents;
@@ -693,10 +733,15 @@ pub fn walk(random: &mut Random) -> Walk {
     let mut starts: Vec<isize> = (0..operands).map(|_| signed(random, 1 << 30, 2)).collect();
     // A start from which the walk just reaches a bound of 64 bits, or passes it.
     if random.chance(1, 10) && !extents.contains(&0) {
-        let span: usize = extents.iter().zip(&strides[0]).fold(0, |sum, (&extent, stride)| {
-            sum + (extent - 1) * stride.unsigned_abs()
-        });
-        strides[0].iter_mut().for_each(|stride| *stride = stride.abs());
+        let span: usize = extents
+            .iter()
+            .zip(&strides[0])
+            .fold(0, |sum, (&extent, stride)| {
+                sum + (extent - 1) * stride.unsigned_abs()
+            });
+        strides[0]
+            .iter_mut()
+            .for_each(|stride| *stride = stride.abs());
         starts[0] = isize::MAX - span as isize;
         if random.chance(1, 2) {
             strides[0].iter_mut().for_each(|stride| *stride = -*stride);

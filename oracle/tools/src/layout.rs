@@ -44,10 +44,13 @@ const GREATEST_UNSIGNED: u128 = u64::MAX as u128;
 
 /// The sum of (extent - 1) x stride size; above 2^127 it stays at 2^128 - 1 at most.
 fn reach(extents: &[usize], strides: &[isize]) -> u128 {
-    extents.iter().zip(strides).fold(0, |sum, (&extent, &stride)| {
-        let steps = extent.saturating_sub(1) as u128;
-        sum.saturating_add(steps * u128::from(stride.unsigned_abs() as u64))
-    })
+    extents
+        .iter()
+        .zip(strides)
+        .fold(0, |sum, (&extent, &stride)| {
+            let steps = extent.saturating_sub(1) as u128;
+            sum.saturating_add(steps * u128::from(stride.unsigned_abs() as u64))
+        })
 }
 
 /// Whether the product of extents, none of them zero, is above 2^64 - 1.
@@ -72,7 +75,10 @@ impl Layout {
         if self.strides.is_empty() || self.strides.len() > 8 {
             return Some(2);
         }
-        if self.chosen.is_some_and(|chosen| chosen >= self.strides.len()) {
+        if self
+            .chosen
+            .is_some_and(|chosen| chosen >= self.strides.len())
+        {
             return Some(4);
         }
         if self.extents.contains(&0) {
@@ -86,7 +92,9 @@ impl Layout {
             return Some(6);
         }
         // Each reach is below 2^63 now, so each product is below 2^127.
-        let bytes = reaches().zip(&self.sizes).map(|(reach, &size)| size as u128 * (1 + reach));
+        let bytes = reaches()
+            .zip(&self.sizes)
+            .map(|(reach, &size)| size as u128 * (1 + reach));
         if bytes.into_iter().any(|bytes| bytes > GREATEST_SIGNED) {
             return Some(7);
         }
@@ -109,7 +117,11 @@ impl Walk {
         if total_too_large(&self.extents) {
             return Some(5);
         }
-        if self.strides.iter().any(|row| reach(&self.extents, row) > GREATEST_SIGNED) {
+        if self
+            .strides
+            .iter()
+            .any(|row| reach(&self.extents, row) > GREATEST_SIGNED)
+        {
             return Some(6);
         }
         let leaves = |(row, &start): (&Vec<isize>, &isize)| {
@@ -241,7 +253,9 @@ impl<R: BufRead> Reader<R> {
         };
         let fields: Vec<&str> = head.split(',').collect();
         match fields[0] {
-            "L" => self.layout(&fields).map(|layout| Some(Request::Layout(layout))),
+            "L" => self
+                .layout(&fields)
+                .map(|layout| Some(Request::Layout(layout))),
             "W" => self.walk(&fields).map(|walk| Some(Request::Walk(walk))),
             word => Err(self.wrong(format!("a request begins with L or W, not with {word:?}"))),
         }

@@ -23,10 +23,10 @@ const FIXED_WALKS: &str = include_str!("walks.txt");
 
 /// Kind, seed, how many cases, and how many of them may be long.
 const SAMPLES: [(Kind, u64, usize, usize); 5] = [
-    (Kind::Order, 101, 60, 8),
+    (Kind::Order, 101, 66, 16),
     (Kind::Fuse, 102, 60, 2),
     (Kind::Block, 103, 110, 6),
-    (Kind::Refuse, 104, 48, 0),
+    (Kind::Refuse, 104, 70, 2),
     (Kind::Small, 105, 50, 2),
 ];
 /// A case whose text is longer is a long one.
@@ -91,7 +91,10 @@ fn fixed(text: &str) -> Result<Vec<Case>, String> {
 
 /// A sample of a kind: first cases for branches that have few, then any.
 fn sample(kind: Kind, seed: u64, count: usize, long: usize) -> Vec<Case> {
-    let (name, _) = Kind::NAMES.iter().find(|(_, known)| *known == kind).expect("a named kind");
+    let (name, _) = Kind::NAMES
+        .iter()
+        .find(|(_, known)| *known == kind)
+        .expect("a named kind");
     let mut random = Random::new(seed);
     let mut reached: BTreeMap<Branch, usize> = BTreeMap::new();
     let mut long_left = long;
@@ -117,7 +120,9 @@ fn sample(kind: Kind, seed: u64, count: usize, long: usize) -> Vec<Case> {
             continue;
         }
         long_left -= usize::from(length > LONG_CASE);
-        found.into_iter().for_each(|branch| *reached.entry(branch).or_default() += 1);
+        found
+            .into_iter()
+            .for_each(|branch| *reached.entry(branch).or_default() += 1);
         chosen.push(case);
     }
     for layout in rest {
@@ -146,7 +151,9 @@ pub fn answers() -> Result<Recording, String> {
         }
         if let Request::Layout(layout) = &case.request {
             let found = branches(layout, LIMITS.steps);
-            found.into_iter().for_each(|branch| *reached.entry(branch).or_default() += 1);
+            found
+                .into_iter()
+                .for_each(|branch| *reached.entry(branch).or_default() += 1);
         }
     }
     let count = |&branch: &Branch| (branch.name(), reached.get(&branch).copied().unwrap_or(0));
@@ -174,14 +181,29 @@ const WALK_BRANCHES: [WalkBranch; 24] = [
     ("rank 10", |walk, _| walk.extents.len() == 10),
     ("block of 0", |walk, _| walk.blocks.contains(&0)),
     ("block above the extent", |walk, _| {
-        walk.blocks.iter().zip(&walk.extents).any(|(block, extent)| block > extent)
+        walk.blocks
+            .iter()
+            .zip(&walk.extents)
+            .any(|(block, extent)| block > extent)
     }),
-    ("two axes cut, ranks 1 to 8", |walk, _| walk.extents.len() <= 8 && cut_axes(walk) > 1),
-    ("four axes cut, ranks 1 to 8", |walk, _| walk.extents.len() <= 8 && cut_axes(walk) > 3),
-    ("two axes cut, rank 9 up", |walk, _| walk.extents.len() > 8 && cut_axes(walk) > 1),
-    ("positive start", |walk, _| walk.starts.iter().any(|&start| start > 0)),
-    ("negative start", |walk, _| walk.starts.iter().any(|&start| start < 0)),
-    ("negative stride", |walk, _| walk.strides.iter().flatten().any(|&stride| stride < 0)),
+    ("two axes cut, ranks 1 to 8", |walk, _| {
+        walk.extents.len() <= 8 && cut_axes(walk) > 1
+    }),
+    ("four axes cut, ranks 1 to 8", |walk, _| {
+        walk.extents.len() <= 8 && cut_axes(walk) > 3
+    }),
+    ("two axes cut, rank 9 up", |walk, _| {
+        walk.extents.len() > 8 && cut_axes(walk) > 1
+    }),
+    ("positive start", |walk, _| {
+        walk.starts.iter().any(|&start| start > 0)
+    }),
+    ("negative start", |walk, _| {
+        walk.starts.iter().any(|&start| start < 0)
+    }),
+    ("negative stride", |walk, _| {
+        walk.strides.iter().flatten().any(|&stride| stride < 0)
+    }),
     ("zero extent", |walk, _| walk.extents.contains(&0)),
     ("walk to an end", |_, answer| answer.contains("\nZ,")),
     ("refused by row 5", |_, answer| answer.starts_with("R,5\n")),
@@ -191,7 +213,8 @@ const WALK_BRANCHES: [WalkBranch; 24] = [
 
 fn cut_axes(walk: &Walk) -> usize {
     let axes = walk.blocks.iter().zip(&walk.extents);
-    axes.filter(|(&block, &extent)| block.max(1) < extent).count()
+    axes.filter(|(&block, &extent)| block.max(1) < extent)
+        .count()
 }
 
 /// The file recorded/walks.txt.

@@ -2,10 +2,10 @@
 //! each branch on standard error, and fails if a branch has none.
 
 use std::io::{stdout, Write};
-use std::path::PathBuf;
+use std::path::{Path, PathBuf};
 use std::process::ExitCode;
 use tools::answer::silence_panics;
-use tools::options::{end, unknown, Options};
+use tools::options::{end, note, unknown, Options};
 use tools::record::{answers, walks, Recording};
 
 const HELP: &str = "\
@@ -15,10 +15,11 @@ record: writes answers.txt and walks.txt
   --help        this text
 ";
 
-fn write(folder: &std::path::Path, name: &str, recording: Recording) -> Result<(), String> {
-    eprintln!("{name}: {} cases, {} bytes", recording.cases, recording.text.len());
+fn write(folder: &Path, name: &str, recording: Recording) -> Result<(), String> {
+    let (cases, bytes) = (recording.cases, recording.text.len());
+    note(&format!("{name}: {cases} cases, {bytes} bytes"));
     for (branch, count) in &recording.counts {
-        eprintln!("{count:6}  {branch}");
+        note(&format!("{count:6}  {branch}"));
     }
     let missing = recording.missing();
     if !missing.is_empty() {
