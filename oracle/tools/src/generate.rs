@@ -476,10 +476,10 @@ fn block_aliased(random: &mut Random) -> Layout {
     let mut sizes = sizes(random, operands);
     let order: Vec<usize> = (0..rank).collect();
     let mut strides = Vec::new();
-    for operand in 0..operands {
+    for (operand, size) in sizes.iter().enumerate() {
         let mut row = packed(&extents, &order, 1, 0);
         if operand % 2 == 1 {
-            let way = 4096 / sizes[operand].clamp(1, 64);
+            let way = 4096 / (*size).clamp(1, 64);
             let last = random.within(0, rank - 1);
             for (axis, stride) in row.iter_mut().enumerate() {
                 let many = random.within(1, 8);

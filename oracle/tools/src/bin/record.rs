@@ -4,7 +4,6 @@
 use std::io::{stdout, Write};
 use std::path::{Path, PathBuf};
 use std::process::ExitCode;
-use tools::answer::silence_panics;
 use tools::options::{end, note, unknown, Options};
 use tools::record::{answers, walks, Recording};
 
@@ -43,7 +42,6 @@ fn run() -> Result<(), String> {
             _ => return Err(unknown(&option)),
         }
     }
-    silence_panics();
     write(&folder, "answers.txt", answers()?)?;
     write(&folder, "walks.txt", walks()?)
 }
