@@ -1,6 +1,10 @@
--- Laws of the common words: arrays with a count, sums and counts over lists, whole numbers.
+-- Laws of the common words: tests, lists, whole numbers, sums and counts, arrays with a count, layouts and refusals.
+pub mod Tests
+pub mod Lists
 pub mod Integers
-pub mod Arrays
 pub mod Sums
 pub mod Counting
 pub mod Trace
+pub mod Arrays
+pub mod Layouts
+pub mod Refusals

@@ -1,4 +1,17 @@
--- What holds of the definitions of crate strided, whatever the code: a folder for each part of document 01.
+-- What holds of the definitions of crate strided, whatever the code. A folder for each part of document 01; the main theorems:
+--   the loop order and the order of fusing are permutations, sorted    Order/Permutation  fusing-permutes, loop-sorted
+--   sums and products over axes do not depend on the order             Order/Folds        picked-fold
+--   the plan keeps the total                                           Fuse/Maps          plan-total
+--   the index maps stay in range, undo each other, keep the offsets    Fuse/Maps          plan-in, orig-in, orig-plan, plan-orig, same-dot
+--   index finding there and back, at the entries                       Fuse/Entries       told-inverse
+--   the plan keeps each operand's reach (row 6)                        Fuse/Reach         plan-reach
+--   cover: each index is a cell of the blocks exactly once             Walk/Cover         met-once, met-within
+--   the Z figures: number of blocks, sum of their lengths              Walk/Totals        blocks-number, blocks-total, cells-total, plan-cells
+--   chain: the successor hands out the blocks in order                 Walk/Chain         chain
+--   reach: the counters that a walk comes to                           Walk/Reach         reach, state-nth
+--   row 9, exact                                                       Walk/Row9          row9-exact
+--   row 10, exact                                                      Walk/Row10         row10-exact
+--   demand 3                                                           Demand3/Whole      demand3, exactly-one
 pub mod Base
 pub mod Order
 pub mod Fuse

@@ -1,14 +1,13 @@
 -- Laws of the blocks of a walk, of its steps and its states, and of rows 9 and 10.
 pub mod States
+pub mod Cuts
 pub mod Cover
 pub mod Chain
 pub mod Reach
+pub mod Totals
 pub mod Places
 pub mod Offsets
-pub mod Answers
 pub mod Machine
-pub mod Listed
-pub mod Demand
 pub mod Steps
 pub mod Row9
 pub mod Row10

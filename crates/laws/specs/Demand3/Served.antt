@@ -1,89 +1,41 @@
--- DEMAND 3, for a plan that is ready and stands for its layout. Assumes nothing.
+-- DEMAND 3, part by part, for a plan that is ready to begin and whose extents and strides are those of its layout's plan.
+-- Assumes nothing.
 use mathlib.Core.Path.{_≡_, refl, sym, ap, ap₂, _∙_, subst}
 use mathlib.Core.Logic.{_↔_, _⊎_, inl, inr}
-use mathlib.Core.Bool.{Bool, true, false, cond, _&&_}
-use mathlib.Core.List.{List, [], _∷_, _++_, map}
+use mathlib.Core.List.{List, []}
 use mathlib.Core.Option.{Option, none, some}
-use Prim.Native.Nat.{ℕ, zero, suc, _+_, _-_, _*_, _≤_, _<_}
+use Prim.Native.Nat.{ℕ, _+_, _*_, _≤_, _<_}
 use native.Mathlib.Omega.{arith}
-use lib.Dec.{ltb}
-use lib.IntN.{ℤ, pos, _+ℤ_, _-ℤ_, _*ℤ_, +ℤ-assoc, zero-*ℤ}
-use lib.ListN.{length, getD, take, drop, List·getD-map}
-use borrow.Author.Tests.{lt-ltb}
-use Rattle.strided.specs.Base.{padded, run, nth, first}
-use Rattle.strided.specs.Layout.{Within, within, NoZero, dot, extents, row, strideRow}
-use Rattle.strided.specs.Refusals.{layoutRefused, refusedBy, row11}
+use lib.IntN.{ℤ, pos, _+ℤ_, _-ℤ_, _*ℤ_}
+use lib.ListN.{length, getD, take}
+use Rattle.strided.specs.Base.{padded, nth}
+use Rattle.strided.specs.Layout.{Within, dot, extents, row, strideRow}
+use Rattle.strided.specs.Refusals.{layoutRefused}
 use Rattle.strided.specs.Fuse.{planAxes}
-use Rattle.strided.specs.Index.{indexInPlan, originalIndex, toldOriginal, toldOr}
-use Rattle.strided.specs.Walk.{CutAxis, ax, block, blockAt, blocksOf, counters, cellAt, firstOf, runStrides, lengthAt, next}
-use Rattle.strided.specs.Begin.{planExtents, planBlocks, planRow, planRows, begunAt}
-use Rattle.strided.specs.Step.{Step, offsetsFrom, planCutAxes, packed, handedOut, stepped}
+use Rattle.strided.specs.Index.{indexInPlan, originalIndex, toldOriginal}
+use Rattle.strided.specs.Walk.{CutAxis, block, blockAt, blocksOf, counters, cellAt, runStrides, lengthAt}
+use Rattle.strided.specs.Begin.{planExtents, planRow, planRows, begunAt}
+use Rattle.strided.specs.Step.{offsetsFrom, planCutAxes, handedOut}
 use Rattle.strided.specs.Demand3.{stepsFrom, Hands, Place, cellOf, Meets, Demand3}
 use Rattle.strided.specs.declared.Purpose.{Purpose}
 use Rattle.strided.specs.declared.Answer.the-variants.{Served}
-use Rattle.strided.specs.declared.Outcome.{Outcome}
 use Rattle.strided.specs.declared.Outcome.the-variants.{Block, Ended}
 use Rattle.strided.specs.declared.Plan.{Plan}
 use Rattle.strided.specs.declared.Stepped.{Stepped}
-use Rattle.strided.specs.declared.Told.{Told}
-use Rattle.laws.specs.Walk.States.{stateAfter, Inside}
+use Rattle.laws.specs.Base.Lists.{nth-map, getD-run}
 use Rattle.laws.specs.Base.Arrays.{take-counted, getD-padded}
+use Rattle.laws.specs.Base.Layouts.{within-length}
 use Rattle.laws.specs.Fuse.Maps.{plan-in, orig-in, orig-plan, plan-orig, same-dot}
-use Rattle.laws.specs.Fuse.Ordered.{inr-length}
+use Rattle.laws.specs.Fuse.Entries.{original-told}
+use Rattle.laws.specs.Walk.States.{stateAfter, Inside}
+use Rattle.laws.specs.Walk.Cuts.{cut-inside}
 use Rattle.laws.specs.Walk.Reach.{state-nth}
 use Rattle.laws.specs.Walk.Places.{MeetsPlan, length-pos, meets-inside, meets-once, ended-iff}
-use Rattle.laws.specs.Walk.Offsets.{dot-place, nth-map, cancel}
-use Rattle.laws.specs.Walk.Demand.{cut-inside}
-use Rattle.laws.specs.Walk.Steps.{Ready, at, raw, wide, as-many, rows-many, counters-many, walk-nth, walk-below, walk-is}
-
--- ---- small facts
-
-within-test : (es x : List ℕ) → Within es x → within es x ≡ true
-within-test [] [] h = refl
-within-test [] (y ∷ x) h = absurd h
-within-test (e ∷ es) [] h = absurd h
-within-test (e ∷ es) (y ∷ x) h = rw (lt-ltb y e (h .0)) (within-test es x (h .1))
-
-pub getD-rows : {B : Type 0} (f : ℕ → B) (d : B) (m s j : ℕ) → j < m → getD (map f (run s m)) j d ≡ f (s + j)
-getD-rows f d zero s j h = absurd (bad h)
-  where
-    bad : j < 0 → ⊥
-    bad h = omega arith
-getD-rows f d (suc m) s zero h = let e : s + 0 ≡ s = omega arith in rw e
-getD-rows f d (suc m) s (suc j) h = let e : s + suc j ≡ suc s + j = omega arith in rw e (getD-rows f d m (suc s) j (omega arith))
-
-pub getD-offsets : (tss : List (List ℤ)) (zs : List ℤ) (c : List ℕ) (j : ℕ) → length zs ≡ length tss → j < length tss
-    → getD (offsetsFrom tss zs c) j (pos 0) ≡ getD zs j (pos 0) +ℤ dot c (getD tss j [])
-getD-offsets [] zs c j e h = absurd (bad h)
-  where
-    bad : j < 0 → ⊥
-    bad h = omega arith
-getD-offsets (ts ∷ tss) [] c j e h = absurd (omega arith)
-getD-offsets (ts ∷ tss) (z ∷ zs) c zero e h = refl
-getD-offsets (ts ∷ tss) (z ∷ zs) c (suc j) e h = getD-offsets tss zs c j (omega arith) (omega arith)
-
--- k times the stride of axis 0; k is 0 at rank 0
-run-first : (axs : List CutAxis) (c : List ℕ) (k : ℕ) (tss : List (List ℤ)) (j : ℕ) → k < lengthAt axs c
-    → pos k *ℤ getD (runStrides axs tss) j (pos 0) ≡ pos k *ℤ firstOf (getD tss j [])
-run-first [] c k tss j h =
-    let z : k ≡ 0 = omega arith in
-    rw z (zero-*ℤ (pos 0) ∙ sym (zero-*ℤ (firstOf (getD tss j []))))
-run-first (a ∷ axs) c k tss j h = ap (λ t. pos k *ℤ t) (List·getD-map firstOf tss j [])
-
-place-offset : (axs : List CutAxis) (tss : List (List ℤ)) (zs : List ℤ) (c : List ℕ) (k j : ℕ) → length zs ≡ length tss → j < length tss → k < lengthAt axs c
-    → getD (offsetsFrom tss zs c) j (pos 0) +ℤ pos k *ℤ getD (runStrides axs tss) j (pos 0) -ℤ getD zs j (pos 0) ≡ dot (cellAt c k) (getD tss j [])
-place-offset axs tss zs c k j e h b =
-    let z : ℤ = getD zs j (pos 0) in
-    let ts : List ℤ = getD tss j [] in
-    ap₂ (λ (u v : ℤ). u +ℤ v -ℤ z) (getD-offsets tss zs c j e h) (run-first axs c k tss j b)
-    ∙ ap (λ (u : ℤ). u -ℤ z) (+ℤ-assoc z (dot c ts) (pos k *ℤ firstOf ts))
-    ∙ cancel z (dot c ts +ℤ pos k *ℤ firstOf ts)
-    ∙ sym (dot-place axs c k ts b)
-
--- ---- the claim
+use Rattle.laws.specs.Walk.Offsets.{place-offset}
+use Rattle.laws.specs.Walk.Steps.{Ready, raw, wide, as-many, rows-many, counters-many, walk-nth, walk-below, walk-is}
 
 module _ (es sizes : List ℕ) (ss : List ℤ) (u : Purpose) (p : Plan) (zs : List ℤ) (n : ℕ)
-    (hz : NoZero es) (hl : layoutRefused es sizes ss u ≡ none) (hs : length ss ≡ length es * length sizes)
+    (hl : layoutRefused es sizes ss u ≡ none) (hs : length ss ≡ length es * length sizes)
     (r : Ready p zs) (fo : p .operands ≡ length sizes)
     (fe : planExtents p ≡ extents (planAxes es (length sizes) ss u))
     (ft : (k : ℕ) → k < length sizes → planRow p k ≡ row k (planAxes es (length sizes) ss u)) where
@@ -188,8 +140,8 @@ module _ (es sizes : List ℕ) (ss : List ℤ) (u : Purpose) (p : Plan) (zs : Li
       all : (y : List ℕ) → Inside ls y → (i : ℕ) × (k : ℕ) × (i < m) × MeetsPlan ls i k y
       all y hy =
           let hy′ = inside y .0 hy in
-          let q = h (originalIndex es M ss u y) (orig-in es M ss u hz y hy′) in
-          (q .0, q .1, q .2, subst (λ (v : List ℕ). MeetsPlan ls (q .0) (q .1) v) (plan-orig es M ss u hz y hy′) (met (q .0) (q .1) (originalIndex es M ss u y) (q .3)))
+          let q = h (originalIndex es M ss u y) (orig-in es M ss u y hy′) in
+          (q .0, q .1, q .2, subst (λ (v : List ℕ). MeetsPlan ls (q .0) (q .1) v) (plan-orig es M ss u y hy′) (met (q .0) (q .1) (originalIndex es M ss u y) (q .3)))
 
   order′ : (m : ℕ) (s : Stepped) → nth L m ≡ some s → Hands s
       → (c : List ℕ) × (nth (blocksOf (planCutAxes p)) m ≡ some (block c (s .length))) × (s .counters ≡ padded 64 0 c)
@@ -215,7 +167,7 @@ module _ (es sizes : List ℕ) (ss : List ℤ) (u : Purpose) (p : Plan) (zs : Li
       let c : List ℕ = cellOf es sizes ss u p L k s in
       let w = cell-within m k s q in (
         originalIndex es M ss u c,
-        record { by = s; place = q; inside = orig-in es M ss u hz c w; index = plan-orig es M ss u hz c w },
+        record { by = s; place = q; inside = orig-in es M ss u c w; index = plan-orig es M ss u c w },
         λ y g. sym (told-met m k y g) ∙ ap (λ (t : Stepped). originalIndex es M ss u (cellOf es sizes ss u p L k t)) (same (g .by) (g .place .there)),
       )
     where
@@ -227,12 +179,10 @@ module _ (es sizes : List ℕ) (ss : List ℤ) (u : Purpose) (p : Plan) (zs : Li
 
   tells′ : (m k : ℕ) (x : List ℕ) (q : Meets es sizes ss u p L m k x)
       → toldOriginal es sizes ss u (cellOf es sizes ss u p L k (q .by)) ≡ record { answer = Served; count = length es; index = padded 64 0 x }
-  unfolding toldOriginal
   tells′ m k x q =
-      let w = within-test (extents (planAxes es M ss u)) (cellOf es sizes ss u p L k (q .by)) (cell-within m k (q .by) (q .place)) in
-      rw (hl, w)
-      (ap (toldOr none) (told-met m k x q)
-      ∙ ap (λ (n : ℕ). record { answer = Served; count = n; index = padded 64 0 x }) (inr-length es x (q .inside)))
+      original-told es sizes ss u hl (cellOf es sizes ss u p L k (q .by)) (cell-within m k (q .by) (q .place))
+      ∙ ap (λ (y : List ℕ). record { answer = Served; count = length y; index = padded 64 0 y }) (told-met m k x q)
+      ∙ ap (λ (n : ℕ). record { answer = Served; count = n; index = padded 64 0 x }) (within-length es x (q .inside))
 
   offsets′ : (m k : ℕ) (x : List ℕ) (q : Meets es sizes ss u p L m k x) (j : ℕ) → j < length sizes
       → getD (q .by .offsets) j (pos 0) +ℤ pos k *ℤ getD (q .by .strides) j (pos 0) -ℤ getD zs j (pos 0) ≡ dot x (strideRow ss (length es) j)
@@ -245,13 +195,13 @@ module _ (es sizes : List ℕ) (ss : List ℤ) (u : Purpose) (p : Plan) (zs : Li
       let jr : j < length (planRows p) = omega (arith, rows-many p zs r, fo, hj) in
       let jo : j < p .operands = omega (arith, fo, hj) in
       let z : 0 + j ≡ j = omega arith in
-      let rowj : getD (planRows p) j [] ≡ row j (planAxes es M ss u) = getD-rows (planRow p) [] (p .operands) 0 j jo ∙ ap (planRow p) z ∙ ft j hj in
+      let rowj : getD (planRows p) j [] ≡ row j (planAxes es M ss u) = getD-run (planRow p) [] (p .operands) 0 j jo ∙ ap (planRow p) z ∙ ft j hj in
       let cell : cellAt c k ≡ cellOf es sizes ss u p L k (q .by) = sym (cell-back m k (q .by) d) in
       ap (λ (t : Stepped). getD (t .offsets) j (pos 0) +ℤ pos k *ℤ getD (t .strides) j (pos 0) -ℤ getD zs j (pos 0)) (d .is)
       ∙ ap₂ (λ (a v : ℤ). a +ℤ pos k *ℤ v -ℤ getD zs j (pos 0)) (getD-padded (pos 0) 8 (offsetsFrom (planRows p) zs c) j j8) (getD-padded (pos 0) 8 (runStrides ls (planRows p)) j j8)
       ∙ place-offset ls (planRows p) zs c k j (as-many p zs r) jr b
       ∙ ap₂ (λ (v : List ℕ) (t : List ℤ). dot v t) cell rowj
-      ∙ same-dot es M ss u hz hs j hj (cellOf es sizes ss u p L k (q .by)) (cell-within m k (q .by) (q .place))
+      ∙ same-dot es M ss u (cellOf es sizes ss u p L k (q .by)) (cell-within m k (q .by) (q .place)) hs j hj
       ∙ ap (λ (v : List ℕ). dot v (strideRow ss (length es) j)) (told-met m k x q)
 
   back′ : (m : ℕ) (s : Stepped) → nth L m ≡ some s → s .answer ≡ Ended → s .walk .offsets ≡ padded 8 (pos 0) zs

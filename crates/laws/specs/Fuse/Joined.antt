@@ -1,28 +1,28 @@
--- The fused and compressed axes, the index told from a plan index, the plan index of an original index; and that they belong together.
+-- THE INDEX MAPS ALONG FUSED AXES: fusing and dropping the axes of extent 1 keep the total; the two index maps stay in range, undo each
+-- other and keep every operand's offset. The axes here stand in the order that they are fused in.
 -- Assumes nothing.
-use mathlib.Core.Path.{_≡_, refl, sym, ap, _∙_, subst}
-use mathlib.Core.Logic.{_⊎_, inl, inr}
-use mathlib.Core.Bool.{Bool, true, false, cond, false≢true}
+use mathlib.Core.Path.{_≡_, refl, sym, ap, _∙_}
+use mathlib.Core.Bool.{Bool, true, false}
 use mathlib.Core.List.{List, [], _∷_, cons≢nil}
-use Prim.Native.Nat.{ℕ, zero, suc, _+_, _*_, _/_, _%_, _≤_, _<_}
+use Prim.Native.Nat.{ℕ, _*_, _/_, _<_}
 use native.Mathlib.Nat.{one-mul}
 use native.Mathlib.Omega.{arith}
 use lib.Dec.{eqb}
 use lib.Arith.{lt-one}
-use lib.ListN.{getD, length}
+use lib.ListN.{getD}
 use borrow.Author.Tests.{eqb-true}
-use lib.IntN.{ℤ, pos, _+ℤ_, _*ℤ_, +ℤ-idr, +ℤ-idl, zero-*ℤ}
-use Rattle.laws.specs.Fuse.Indices.{fuse-fits, row-fuse}
+use lib.IntN.{ℤ, pos, _+ℤ_, +ℤ-idl, zero-*ℤ}
+use Rattle.laws.specs.Fuse.Fused.{fuse-fits, row-fuse}
 use Rattle.laws.specs.Fuse.Radix.{kept, Run, told, welded, ravel-unravel, unravel-ravel, run-total}
-use Rattle.laws.specs.Fuse.Strides.{hdZ, keptBy, Steps, run-of, dot-unravel}
+use Rattle.laws.specs.Fuse.Strides.{hdZ, keptBy, run-of, dot-unravel}
 use Rattle.strided.specs.Base.{unless}
-use Rattle.strided.specs.Fuse.{fuse, fuseStep, fuseIf, canFuse, fusedAxes, orFirst, compress, keep}
-use Rattle.strided.specs.Index.{hd, tl, unravel, ravel, Raveled, planIndex, pad, unravelIndex}
+use Rattle.strided.specs.Fuse.{fuse, fusedAxes, orFirst, keep}
+use Rattle.strided.specs.Index.{unravel, ravel, planIndex, pad, unravelIndex}
 use Rattle.strided.specs.Layout.{Within, NoZero, total, dot, Axis, extents, row}
 
 -- ---- the axes that are kept
 
-pub extents-keep : (xs : List Axis) → extents (keep xs) ≡ kept (extents xs)
+extents-keep : (xs : List Axis) → extents (keep xs) ≡ kept (extents xs)
 extents-keep [] = refl
 extents-keep (a ∷ xs) = go (eqb (a .extent) 1) (extents-keep xs)
   where
@@ -30,7 +30,7 @@ extents-keep (a ∷ xs) = go (eqb (a .extent) 1) (extents-keep xs)
     go true h = h
     go false h = rw h
 
-pub row-keep : (k : ℕ) (xs : List Axis) → row k (keep xs) ≡ keptBy (extents xs) (row k xs)
+row-keep : (k : ℕ) (xs : List Axis) → row k (keep xs) ≡ keptBy (extents xs) (row k xs)
 row-keep k [] = refl
 row-keep k (a ∷ xs) = go (eqb (a .extent) 1) (row-keep k xs)
   where
@@ -120,9 +120,9 @@ zero<one = omega arith
 in-kept : (xs : List Axis) (cs : List ℕ) → Within (extents (fusedAxes xs)) cs → Within (kept (extents (fuse xs))) (strip (keep (fuse xs)) cs)
 in-kept xs cs r = rw extents-keep at (strip-range (keep (fuse xs)) (fuse xs) cs r)
 
--- the run-total is kept
-pub plan-total : (xs : List Axis) → total (extents xs) ≡ total (extents (fusedAxes xs))
-plan-total xs =
+-- the total is kept
+pub fused-total : (xs : List Axis) → total (extents xs) ≡ total (extents (fusedAxes xs))
+fused-total xs =
     run-total (run xs) ∙ one-mul (total (extents (fuse xs))) ∙ prod-kept (extents (fuse xs)) ∙ ap total (sym (extents-keep (fuse xs))) ∙ prod-orFirst (keep (fuse xs)) (fuse xs)
 
 -- what is told is in range

@@ -1,20 +1,21 @@
--- Order, fuse, compress: the plan of a layout, the original index told from a plan index and the plan index of an original index, over any weights.
+-- THE INDEX MAPS OF AN ORDER: axes put into any order, fused and compressed. The total, the ranges, the two maps and the offsets, over
+-- every permutation of the axes.
 -- Assumes nothing.
-use mathlib.Core.Path.{_≡_, refl, sym, ap, _∙_, subst}
-use mathlib.Core.Logic.{_⊎_, inl, inr}
+use mathlib.Core.Path.{_≡_, refl, sym, ap, _∙_}
+use mathlib.Core.Logic.{inl, inr}
 use mathlib.Core.List.{List, [], _∷_}
-use Prim.Native.Nat.{ℕ, zero, suc, _+_, _*_, _≤_, _<_}
-use native.Mathlib.Nat.{mul-left-comm}
-use native.Mathlib.Omega.{arith}
+use Prim.Native.Nat.{ℕ, zero, suc, _<_}
+use lib.IntN.{pos}
 use lib.ListN.{length, getD, replicate, length-replicate}
-use lib.IntN.{ℤ, pos}
-use Rattle.laws.specs.Fuse.Joined.{plan-total, unravel-range, plan-range, plan-unravel, unravel-plan, plan-dot}
-use Rattle.laws.specs.Order.Permutation.{In, NoDup, Ins, insert-ins, down, order-length, order-below, order-has, order-nodup, dot-order, length-pick, length-place, pick-place, place-pick}
-use Rattle.laws.specs.Order.Permutation.Ins.{here, there}
-use Rattle.strided.specs.Fuse.{fuse, fusedAxes}
-use Rattle.strided.specs.Index.{unravelIndex, planIndex}
+use Rattle.strided.specs.Fuse.{fusedAxes}
+use Rattle.strided.specs.Index.{unravelIndex, planIndex, unravelBy, indexBy}
 use Rattle.strided.specs.Layout.{Within, NoZero, total, dot, Axis, extents, row, noAxis}
-use Rattle.strided.specs.Order.{orderTo, insert, pick, place}
+use Rattle.strided.specs.Order.{pick, place}
+use Rattle.laws.specs.Base.Layouts.{length-extents, length-row, within-length, within-at, at-within, nozero-at}
+use Rattle.laws.specs.Order.Permutation.{In, Permutes}
+use Rattle.laws.specs.Order.Picked.{length-pick, length-place, pick-place, place-pick}
+use Rattle.laws.specs.Order.Folds.{picked-total, picked-dot}
+use Rattle.laws.specs.Fuse.Joined.{fused-total, unravel-range, plan-range, plan-unravel, unravel-plan, plan-dot}
 
 -- ---- extents and strides of axes in another order
 
@@ -36,166 +37,75 @@ row-pick : (k : ℕ) (xs : List Axis) (o : List ℕ) → row k (pick noAxis xs o
 row-pick k xs [] = refl
 row-pick k xs (a ∷ o) = rw (stride-at k xs a, row-pick k xs o)
 
-length-extents : (xs : List Axis) → length (extents xs) ≡ length xs
-length-extents [] = refl
-length-extents (x ∷ xs) = ap suc (length-extents xs)
+-- ---- ranges in another order
 
-length-row : (k : ℕ) (xs : List Axis) → length (row k xs) ≡ length xs
-length-row k [] = refl
-length-row k (x ∷ xs) = ap suc (length-row k xs)
+pick-within : (es is o : List ℕ) → ((j : ℕ) → In j o → j < length es) → Within es is → Within (pick 0 es o) (pick 0 is o)
+pick-within es is [] f r = tt
+pick-within es is (a ∷ o) f r = (within-at es is a r (f a (inl refl)), pick-within es is o (λ j m. f j (inr m)) r)
 
--- ---- ranges, index by index
+within-pick : (es is o : List ℕ) (j : ℕ) → In j o → Within (pick 0 es o) (pick 0 is o) → getD is j 0 < getD es j 0
+within-pick es is [] j m r = absurd m
+within-pick es is (a ∷ o) j (inl e) r = rw e (r .0)
+within-pick es is (a ∷ o) j (inr m) r = within-pick es is o j m (r .1)
 
-pub inr-length : (es is : List ℕ) → Within es is → length is ≡ length es
-inr-length [] [] r = refl
-inr-length [] (i ∷ is) r = absurd r
-inr-length (e ∷ es) [] r = absurd r
-inr-length (e ∷ es) (i ∷ is) r = ap suc (inr-length es is (r .1))
+pick-nozero : (es o : List ℕ) → ((j : ℕ) → In j o → j < length es) → NoZero es → NoZero (pick 0 es o)
+pick-nozero es [] f p = tt
+pick-nozero es (a ∷ o) f p = (nozero-at es a p (f a (inl refl)), pick-nozero es o (λ j m. f j (inr m)) p)
 
-pub inr-at : (es is : List ℕ) (j : ℕ) → Within es is → j < length es → getD is j 0 < getD es j 0
-inr-at [] is j r h = absurd (no-below h)
-  where
-    no-below : j < 0 → ⊥
-    no-below h = omega arith
-inr-at (e ∷ es) [] j r h = absurd r
-inr-at (e ∷ es) (i ∷ is) zero r h = r .0
-inr-at (e ∷ es) (i ∷ is) (suc j) r h = inr-at es is j (r .1) (omega arith)
+-- ---- the laws
 
-pub at-inr : (es is : List ℕ) → length is ≡ length es → ((j : ℕ) → j < length es → getD is j 0 < getD es j 0) → Within es is
-at-inr [] [] e f = tt
-at-inr [] (i ∷ is) e f = bad e
-  where
-    bad : suc (length is) ≡ 0 → ⊥
-    bad e = omega arith
-at-inr (x ∷ es) [] e f = bad e
-  where
-    bad : 0 ≡ suc (length es) → ⊥
-    bad e = omega arith
-at-inr (x ∷ es) (i ∷ is) e f = (f 0 (omega arith), at-inr es is (omega arith) (λ j h. f (suc j) (omega arith)))
+module _ (o : List ℕ) (xs : List Axis) (p : Permutes (length xs) o) where
+  abbrev ys : List Axis
+  ys = pick noAxis xs o
 
-pick-inr : (es is o : List ℕ) → ((j : ℕ) → In j o → j < length es) → Within es is → Within (pick 0 es o) (pick 0 is o)
-pick-inr es is [] f r = tt
-pick-inr es is (a ∷ o) f r = (inr-at es is a r (f a (inl refl)), pick-inr es is o (λ j m. f j (inr m)) r)
+  inside : (j : ℕ) → In j o → j < length (extents xs)
+  inside j m = rw (length-extents xs) (p .below j m)
 
-inr-pick : (es is o : List ℕ) (j : ℕ) → In j o → Within (pick 0 es o) (pick 0 is o) → getD is j 0 < getD es j 0
-inr-pick es is [] j m r = absurd m
-inr-pick es is (a ∷ o) j (inl e) r = rw e (r .0)
-inr-pick es is (a ∷ o) j (inr m) r = inr-pick es is o j m (r .1)
+  pub order-total : total (extents xs) ≡ total (extents (fusedAxes ys))
+  order-total =
+      sym (ap total (extents-pick xs o) ∙ picked-total (extents xs) o (rw (length-extents xs) p)) ∙ fused-total ys
 
-pos-at : (es : List ℕ) (j : ℕ) → NoZero es → j < length es → 0 < getD es j 0
-pos-at [] j p h = absurd (no-below h)
-  where
-    no-below : j < 0 → ⊥
-    no-below h = omega arith
-pos-at (e ∷ es) zero p h = p .0
-pos-at (e ∷ es) (suc j) p h = pos-at es j (p .1) (omega arith)
+  pub order-nozero : NoZero (extents xs) → NoZero (extents ys)
+  order-nozero z = rw (extents-pick xs o) (pick-nozero (extents xs) o inside z)
 
-pick-pos : (es o : List ℕ) → ((j : ℕ) → In j o → j < length es) → NoZero es → NoZero (pick 0 es o)
-pick-pos es [] f p = tt
-pick-pos es (a ∷ o) f p = (pos-at es a p (f a (inl refl)), pick-pos es o (λ j m. f j (inr m)) p)
+  ordered : (is : List ℕ) → Within (extents xs) is → Within (extents ys) (pick 0 is o)
+  ordered is r = rw (extents-pick xs o) (pick-within (extents xs) is o inside r)
 
--- ---- the product over an order
+  -- a plan index is in range
+  pub index-range : (is : List ℕ) → Within (extents xs) is → Within (extents (fusedAxes ys)) (indexBy o xs is)
+  index-range is r = plan-range ys (pick 0 is o) (ordered is r)
 
-prodBy : (ℕ → ℕ) → List ℕ → ℕ
-prodBy f [] = 1
-prodBy f (a ∷ o) = f a * prodBy f o
+  -- the index told of a plan index is the one it was of
+  pub unravel-index : (is : List ℕ) → Within (extents xs) is → unravelBy o xs (indexBy o xs is) ≡ is
+  unravel-index is r =
+      ap (place (replicate (length xs) 0) o) (unravel-plan ys (pick 0 is o) (ordered is r))
+      ∙ place-pick 0 (length xs) o p is (replicate (length xs) 0) (within-length (extents xs) is r ∙ length-extents xs) (length-replicate (length xs) 0)
 
-prod-ins : (f : ℕ → ℕ) {x : ℕ} {xs ys : List ℕ} → Ins x xs ys → prodBy f ys ≡ f x * prodBy f xs
-unfolding prodBy
-prod-ins f here = refl
-prod-ins f {x} (there {y} {xs} i) = ap (λ (n : ℕ). f y * n) (prod-ins f i) ∙ mul-left-comm (f y) (f x) (prodBy f xs)
+  module _ (z : NoZero (extents xs)) (cs : List ℕ) (r : Within (extents (fusedAxes ys)) cs) where
+    long : length (unravelBy o xs cs) ≡ length xs
+    long = length-place 0 (replicate (length xs) 0) o (unravelIndex ys cs) ∙ length-replicate (length xs) 0
 
-prod-down : (f : ℕ → ℕ) (n : ℕ) → prodBy f (down (suc n)) ≡ f 0 * prodBy (λ (i : ℕ). f (suc i)) (down n)
-unfolding prodBy
-prod-down f zero = refl
-prod-down f (suc n) = ap (λ (k : ℕ). f (suc n) * k) (prod-down f n) ∙ mul-left-comm (f (suc n)) (f 0) (prodBy (λ (i : ℕ). f (suc i)) (down n))
+    -- what is told, before it is put in its places
+    picked : pick 0 (unravelBy o xs cs) o ≡ unravelIndex ys cs
+    picked =
+        pick-place 0 (length xs) o p (replicate (length xs) 0) (unravelIndex ys cs) (length-replicate (length xs) 0)
+        (within-length (extents ys) (unravelIndex ys cs) (unravel-range ys cs (order-nozero z) r) ∙ length-extents ys ∙ length-pick noAxis xs o ∙ p .many)
 
-prod-order : (w f : ℕ → ℕ) (n : ℕ) → prodBy f (orderTo w n) ≡ prodBy f (down n)
-unfolding prodBy
-prod-order w f zero = refl
-prod-order w f (suc n) = prod-ins f (insert-ins w n (orderTo w n)) ∙ ap (λ (k : ℕ). f n * k) (prod-order w f n)
+    -- what is told is in range
+    pub told-range : Within (extents xs) (unravelBy o xs cs)
+    told-range =
+        at-within (extents xs) (unravelBy o xs cs) (long ∙ sym (length-extents xs))
+        (λ j h. within-pick (extents xs) (unravelBy o xs cs) o j (p .has j (rw (length-extents xs) at h))
+        (rw (picked, ← (extents-pick xs o)) (unravel-range ys cs (order-nozero z) r)))
 
-prod-all : (es : List ℕ) → prodBy (λ (a : ℕ). getD es a 0) (down (length es)) ≡ total es
-unfolding prodBy
-prod-all [] = refl
-prod-all (e ∷ es) = prod-down (λ (a : ℕ). getD (e ∷ es) a 0) (length es) ∙ ap (λ (k : ℕ). e * k) (prod-all es)
+    -- the plan index of what is told is the one it was told from
+    pub index-unravel : indexBy o xs (unravelBy o xs cs) ≡ cs
+    index-unravel = ap (planIndex ys) picked ∙ plan-unravel ys cs (order-nozero z) r
 
-prod-pick : (es o : List ℕ) → total (pick 0 es o) ≡ prodBy (λ (a : ℕ). getD es a 0) o
-unfolding prodBy
-prod-pick es [] = refl
-prod-pick es (a ∷ o) = ap (λ (k : ℕ). getD es a 0 * k) (prod-pick es o)
-
--- ---- the whole
-
-abbrev pub inOrder : (ℕ → ℕ) → List Axis → List Axis
-inOrder w xs = pick noAxis xs (orderTo w (length xs))
-
--- the plan of the layout xs under the weights w
-abbrev pub wholePlan : (ℕ → ℕ) → List Axis → List Axis
-wholePlan w xs = fusedAxes (inOrder w xs)
-
-abbrev pub wholeUnravel : (ℕ → ℕ) → List Axis → List ℕ → List ℕ
-wholeUnravel w xs cs = place (replicate (length xs) 0) (orderTo w (length xs)) (unravelIndex (inOrder w xs) cs)
-
-abbrev pub wholeIndex : (ℕ → ℕ) → List Axis → List ℕ → List ℕ
-wholeIndex w xs is = planIndex (inOrder w xs) (pick 0 is (orderTo w (length xs)))
-
-module _ (w : ℕ → ℕ) (xs : List Axis) where
-  inside : (j : ℕ) → In j (orderTo w (length xs)) → j < length (extents xs)
-  inside j m = rw (length-extents xs) (order-below w (length xs) j m)
-
-  pub whole-total : total (extents xs) ≡ total (extents (wholePlan w xs))
-  whole-total =
-      sym (prod-all (extents xs))
-      ∙ rw (length-extents xs) (sym (prod-order w (λ (a : ℕ). getD (extents xs) a 0) (length xs)))
-      ∙ sym (prod-pick (extents xs) (orderTo w (length xs)))
-      ∙ ap total (sym (extents-pick xs (orderTo w (length xs))))
-      ∙ plan-total (inOrder w xs)
-
-  all-pos : NoZero (extents xs) → NoZero (extents (inOrder w xs))
-  all-pos p = rw (extents-pick xs (orderTo w (length xs))) (pick-pos (extents xs) (orderTo w (length xs)) inside p)
-
-  -- what is told, before it is put in its places
-  told-length : (cs : List ℕ) → NoZero (extents xs) → Within (extents (wholePlan w xs)) cs → length (unravelIndex (inOrder w xs) cs) ≡ length (orderTo w (length xs))
-  told-length cs p r =
-      inr-length (extents (inOrder w xs)) (unravelIndex (inOrder w xs) cs) (unravel-range (inOrder w xs) cs (all-pos p) r)
-      ∙ length-extents (inOrder w xs) ∙ length-pick noAxis xs (orderTo w (length xs))
-
-  picked : (cs : List ℕ) → NoZero (extents xs) → Within (extents (wholePlan w xs)) cs → pick 0 (wholeUnravel w xs cs) (orderTo w (length xs)) ≡ unravelIndex (inOrder w xs) cs
-  picked cs p r =
-      pick-place 0 (replicate (length xs) 0) (orderTo w (length xs)) (unravelIndex (inOrder w xs) cs) (order-nodup w (length xs))
-      (λ j m. rw (length-replicate {A = ℕ} (length xs) 0) (order-below w (length xs) j m)) (told-length cs p r)
-
-  pub whole-unravel-range : (cs : List ℕ) → NoZero (extents xs) → Within (extents (wholePlan w xs)) cs → Within (extents xs) (wholeUnravel w xs cs)
-  whole-unravel-range cs p r =
-      at-inr (extents xs) (wholeUnravel w xs cs)
-      (length-place 0 (replicate (length xs) 0) (orderTo w (length xs)) (unravelIndex (inOrder w xs) cs) ∙ length-replicate (length xs) 0 ∙ sym (length-extents xs))
-      (λ j h. inr-pick (extents xs) (wholeUnravel w xs cs) (orderTo w (length xs)) j (order-has w (length xs) j (rw (length-extents xs) at h))
-      (rw (picked cs p r, ← (extents-pick xs (orderTo w (length xs)))) (unravel-range (inOrder w xs) cs (all-pos p) r)))
-
-  ordered : (is : List ℕ) → Within (extents xs) is → Within (extents (inOrder w xs)) (pick 0 is (orderTo w (length xs)))
-  ordered is r = rw (extents-pick xs (orderTo w (length xs))) (pick-inr (extents xs) is (orderTo w (length xs)) inside r)
-
-  pub whole-index-range : (is : List ℕ) → Within (extents xs) is → Within (extents (wholePlan w xs)) (wholeIndex w xs is)
-  whole-index-range is r = plan-range (inOrder w xs) (pick 0 is (orderTo w (length xs))) (ordered is r)
-
-  pub whole-index-unravel : (cs : List ℕ) → NoZero (extents xs) → Within (extents (wholePlan w xs)) cs → wholeIndex w xs (wholeUnravel w xs cs) ≡ cs
-  whole-index-unravel cs p r = ap (planIndex (inOrder w xs)) (picked cs p r) ∙ plan-unravel (inOrder w xs) cs (all-pos p) r
-
-  pub whole-unravel-index : (is : List ℕ) → Within (extents xs) is → wholeUnravel w xs (wholeIndex w xs is) ≡ is
-  whole-unravel-index is r =
-      ap (place (replicate (length xs) 0) (orderTo w (length xs))) (unravel-plan (inOrder w xs) (pick 0 is (orderTo w (length xs))) (ordered is r))
-      ∙ place-pick 0 is (replicate (length xs) 0) (orderTo w (length xs)) (length-replicate (length xs) 0 ∙ sym long)
-      (λ j h. order-has w (length xs) j (rw long at h))
-    where
-      long : length is ≡ length xs
-      long = inr-length (extents xs) is r ∙ length-extents xs
-
-  -- offsets, at each operand
-  pub whole-dot : (k : ℕ) (cs : List ℕ) → NoZero (extents xs) → Within (extents (wholePlan w xs)) cs → dot cs (row k (wholePlan w xs)) ≡ dot (wholeUnravel w xs cs) (row k xs)
-  whole-dot k cs p r =
-      plan-dot k (inOrder w xs) cs (all-pos p) r
-      ∙ ap (λ (l : List ℕ). dot l (row k (inOrder w xs))) (sym (picked cs p r))
-      ∙ ap (dot (pick 0 (wholeUnravel w xs cs) (orderTo w (length xs)))) (row-pick k xs (orderTo w (length xs)))
-      ∙ dot-order w (length xs) (wholeUnravel w xs cs) (row k xs)
-      (length-place 0 (replicate (length xs) 0) (orderTo w (length xs)) (unravelIndex (inOrder w xs) cs) ∙ length-replicate (length xs) 0) (length-row k xs)
+    -- offsets, at each operand
+    pub told-dot : (k : ℕ) → dot cs (row k (fusedAxes ys)) ≡ dot (unravelBy o xs cs) (row k xs)
+    told-dot k =
+        plan-dot k ys cs (order-nozero z) r
+        ∙ ap (λ (l : List ℕ). dot l (row k ys)) (sym picked)
+        ∙ ap (dot (pick 0 (unravelBy o xs cs) o)) (row-pick k xs o)
+        ∙ picked-dot (unravelBy o xs cs) (row k xs) o (long ∙ sym (length-row k xs)) (rw long p)

@@ -1,15 +1,16 @@
--- Mixed radix telling along fused axes, over extents alone. No record of groups is needed: an axis whose fused extent is not 1 takes the next counter, any other goes on with what is left of the last.
+-- Mixed radix along fused axes, over extents alone: `ravel` and `unravel` undo each other and stay in range. No record of groups is needed:
+-- an axis whose fused extent is not 1 takes the next counter, any other goes on with what is left of the last.
 -- Assumes nothing.
-use mathlib.Core.Path.{_≡_, refl, sym, ap, _∙_, subst}
-use mathlib.Core.Bool.{Bool, true, false, cond}
+use mathlib.Core.Path.{_≡_, refl, sym, ap}
+use mathlib.Core.Bool.{false}
 use mathlib.Core.List.{List, [], _∷_}
-use Prim.Native.Nat.{ℕ, zero, suc, _+_, _*_, _/_, _%_, _≤_, _<_}
-use native.Mathlib.Nat.{mod-lt, div-add-mod', div-lt-iff-lt-mul, mul-comm, mul-assoc, mul-left-comm, mul-pos, mul-one, one-mul}
+use Prim.Native.Nat.{ℕ, _*_, _/_, _<_}
+use native.Mathlib.Nat.{mod-lt, div-add-mod', div-lt-iff-lt-mul}
 use native.Mathlib.Omega.{arith}
 use lib.Dec.{eqb}
 use lib.Arith.{digits-div, digits-mod, digits-lt, lt-one}
 use Rattle.strided.specs.Base.{unless}
-use Rattle.strided.specs.Index.{ravelStep, unravel, hd, ravel, Raveled, tl}
+use Rattle.strided.specs.Index.{unravel, ravel}
 use Rattle.strided.specs.Layout.{total, Within, NoZero}
 
 -- the extents other than 1
@@ -17,7 +18,8 @@ abbrev pub kept : List ℕ → List ℕ
 kept [] = []
 kept (f ∷ fs) = unless (eqb f 1) f (kept fs)
 
--- `Run es fs l`: each fused extent that is not 1 is its axis' own extent times those of the run of 1s behind it, and l is the product of the extents over the run of 1s in front
+-- `Run es fs l`: each fused extent that is not 1 is its axis' own extent times those of the run of 1s behind it, and l is the product of the
+-- extents over the run of 1s in front
 pub data Run : List ℕ → List ℕ → ℕ → Type 0 where
   done : Run [] [] 1
   more : {e l : ℕ} {es fs : List ℕ} → Run es fs l → Run (e ∷ es) (1 ∷ fs) (l * e)
@@ -63,7 +65,7 @@ unravel-ravel (top q g s) [] r = absurd r
 unravel-ravel (top {e} {f} {l} {es} {fs} q g s) (i ∷ is) r =
     rw (q, digits-mod ((ravel es fs is) .left) (r .0), digits-div ((ravel es fs is) .left) (r .0), unravel-ravel s is (r .1))
 
--- the run-total is kept
+-- the total is kept
 pub run-total : {es fs : List ℕ} {l : ℕ} → Run es fs l → total es ≡ l * total fs
 run-total done = refl
 run-total (more {e} {l} {es} {fs} s) = rw (run-total s) (omega arith)

@@ -1,20 +1,20 @@
--- One operand's strides along fused axes: the offset of a plan index is the offset of the index told.
+-- One operand's strides along fused axes: what the strides of joined axes are to each other, and that the offset of a plan index is the
+-- offset of the index told.
 -- Assumes nothing.
-use mathlib.Core.Path.{_≡_, refl, sym, ap, _∙_, subst}
+use mathlib.Core.Path.{_≡_, ap, _∙_, subst}
 use mathlib.Core.Logic.{_⊎_, inl, inr}
-use mathlib.Core.Bool.{Bool, true, false, cond}
+use mathlib.Core.Bool.{false}
 use mathlib.Core.List.{List, [], _∷_}
-use Prim.Native.Nat.{ℕ, zero, suc, _+_, _*_, _/_, _%_, _≤_, _<_}
-use native.Mathlib.Nat.{mod-lt, div-lt-iff-lt-mul, mod-add-div', mod-eq-of-lt, div-eq-of-lt}
-use native.Mathlib.Omega.{arith}
+use Prim.Native.Nat.{ℕ, _*_, _/_, _%_, _<_}
+use native.Mathlib.Nat.{one-mul, div-lt-iff-lt-mul, mod-add-div', mod-eq-of-lt, div-eq-of-lt}
 use lib.Dec.{eqb}
 use lib.Arith.{lt-one}
-use lib.IntN.{ℤ, pos, negsuc, _+ℤ_, _*ℤ_, +ℤ-idl, +ℤ-idr, +ℤ-assoc, zero-*ℤ}
+use lib.IntN.{ℤ, pos, _+ℤ_, _*ℤ_, +ℤ-idl, +ℤ-idr, +ℤ-assoc, zero-*ℤ}
 use Rattle.laws.specs.Base.Integers.{add-*ℤ, *ℤ-assoc}
 use Rattle.laws.specs.Fuse.Radix.{kept, Run}
 use Rattle.laws.specs.Fuse.Radix.Run.{done, more, top}
 use Rattle.strided.specs.Base.{unless}
-use Rattle.strided.specs.Index.{hd, tl, unravel}
+use Rattle.strided.specs.Index.{unravel}
 use Rattle.strided.specs.Layout.{Within, NoZero, dot}
 
 abbrev pub hdZ : List ℤ → ℤ
@@ -32,27 +32,24 @@ abbrev pub Link : ℕ → ℤ → ℕ → List ℤ → Type 0
 Link e s l ss = (l ≡ 1) ⊎ (hdZ ss ≡ pos e *ℤ s)
 
 -- `Run`, with an operand's strides that allow it
-pub data Steps : List ℕ → List ℕ → List ℤ → ℕ → Type 0 where
-  sdone : Steps [] [] [] 1
-  smore : {e l : ℕ} {s : ℤ} {es fs : List ℕ} {ss : List ℤ} → Link e s l ss → Steps es fs ss l → Steps (e ∷ es) (1 ∷ fs) (s ∷ ss) (l * e)
-  stop : {e f l : ℕ} {s : ℤ} {es fs : List ℕ} {ss : List ℤ} → eqb f 1 ≡ false → f ≡ l * e → Link e s l ss → Steps es fs ss l → Steps (e ∷ es) (f ∷ fs) (s ∷ ss) 1
+pub data StrideRun : List ℕ → List ℕ → List ℤ → ℕ → Type 0 where
+  sdone : StrideRun [] [] [] 1
+  smore : {e l : ℕ} {s : ℤ} {es fs : List ℕ} {ss : List ℤ} → Link e s l ss → StrideRun es fs ss l → StrideRun (e ∷ es) (1 ∷ fs) (s ∷ ss) (l * e)
+  stop : {e f l : ℕ} {s : ℤ} {es fs : List ℕ} {ss : List ℤ} → eqb f 1 ≡ false → f ≡ l * e → Link e s l ss → StrideRun es fs ss l → StrideRun (e ∷ es) (f ∷ fs) (s ∷ ss) 1
 
-pub run-of : {es fs : List ℕ} {ss : List ℤ} {l : ℕ} → Steps es fs ss l → Run es fs l
+pub run-of : {es fs : List ℕ} {ss : List ℤ} {l : ℕ} → StrideRun es fs ss l → Run es fs l
 run-of sdone = done
 run-of (smore k r) = more (run-of r)
 run-of (stop q g k r) = top q g (run-of r)
 
 carry : (e l x : ℕ) (s : ℤ) (ss : List ℤ) → Link e s l ss → x < l * e → pos (x % e) *ℤ s +ℤ pos (x / e) *ℤ hdZ ss ≡ pos x *ℤ s
 carry e l x s ss (inl k) h =
-    let h′ : x < e = subst (λ (n : ℕ). x < n) (ap (λ (n : ℕ). n * e) k ∙ one-mul′ e) h in
+    let h′ : x < e = subst (λ (n : ℕ). x < n) (ap (λ (n : ℕ). n * e) k ∙ one-mul e) h in
     rw (mod-eq-of-lt h′, div-eq-of-lt h′, zero-*ℤ (hdZ ss), +ℤ-idr (pos x *ℤ s))
-  where
-    one-mul′ : (n : ℕ) → 1 * n ≡ n
-    one-mul′ n = omega arith
 carry e l x s ss (inr k) h =
     rw (k, ← (*ℤ-assoc (pos (x / e)) (pos e) s), ← (add-*ℤ (pos (x % e)) (pos (x / e * e)) s)) (ap (λ (n : ℕ). pos n *ℤ s) (mod-add-div' x e))
 
-pub dot-unravel : {es fs : List ℕ} {ss : List ℤ} {l : ℕ} → Steps es fs ss l → (cs : List ℕ) (x : ℕ) → NoZero es → x < l → Within (kept fs) cs
+pub dot-unravel : {es fs : List ℕ} {ss : List ℤ} {l : ℕ} → StrideRun es fs ss l → (cs : List ℕ) (x : ℕ) → NoZero es → x < l → Within (kept fs) cs
     → dot (unravel es fs cs x) ss ≡ pos x *ℤ hdZ ss +ℤ dot cs (keptBy fs ss)
 dot-unravel sdone [] x p h r = rw (lt-one h)
 dot-unravel sdone (c ∷ cs) x p h r = absurd r

@@ -1,17 +1,19 @@
--- The successor of counters hands out the blocks in order. Assumes none.
+-- CHAIN: the successor of counters hands out the counters of all blocks, in document 01's order, and then ends.
+-- Assumes nothing.
 use mathlib.Core.Path.{_≡_, refl, sym, ap, ap₂, _∙_, subst}
 use mathlib.Core.Bool.{Bool, true, false, cond}
-use mathlib.Core.List.{List, [], _∷_, _++_, map}
-use Prim.Native.Nat.{ℕ, zero, suc, _+_, _-_, _*_, _/_, _≤_, _<_, min}
+use mathlib.Core.List.{List, [], _∷_, map}
+use Prim.Native.Nat.{ℕ, zero, suc, _+_, _*_, _/_, _≤_, _<_}
 use native.Mathlib.Nat.{add-div-right, zero-div, div-eq-of-lt-le}
 use native.Mathlib.Omega.{arith}
-use lib.Dec.{ltb, leb, eqb}
+use lib.Dec.{ltb}
 use borrow.Author.Tests.{ltb-true, ltb-false, lt-ltb, le-ltb}
 use mathlib.Core.Option.{Option, none, some}
 use Rattle.strided.specs.Base.{orElse, over, run}
-use Rattle.strided.specs.Walk.{CutAxis, ax, startsFrom, startsOf, lenAt, tiles, inner, inTile, counters, nextIn, nextStart, nextInner, nextTile, tileOf, next, zeros}
-use Rattle.laws.specs.Walk.States.{begin, Wide, Full}
-use Rattle.laws.specs.Base.Trace.{All, all-map, all-over, Trace, trace-map, trace-over}
+use Rattle.strided.specs.Walk.{CutAxis, ax, startsFrom, startsOf, lenAt, tiles, inner, inTile, counters, nextIn, nextStart, nextInner, nextTile, tileOf, next}
+use Rattle.laws.specs.Base.Lists.{All, all-unit, all-map, all-over, run-all}
+use Rattle.laws.specs.Base.Trace.{Trace, trace-map, trace-over}
+use Rattle.laws.specs.Walk.States.{begin, Wide}
 
 -- ---- one axis
 
@@ -40,10 +42,6 @@ trace-starts (suc f) e w s m hw h k q =
     go false p ih = rw (starts-none f e w (s + w) (ltb-false (s + w) e p)) (rw p)
 
 -- ---- one axis over another
-
-all-unit : {A : Type 0} (xs : List A) → All (λ (x : A). Unit {0}) xs
-all-unit [] = tt
-all-unit (x ∷ xs) = (tt, all-unit xs)
 
 odometer : (f : ℕ → Option ℕ) (d : ℕ) (ds : List ℕ) (g : List ℕ → Option (List ℕ)) (m : Option (List ℕ)) (l : List (List ℕ)) (h : List ℕ → Option (List ℕ))
     → ((k : ℕ) (v : List ℕ) → h (k ∷ v) ≡ orElse (orElse none (λ v′. d ∷ v′) (g v)) (λ k′. k′ ∷ v) (f k))
@@ -106,10 +104,6 @@ tiles-all (ax e w ∷ axs) hw =
 
 -- ---- inside a tile
 
-pub run-all : (n s lo hi : ℕ) → lo ≤ s → s + n ≤ hi → All (λ k. (lo ≤ k) × (k < hi)) (run s n)
-run-all zero s lo hi h k = tt
-run-all (suc n) s lo hi h k = ((h, omega arith), run-all n (suc s) lo hi (omega arith) (omega arith))
-
 -- all of a tile on one axis lies in that tile
 same-tile : (w s k : ℕ) → 0 < w → s / w * w ≡ s → s ≤ k → k < s + w → k / w * w ≡ s
 same-tile w s k hw e l h =
@@ -157,8 +151,3 @@ chain axs hw =
     (trace-over (nextTile axs) (next axs) (λ t. t) (inTile axs) (IsTile axs)
     (λ t ht. subst (λ (m : Option (List ℕ)). Trace (next axs) (some t) (inTile axs t) m) (same-end (nextTile axs t)) (one-tile axs hw t ht))
     (begin axs) none (tiles axs) (tiles-all axs hw) (tiles-trace axs hw))
-
--- with no zero extent a walk begins at the zeros
-pub begin-full : (axs : List CutAxis) → Full axs → begin axs ≡ some (zeros axs)
-begin-full [] h = refl
-begin-full (ax e w ∷ axs) h = rw (lt-ltb 0 e (h .0), begin-full axs (h .1))

@@ -1,56 +1,30 @@
--- Every index within the extents is a cell of one block, once, and none else is. Assumes none.
-use mathlib.Core.Path.{_≡_, refl, sym, ap, ap₂, _∙_, subst}
+-- COVER: every index within the extents is a cell of the walk's blocks exactly once, and no other index is, whatever the block sizes.
+-- Assumes nothing.
+use mathlib.Core.Path.{_≡_, refl, sym, ap, ap₂, _∙_}
 use mathlib.Core.Bool.{Bool, true, false, cond}
-use mathlib.Core.Logic.{_⊎_, inl, inr}
 use mathlib.Core.List.{List, [], _∷_, _++_, map, append-nil}
-use Prim.Native.Nat.{ℕ, zero, suc, _+_, _-_, _*_, _≤_, _<_, min}
-use native.Mathlib.Nat.{eq-or-lt-of-le, zero-add, add-zero, suc-add, sub-zero}
+use Prim.Native.Nat.{ℕ, zero, suc, _+_, _-_, _*_, _≤_, _<_}
+use native.Mathlib.Nat.{sub-zero}
 use native.Mathlib.Omega.{arith}
-use lib.Dec.{ltb, leb, eqb}
-use borrow.Author.Tests.{ltb-true, ltb-false, leb-true, leb-false, lt-ltb, le-ltb, eq-eqb, ne-eqb}
+use lib.Dec.{ltb, leb}
+use borrow.Author.Tests.{ltb-true, ltb-false, leb-true, leb-false, lt-ltb}
 use Rattle.strided.specs.Base.{over, run}
-use Rattle.laws.specs.Base.Counting.{sum, same, sameList, count, inRange}
-use Rattle.strided.specs.Walk.{CutAxis, ax, startsFrom, startsOf, lenAt, tiles, inner, inTile, counters, Block, block, blockAt, blocksOf}
+use Rattle.strided.specs.Layout.{Within}
+use Rattle.strided.specs.Walk.{CutAxis, ax, cutAxes, startsFrom, startsOf, lenAt, tiles, inner, inTile, counters, blockAt, blocksOf}
+use Rattle.laws.specs.Base.Lists.{run-append}
+use Rattle.laws.specs.Base.Sums.{sum, sum-cong, sum-zero, sum-scale, sum-scale-right, sum-over, sum-map}
+use Rattle.laws.specs.Base.Counting.{same, sameList, count, run-whole, count-row, count-prod, nil-row, nil-prod}
 use Rattle.laws.specs.Walk.States.{cells, Inside, Wide}
-use Rattle.laws.specs.Base.Sums.{sum-append, sum-cong, sum-scale, sum-scale-right, sum-over, sum-map}
+use Rattle.laws.specs.Walk.Cuts.{axes-wide, cut-inside}
 
--- ---- runs
+-- 1 within the extents, else 0
+abbrev pub inRange : List CutAxis → List ℕ → ℕ
+inRange [] [] = 1
+inRange [] (x ∷ xs) = 0
+inRange (ax e w ∷ axs) [] = 0
+inRange (ax e w ∷ axs) (x ∷ xs) = cond (ltb x e) 1 0 * inRange axs xs
 
-pub same-eq : (x y : ℕ) → x ≡ y → same x y ≡ 1
-same-eq x y e = rw (eq-eqb x y e)
-
-pub same-ne : (x y : ℕ) → (x ≡ y → ⊥) → same x y ≡ 0
-same-ne x y n = rw (ne-eqb x y n)
-
-run-below : (n s x : ℕ) → x < s → sum (run s n) (same x) ≡ 0
-run-below zero s x h = refl
-run-below (suc n) s x h = omega (arith, same-ne x s (λ (e : x ≡ s). omega arith), run-below n (suc s) x (omega arith))
-
-run-above : (n s x : ℕ) → s + n ≤ x → sum (run s n) (same x) ≡ 0
-run-above zero s x h = refl
-run-above (suc n) s x h = omega (arith, same-ne x s (λ (e : x ≡ s). omega arith), run-above n (suc s) x (omega arith))
-
-pub run-in : (n s x : ℕ) → s ≤ x → x < s + n → sum (run s n) (same x) ≡ 1
-run-in zero s x l h = omega arith
-run-in (suc n) s x l h = go (eq-or-lt-of-le l) (λ (q : s < x). run-in n (suc s) x q (omega arith))
-  where
-    go : (s ≡ x) ⊎ (s < x) → (s < x → sum (run (suc s) n) (same x) ≡ 1) → sum (run s (suc n)) (same x) ≡ 1
-    go (inl e) ih = omega (arith, same-eq x s (sym e), run-below n (suc s) x (omega arith))
-    go (inr q) ih = omega (arith, same-ne x s (λ (e : x ≡ s). omega arith), ih q)
-
-run-whole : (e x : ℕ) → sum (run 0 e) (same x) ≡ cond (ltb x e) 1 0
-run-whole e x = go (ltb x e) refl
-  where
-    go : (b : Bool) → ltb x e ≡ b → sum (run 0 e) (same x) ≡ cond b 1 0
-    go true h = run-in e 0 x (omega arith) (omega (arith, ltb-true x e h))
-    go false h = run-above e 0 x (omega (arith, ltb-false x e h))
-
-run-append : (m n s : ℕ) → run s (m + n) ≡ run s m ++ run (s + m) n
-run-append zero n s = simp (zero-add, add-zero)
-run-append (suc m) n s =
-    let k : suc s + m ≡ s + suc m = omega arith in
-    ap (run s) (suc-add m n)
-    ∙ ap {B = List ℕ} (λ r. s ∷ r) (run-append m n (suc s) ∙ ap (λ j. run (suc s) m ++ run j n) k)
+-- ---- one axis
 
 join : (e w s : ℕ) → s < e → run s (lenAt e w s) ++ run (s + w) (e - (s + w)) ≡ run s (e - s)
 join e w s h = go (leb w (e - s)) refl
@@ -82,7 +56,7 @@ tiles-run (suc f) e w s hw h = go (ltb s e) refl (tiles-run f e w (s + w) hw (om
         ap (run s) z
 
 -- how often x is met on one axis
-pub axis-sum : (e w x : ℕ) → 0 < w → sum (startsOf e w) (λ s. sum (run s (lenAt e w s)) (same x)) ≡ cond (ltb x e) 1 0
+axis-sum : (e w x : ℕ) → 0 < w → sum (startsOf e w) (λ s. sum (run s (lenAt e w s)) (same x)) ≡ cond (ltb x e) 1 0
 axis-sum e w x hw =
     sym (sum-over (startsOf e w) (λ s. run s (lenAt e w s)) (same x))
     ∙ ap (λ l. sum l (same x)) (tiles-run e e w 0 hw (omega arith))
@@ -103,31 +77,9 @@ tile-sum e w axs f r g h =
     ∙ sum-scale-right (startsOf e w) r (g t))
     ∙ sum-scale (tiles axs) g (sum (startsOf e w) r)
 
-pub count-row : (x : ℕ) (xs d v : List ℕ) → count (x ∷ xs) (map (λ k. k ∷ v) d) ≡ sum d (same x) * sameList xs v
-count-row x xs d v = sum-map d (λ k. k ∷ v) (sameList (x ∷ xs)) ∙ sum-scale-right d (same x) (sameList xs v)
-
--- x ∷ xs among the lists k ∷ v, for k of a list and v of another
-count-prod : (x : ℕ) (xs : List ℕ) (l : List (List ℕ)) (d : List ℕ)
-    → count (x ∷ xs) (over l (λ v. map (λ k. k ∷ v) d)) ≡ sum d (same x) * count xs l
-count-prod x xs l d =
-    sum-over l (λ v. map (λ k. k ∷ v) d) (sameList (x ∷ xs))
-    ∙ sum-cong l (λ v. count (x ∷ xs) (map (λ k. k ∷ v) d)) (λ v. sum d (same x) * sameList xs v) (λ v. count-row x xs d v)
-    ∙ sum-scale l (sameList xs) (sum d (same x))
-
--- the empty index is none of them
-pub sum-zero : {A : Type 0} (l : List A) (f : A → ℕ) → ((x : A) → f x ≡ 0) → sum l f ≡ 0
-sum-zero [] f h = refl
-sum-zero (x ∷ xs) f h = omega (arith, h x, sum-zero xs f h)
-
-pub nil-row : (d v : List ℕ) → count [] (map (λ k. k ∷ v) d) ≡ 0
-nil-row d v = sum-map d (λ k. k ∷ v) (sameList []) ∙ sum-zero d (λ k. 0) (λ k. refl)
-
-count-nil : (l : List (List ℕ)) (d : List ℕ) → count [] (over l (λ v. map (λ k. k ∷ v) d)) ≡ 0
-count-nil l d = sum-over l (λ v. map (λ k. k ∷ v) d) (sameList []) ∙ sum-zero l (λ v. count [] (map (λ k. k ∷ v) d)) (λ v. nil-row d v)
-
 inner-nil : (e w : ℕ) (axs : List CutAxis) (t : List ℕ) → count [] (inner (ax e w ∷ axs) t) ≡ 0
 inner-nil e w axs [] = refl
-inner-nil e w axs (s ∷ t) = count-nil (inner axs t) (run s (lenAt e w s))
+inner-nil e w axs (s ∷ t) = nil-prod (inner axs t) (run s (lenAt e w s))
 
 -- every index of every tile
 pub inner-sum : (axs : List CutAxis) (x : List ℕ) → Wide axs → sum (tiles axs) (λ t. count x (inner axs t)) ≡ inRange axs x
@@ -145,7 +97,7 @@ nil-tile e w axs (s ∷ t) =
     sum-map (inner axs t) (λ v. s ∷ v) (λ c. count [] (cells (blockAt (ax e w ∷ axs) c)))
     ∙ sum-zero (inner axs t) (λ v. count [] (map (λ k. k ∷ v) (run s (lenAt e w s)))) (λ v. nil-row (run s (lenAt e w s)) v)
 
--- COVER, as a count
+-- how often an index is a cell of the blocks
 pub cover : (axs : List CutAxis) (x : List ℕ) → Wide axs → count x (over (blocksOf axs) cells) ≡ inRange axs x
 cover axs x h =
     sum-over (blocksOf axs) cells (sameList x)
@@ -186,9 +138,19 @@ one-inside (ax e w ∷ axs) (x ∷ xs) h = go (ltb x e) refl h (one-inside axs x
     go true q l ih = (ltb-true x e q, ih (omega arith))
     go false q l ih = absurd (omega arith)
 
--- COVER: each index within the extents is a cell once, and no other index is
-pub met-once : (axs : List CutAxis) (x : List ℕ) → Wide axs → Inside axs x → count x (over (blocksOf axs) cells) ≡ 1
-met-once axs x h i = cover axs x h ∙ inside-one axs x i
+pub inRange-one : (axs : List CutAxis) (x : List ℕ) → inRange axs x ≤ 1
+inRange-one [] [] = omega arith
+inRange-one [] (x ∷ xs) = omega arith
+inRange-one (ax e w ∷ axs) [] = omega arith
+inRange-one (ax e w ∷ axs) (x ∷ xs) = go (ltb x e) (inRange-one axs xs)
+  where
+    go : (b : Bool) → inRange axs xs ≤ 1 → cond b 1 0 * inRange axs xs ≤ 1
+    go true h = omega arith
+    go false h = omega arith
 
-pub met-inside : (axs : List CutAxis) (x : List ℕ) → Wide axs → 0 < count x (over (blocksOf axs) cells) → Inside axs x
-met-inside axs x h m = one-inside axs x (rw (cover axs x h) at m)
+-- COVER, of document 01's blocks, for any extents and any block sizes
+pub met-once : (es bs x : List ℕ) → Within es x → count x (over (blocksOf (cutAxes es bs)) cells) ≡ 1
+met-once es bs x h = cover (cutAxes es bs) x (axes-wide es bs) ∙ inside-one (cutAxes es bs) x (cut-inside es _ x .1 h)
+
+pub met-within : (es bs x : List ℕ) → 0 < count x (over (blocksOf (cutAxes es bs)) cells) → Within es x
+met-within es bs x m = cut-inside es _ x .0 (one-inside (cutAxes es bs) x (rw (cover (cutAxes es bs) x (axes-wide es bs)) at m))

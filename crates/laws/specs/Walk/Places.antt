@@ -1,21 +1,23 @@
--- The places of a walk and the plan indices met there. Assumes none.
-use mathlib.Core.Path.{_≡_, refl, sym, ap, ap₂, _∙_, subst}
-use mathlib.Core.Logic.{_↔_, _⊎_, inl, inr}
-use mathlib.Core.Bool.{Bool, true, false, cond}
-use mathlib.Core.List.{List, [], _∷_, _++_, map}
-use Prim.Native.Nat.{ℕ, zero, suc, _+_, _-_, _*_, _≤_, _<_, min}
+-- THE PLACES OF A WALK: each meets one plan index within the extents, each such index is met at exactly one, and the walk has ended exactly
+-- when all were met. Demand 3 for the plan alone.
+-- Assumes nothing.
+use mathlib.Core.Path.{_≡_, refl, sym, ap, ap₂, _∙_}
+use mathlib.Core.Logic.{_↔_}
+use mathlib.Core.Bool.{Bool, true, false}
+use mathlib.Core.List.{List, [], _∷_}
+use Prim.Native.Nat.{ℕ, _+_, _-_, _≤_, _<_}
 use native.Mathlib.Omega.{arith}
 use lib.Dec.{ltb}
-use borrow.Author.Tests.{ltb-true, ltb-false, lt-ltb}
+use borrow.Author.Tests.{ltb-true, ltb-false}
 use mathlib.Core.Option.{Option, none, some}
-use Rattle.strided.specs.Base.{nth, over, run}
-use Rattle.laws.specs.Base.Counting.{sum, same, sameList, count, inRange}
-use Rattle.strided.specs.Walk.{CutAxis, ax, lenAt, counters, lengthAt, block, blockAt, blocksOf, cellAt}
+use Rattle.strided.specs.Base.{run}
+use Rattle.strided.specs.Walk.{CutAxis, ax, counters, lengthAt, block, blockAt, blocksOf, cellAt}
+use Rattle.laws.specs.Base.Lists.{nth-before, run-all}
+use Rattle.laws.specs.Base.Sums.{sum, mul-pos, sum-over, sum-map, sum-pos, pos-sum, sum-twice}
+use Rattle.laws.specs.Base.Counting.{same, sameList, count, run-in, nil-row, count-row, sameList-refl, sameList-pos, all-counted}
 use Rattle.laws.specs.Walk.States.{cells, Wide, Inside, stateAfter}
-use Rattle.laws.specs.Base.Sums.{sum-over, sum-map}
-use Rattle.laws.specs.Walk.Cover.{same-eq, run-in, nil-row, count-row, cover, one-inside, inside-one}
-use Rattle.laws.specs.Walk.Chain.{run-all}
-use Rattle.laws.specs.Walk.Reach.{mul-pos, sameList-refl, sameList-pos, same-pos, sum-pos, pos-sum, all-pos, state-nth, reach}
+use Rattle.laws.specs.Walk.Cover.{inRange, cover, one-inside, inside-one, inRange-one}
+use Rattle.laws.specs.Walk.Reach.{state-nth, reach}
 
 -- ---- the cells of one block
 
@@ -29,37 +31,13 @@ cells-place [] n (x ∷ xs) hn h = absurd (omega arith)
 cells-place (s ∷ v) n [] hn h = absurd (omega (arith, nil-row (run s n) v))
 cells-place (s ∷ v) n (x ∷ xs) hn h =
     let p = mul-pos (sum (run s n) (same x)) (sameList xs v) (rw (count-row x xs (run s n) v) at h) in
-    let q = all-pos (λ k. (s ≤ k) × (k < s + n)) (run s n) x (run-all n s s (s + n) (omega arith) (omega arith)) (p .0) in
+    let q = all-counted (λ k. (s ≤ k) × (k < s + n)) (run s n) x (run-all n s s (s + n) (omega arith) (omega arith)) (p .0) in
     (x - s, omega arith, ap₂ (λ a b. a ∷ b) (omega arith) (sameList-pos xs v (p .1)))
 
--- ---- a sum with two positive terms
-
-twice : {A : Type 0} (f : A → ℕ) (l : List A) (i j : ℕ) (x y : A) → nth l i ≡ some x → nth l j ≡ some y → i < j → 0 < f x → 0 < f y → 1 < sum l f
-twice f [] i j x y p q h hx hy = let z : _≡_ {A = ℕ} 0 1 = cc in absurd (omega arith)
-twice f (a ∷ l) i zero x y p q h hx hy = absurd (omega arith)
-twice f (a ∷ l) zero (suc j) x y p q h hx hy =
-    let e : a ≡ x = cc in
-    omega (arith, ap f e, pos-sum f l j y q hy)
-twice f (a ∷ l) (suc i) (suc j) x y p q h hx hy = omega (arith, twice f l i j x y p q (omega arith) hx hy)
-
-in-range-one : (axs : List CutAxis) (x : List ℕ) → inRange axs x ≤ 1
-in-range-one [] [] = omega arith
-in-range-one [] (x ∷ xs) = omega arith
-in-range-one (ax e w ∷ axs) [] = omega arith
-in-range-one (ax e w ∷ axs) (x ∷ xs) = go (ltb x e) (in-range-one axs xs)
-  where
-    go : (b : Bool) → inRange axs xs ≤ 1 → cond b 1 0 * inRange axs xs ≤ 1
-    go true h = omega arith
-    go false h = omega arith
+-- ---- the cells of all blocks
 
 cover-sum : (axs : List CutAxis) (y : List ℕ) → Wide axs → sum (counters axs) (λ c. count y (cells (blockAt axs c))) ≡ inRange axs y
 cover-sum axs y hw = sym (sum-over (blocksOf axs) cells (sameList y) ∙ sum-map (counters axs) (blockAt axs) (λ b. count y (cells b))) ∙ cover axs y hw
-
-nth-before : {A : Type 0} (l : List A) (m i : ℕ) (x : A) → nth l m ≡ none → nth l i ≡ some x → i < m
-nth-before [] m i x p q = let z : _≡_ {A = ℕ} 0 1 = cc in absurd (omega arith)
-nth-before (a ∷ l) zero i x p q = let z : _≡_ {A = ℕ} 0 1 = cc in absurd (omega arith)
-nth-before (a ∷ l) (suc m) zero x p q = omega arith
-nth-before (a ∷ l) (suc m) (suc i) x p q = omega (arith, nth-before l m i x p q)
 
 cell-inj : (axs : List CutAxis) (c : List ℕ) (k j : ℕ) → k < lengthAt axs c → j < lengthAt axs c → cellAt c k ≡ cellAt c j → k ≡ j
 cell-inj [] [] k j hk hj e = omega arith
@@ -75,14 +53,14 @@ pub record MeetsPlan (axs : List CutAxis) (m k : ℕ) (y : List ℕ) : Type 0 wh
   pub below : k < lengthAt axs c
   pub index : y ≡ cellAt c k
 
-length-inside : (axs : List CutAxis) (c : List ℕ) → Wide axs → Inside axs c → 0 < lengthAt axs c
-length-inside [] c hw i = omega arith
-length-inside (ax e w ∷ axs) [] hw i = absurd i
-length-inside (ax e w ∷ axs) (s ∷ v) hw i = omega (arith, hw .0, i .0)
+length-within : (axs : List CutAxis) (c : List ℕ) → Wide axs → Inside axs c → 0 < lengthAt axs c
+length-within [] c hw i = omega arith
+length-within (ax e w ∷ axs) [] hw i = absurd i
+length-within (ax e w ∷ axs) (s ∷ v) hw i = omega (arith, hw .0, i .0)
 
 -- every block has length 1 or more
 pub length-pos : (axs : List CutAxis) (m : ℕ) (c : List ℕ) → Wide axs → stateAfter axs m ≡ some c → 0 < lengthAt axs c
-length-pos axs m c hw e = length-inside axs c hw (reach axs c hw .0 (m, e) .0)
+length-pos axs m c hw e = length-within axs c hw (reach axs c hw .0 (m, e) .0)
 
 module _ (axs : List CutAxis) (hw : Wide axs) where
   -- how often y is a cell of the block at c
@@ -113,9 +91,9 @@ module _ (axs : List CutAxis) (hw : Wide axs) where
   apart m k i j y p q h =
       omega (
         arith,
-        in-range-one axs y,
+        inRange-one axs y,
         cover-sum axs y hw,
-        twice (hits y) (counters axs) m i (p .c) (q .c) (sym (state-nth axs hw m) ∙ p .state) (sym (state-nth axs hw i) ∙ q .state) h
+        sum-twice (hits y) (counters axs) m i (p .c) (q .c) (sym (state-nth axs hw m) ∙ p .state) (sym (state-nth axs hw i) ∙ q .state) h
             (place-hits m k y p) (place-hits i j y q),
       )
 

@@ -1,14 +1,14 @@
--- The walk's machine on lists: where it begins, its state after n steps, and the words that the laws of its blocks and states use.
+-- The words that the laws of a walk use: indices and tile starts within cut axes, the cells of a block, where a walk begins, its counters
+-- after n steps.
 -- Assumes nothing.
 use mathlib.Core.Path.{_≡_}
 use mathlib.Core.Bool.{cond}
 use mathlib.Core.List.{List, [], _∷_, map}
 use mathlib.Core.Option.{Option, none, some}
-use Prim.Native.Nat.{ℕ, zero, suc, _%_, _<_}
+use Prim.Native.Nat.{ℕ, _%_, _<_}
 use lib.Dec.{ltb}
 use Rattle.strided.specs.Base.{orElse, run, after}
 use Rattle.strided.specs.Walk.{CutAxis, ax, Block, block, next}
-use Rattle.strided.specs.Step.{WalkState, Step, refused, gave, over}
 
 -- the index x lies within the extents
 abbrev pub Inside : List CutAxis → List ℕ → Type 0
@@ -17,14 +17,10 @@ Inside [] (x ∷ xs) = ⊥
 Inside (ax e w ∷ axs) [] = ⊥
 Inside (ax e w ∷ axs) (x ∷ xs) = (x < e) × Inside axs xs
 
--- every block size is 1 or more; no extent is 0
+-- every block size is 1 or more
 abbrev pub Wide : List CutAxis → Type 0
 Wide [] = Unit {0}
 Wide (ax e w ∷ axs) = (0 < w) × Wide axs
-
-abbrev pub Full : List CutAxis → Type 0
-Full [] = Unit {0}
-Full (ax e w ∷ axs) = (0 < e) × Full axs
 
 -- on axis 0, c is where a tile starts
 abbrev pub OnStart : List CutAxis → List ℕ → Type 0
@@ -42,16 +38,10 @@ abbrev pub begin : List CutAxis → Option (List ℕ)
 begin [] = some []
 begin (ax e w ∷ axs) = cond (ltb 0 e) (orElse none (λ v. 0 ∷ v) (begin axs)) none
 
--- the state after n steps: the counters of the block that the next step hands out, or none
+-- the counters after n steps: those of the block that the next step hands out, or none
 abbrev pub stateAfter : List CutAxis → ℕ → Option (List ℕ)
 stateAfter axs n = after (next axs) n (begin axs)
 
--- some number of steps reaches c
-abbrev pub Reached : List CutAxis → List ℕ → Type 0
-Reached axs c = (n : ℕ) × (stateAfter axs n ≡ some c)
-
--- the state to hand on
-abbrev pub onward : Step → WalkState → WalkState
-onward refused s = s
-onward (gave c n os ts s′) s = s′
-onward (over s′) s = s′
+-- some number of steps comes to c
+abbrev pub Comes : List CutAxis → List ℕ → Type 0
+Comes axs c = (n : ℕ) × (stateAfter axs n ≡ some c)

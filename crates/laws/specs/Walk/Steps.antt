@@ -1,96 +1,52 @@
--- The step's entry on a packed state is the machine's step. Assumes nothing.
-use mathlib.Core.Path.{_≡_, refl, sym, ap, ap₂, _∙_, subst}
-use mathlib.Core.Bool.{Bool, true, false, cond, _&&_, _||_, not}
-use mathlib.Core.List.{List, [], _∷_, _++_, map}
+-- THE STEPS OF A WALK, by value: from a beginning that is not refused, step n hands out block n of the machine on lists, then "ended" for
+-- ever, and none is refused.
+-- Assumes nothing.
+use mathlib.Core.Path.{_≡_, refl, sym, ap, ap₂, _∙_}
+use mathlib.Core.Bool.{Bool, true, false, cond, not, false≢true, Bool·not-not}
+use mathlib.Core.List.{List, [], _∷_}
 use mathlib.Core.Option.{Option, none, some}
-use Prim.Native.Nat.{ℕ, zero, suc, _+_, _-_, _*_, _≤_, _<_}
+use Prim.Native.Nat.{ℕ, zero, suc, _+_, _≤_, _<_}
 use native.Mathlib.Nat.{add-zero, zero-add}
 use native.Mathlib.Omega.{arith}
-use lib.Dec.{eqb}
+use lib.Dec.{eqb, ltb}
 use lib.IntN.{ℤ, pos, _+ℤ_, +ℤ-idr}
-use borrow.Author.Tests.{ne-eqb, lt-ltb}
-use mathlib.Core.Bool.{false≢true}
-use lib.ListN.{length, getD, take, drop, replicate, length-map}
-use Rattle.strided.specs.Base.{padded, run, nth, andThen, after, orElse}
-use Rattle.strided.specs.Layout.{NoZero, hasZero, dot}
-use Rattle.strided.specs.Refusals.{refusedBy, row1, row2}
-use Rattle.strided.specs.Walk.{CutAxis, ax, effective, cut, cutAxes, zeros, next, lengthAt, runStrides}
-use Rattle.strided.specs.Begin.{planExtents, planBlocks, planRow, planRows, beginRefused, begunAt, begunOr}
-use Rattle.strided.specs.Step.{WalkState, Step, gave, over, refused, stateOf, offsetsFrom, startsFrom, step, planCutAxes, unpacked, packed, tidy, blank, blankZ, isNone, mayBegin, handedOut, stepRows, stepOr, stepped}
-use Rattle.strided.specs.Step.{walkAfter}
+use borrow.Author.Tests.{ltb-false, eqb-true, not-false}
+use lib.ListN.{length, take, replicate, length-map}
+use Rattle.strided.specs.Base.{padded, run, nth, andThen}
+use Rattle.strided.specs.Layout.{hasZero}
+use Rattle.strided.specs.Refusals.{refusedBy}
+use Rattle.strided.specs.Walk.{CutAxis, zeros, next, lengthAt, runStrides}
+use Rattle.strided.specs.Begin.{planExtents, planBlocks, planRow, planRows, beginRows, beginRefused, begunAt, begunOr}
+use Rattle.strided.specs.Step.{WalkState, Step, gave, over, stateOf, offsetsFrom, step, planCutAxes, unpacked, packed, tidy, isNone, mayBegin, handedOut, stepRows, stepped, walkAfter}
 use Rattle.strided.specs.Demand3.{stepsFrom}
 use Rattle.strided.specs.declared.Refusal.{Refusal}
+use Rattle.strided.specs.declared.Answer.the-variants.{Served}
 use Rattle.strided.specs.declared.Plan.{Plan}
 use Rattle.strided.specs.declared.Walk.{Walk}
 use Rattle.strided.specs.declared.Stepped.{Stepped}
-use Rattle.laws.specs.Walk.States.{begin, stateAfter, Inside, Wide, Full}
-use Rattle.laws.specs.Base.Arrays.{take-counted, blank-behind, blankZ-behind}
-use Rattle.laws.specs.Walk.Chain.{begin-full}
-use Rattle.laws.specs.Walk.Reach.{reach, after-suc}
-use Rattle.laws.specs.Walk.Machine.{both-and, reachable-of, starts-offsets, length-offsets, dot-zeros}
-use Rattle.laws.specs.Walk.Demand.{axes-wide}
+use Rattle.laws.specs.Base.Tests.{both-and, or-none}
+use Rattle.laws.specs.Base.Lists.{length-run}
+use Rattle.laws.specs.Base.Trace.{after-suc}
+use Rattle.laws.specs.Base.Arrays.{take-counted, blank-ℕ, blank-ℤ, blank-behind}
+use Rattle.laws.specs.Base.Refusals.{NoneApplies, none-applies}
+use Rattle.laws.specs.Walk.States.{begin, stateAfter, Wide}
+use Rattle.laws.specs.Walk.Cuts.{axes-wide, length-cut, length-zeros, length-inside, begin-of}
+use Rattle.laws.specs.Walk.Reach.{reach}
+use Rattle.laws.specs.Walk.Machine.{reachable-of, starts-offsets, length-offsets, dot-zeros}
 
--- ---- lengths
-
-length-run : (s n : ℕ) → length (run s n) ≡ n
-length-run s zero = refl
-length-run s (suc n) = ap suc (length-run (suc s) n)
-
-length-cut : (es bs : List ℕ) → length (cut es bs) ≡ length es
-length-cut [] bs = refl
-length-cut (e ∷ es) [] = ap suc (length-cut es [])
-length-cut (e ∷ es) (b ∷ bs) = ap suc (length-cut es bs)
-
-pub length-zeros : (axs : List CutAxis) → length (zeros axs) ≡ length axs
-length-zeros [] = refl
-length-zeros (a ∷ axs) = ap suc (length-zeros axs)
-
-length-in : (axs : List CutAxis) (c : List ℕ) → Inside axs c → length c ≡ length axs
-length-in [] [] i = refl
-length-in [] (x ∷ c) i = absurd i
-length-in (ax e w ∷ axs) [] i = absurd i
-length-in (ax e w ∷ axs) (x ∷ c) i = ap suc (length-in axs c (i .1))
-
-not-not : (b : Bool) → not (not b) ≡ b
-not-not true = refl
-not-not false = refl
+-- ---- a walk that begins at 0
 
 padded-zeros : (n : ℕ) (axs : List CutAxis) → padded n 0 (zeros axs) ≡ replicate n 0
 padded-zeros zero axs = refl
 padded-zeros (suc n) [] = ap (λ r. 0 ∷ r) (padded-zeros n [])
 padded-zeros (suc n) (a ∷ axs) = ap (λ r. 0 ∷ r) (padded-zeros n axs)
 
-pub offsets-zeros : (axs : List CutAxis) (tss : List (List ℤ)) (zs : List ℤ) → length zs ≡ length tss → offsetsFrom tss zs (zeros axs) ≡ zs
+offsets-zeros : (axs : List CutAxis) (tss : List (List ℤ)) (zs : List ℤ) → length zs ≡ length tss → offsetsFrom tss zs (zeros axs) ≡ zs
 offsets-zeros axs [] [] h = refl
 offsets-zeros axs [] (z ∷ zs) h = absurd (omega arith)
 offsets-zeros axs (ts ∷ tss) [] h = absurd (omega arith)
 offsets-zeros axs (ts ∷ tss) (z ∷ zs) h =
     ap₂ (λ a b. a ∷ b) (ap (λ d. z +ℤ d) (dot-zeros axs ts) ∙ +ℤ-idr z) (offsets-zeros axs tss zs (omega arith))
-
-pub no-zero : (es : List ℕ) → NoZero es → hasZero es ≡ false
-no-zero [] h = refl
-no-zero (e ∷ es) h = rw (ne-eqb e 0 (positive e (h .0))) (no-zero es (h .1))
-  where
-    positive : (n : ℕ) → 0 < n → n ≡ 0 → ⊥
-    positive n p q = omega arith
-
-begin-one : (e w : ℕ) (es bs : List ℕ) → begin (cut es bs) ≡ cond (hasZero es) none (some (zeros (cut es bs)))
-    → begin (ax e w ∷ cut es bs) ≡ cond (eqb e 0 || hasZero es) none (some (zeros (ax e w ∷ cut es bs)))
-begin-one zero w es bs h = refl
-begin-one (suc e) w es bs h = rw (lt-ltb 0 (suc e) (omega arith), ne-eqb (suc e) 0 (λ q. bad e q), h) (go (hasZero es))
-  where
-    bad : (e : ℕ) → suc e ≡ 0 → ⊥
-    bad e q = omega arith
-
-    go : (b : Bool) → orElse none (λ v. 0 ∷ v) (cond b none (some (zeros (cut es bs)))) ≡ cond b none (some (0 ∷ zeros (cut es bs)))
-    go true = refl
-    go false = refl
-
--- a walk begins with all counters 0, or has ended at once where an extent is 0
-begin-of : (es bs : List ℕ) → begin (cut es bs) ≡ cond (hasZero es) none (some (zeros (cut es bs)))
-begin-of [] bs = refl
-begin-of (e ∷ es) [] = begin-one e 1 es [] (begin-of es [])
-begin-of (e ∷ es) (b ∷ bs) = begin-one e (effective e b) es bs (begin-of es bs)
 
 -- ---- a plan whose beginning is taken
 
@@ -98,6 +54,11 @@ pub none-of : (o : Option Refusal) → isNone o ≡ true → o ≡ none
 none-of none h = refl
 none-of (some r) h = absurd (false≢true h)
 
+pub served-walk : (o : Option Refusal) (w : Walk) → begunOr o w .answer ≡ Served → o ≡ none
+served-walk none w h = refl
+served-walk (some r) w h = let z : _≡_ {A = ℕ} 0 1 = cc h in absurd (omega arith)
+
+-- rows 1, 2 and 8, and that all the plan's axes are there
 pub record Ready (p : Plan) (zs : List ℤ) : Type 0 where
   pub axes : p .rank ≤ 64
   pub few : p .operands ≤ 8
@@ -105,6 +66,19 @@ pub record Ready (p : Plan) (zs : List ℤ) : Type 0 where
   pub long : length (planExtents p) ≡ p .rank
   pub many : length zs ≡ p .operands
   pub may : mayBegin p zs ≡ true
+
+pub ready : (p : Plan) (zs : List ℤ) → length (planExtents p) ≡ p .rank → beginRefused p zs ≡ none → Ready p zs
+unfolding beginRefused NoneApplies
+ready p zs l h =
+    let a : NoneApplies (beginRows p zs) = none-applies (beginRows p zs) h in
+    record {
+      axes = ltb-false 64 (p .rank) (a .0);
+      few = ltb-false 8 (p .operands) (or-none (eqb (p .operands) 0) (ltb 8 (p .operands)) (a .1 .0) .1);
+      taken = rw (a .0, a .1 .0);
+      long = l;
+      many = eqb-true (length zs) (p .operands) (not-false (eqb (length zs) (p .operands)) (a .1 .1 .1 .1 .0));
+      may = ap isNone h;
+    }
 
 module _ (p : Plan) (zs : List ℤ) (r : Ready p zs) where
   pub wide : Wide (planCutAxes p)
@@ -116,7 +90,7 @@ module _ (p : Plan) (zs : List ℤ) (r : Ready p zs) where
   pub as-many : length zs ≡ length (planRows p)
   as-many = r .many ∙ sym rows-many
 
-  pub cut-many : length (planCutAxes p) ≡ p .rank
+  cut-many : length (planCutAxes p) ≡ p .rank
   cut-many = length-cut (planExtents p) _ ∙ r .long
 
   -- the state whose counters are those, or that has ended
@@ -125,24 +99,21 @@ module _ (p : Plan) (zs : List ℤ) (r : Ready p zs) where
 
   pub counters-many : (n : ℕ) (m : Option (List ℕ)) → stateAfter (planCutAxes p) n ≡ m → length (at m .counters) ≡ p .rank
   counters-many n none e = length-zeros (planCutAxes p) ∙ cut-many
-  counters-many n (some c) e = length-in (planCutAxes p) c (reach (planCutAxes p) c wide .0 (n, e) .0) ∙ cut-many
+  counters-many n (some c) e = length-inside (planCutAxes p) c (reach (planCutAxes p) c wide .0 (n, e) .0) ∙ cut-many
 
-  pub counters-in : (n : ℕ) (c : List ℕ) → stateAfter (planCutAxes p) n ≡ some c → Inside (planCutAxes p) c
-  counters-in n c e = reach (planCutAxes p) c wide .0 (n, e) .0
-
-  pub offsets-many : (n : ℕ) (m : Option (List ℕ)) → stateAfter (planCutAxes p) n ≡ m → length (at m .offsets) ≡ p .operands
+  offsets-many : (n : ℕ) (m : Option (List ℕ)) → stateAfter (planCutAxes p) n ≡ m → length (at m .offsets) ≡ p .operands
   offsets-many n none e = r .many
   offsets-many n (some c) e = length-offsets (planRows p) zs c as-many ∙ rows-many
 
   unpack-pack : (g : WalkState) → length (g .counters) ≡ p .rank → length (g .offsets) ≡ p .operands → unpacked p (packed g) ≡ g
   unpack-pack g a b =
-      let e : not (not (g .running)) ≡ g .running = not-not (g .running) in
+      let e : not (not (g .running)) ≡ g .running = Bool·not-not (g .running) in
       let f : take (p .rank) (padded 64 0 (g .counters)) ≡ g .counters = take-counted 0 64 (p .rank) (g .counters) a (r .axes) in
       let h : take (p .operands) (padded 8 (pos 0) (g .offsets)) ≡ g .offsets = take-counted (pos 0) 8 (p .operands) (g .offsets) b (r .few) in
       λ i. record { running = e i; counters = f i; offsets = h i }
 
   tidy-pack : (g : WalkState) → length (g .counters) ≡ p .rank → length (g .offsets) ≡ p .operands → tidy p (packed g) ≡ true
-  tidy-pack g a b = both-and _ _ (blank-behind 64 (p .rank) (g .counters) a) (blankZ-behind 8 (p .operands) (g .offsets) b)
+  tidy-pack g a b = both-and _ _ (blank-behind blank-ℕ 64 (p .rank) (g .counters) a) (blank-behind blank-ℤ 8 (p .operands) (g .offsets) b)
 
   step-packed : (g : WalkState) → length (g .counters) ≡ p .rank → length (g .offsets) ≡ p .operands
       → stepped p (packed g) ≡ handedOut (step (planCutAxes p) (planRows p) (mayBegin p) g)
