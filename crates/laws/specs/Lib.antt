@@ -1,4 +1,5 @@
 -- What holds of the definitions of crate strided, whatever the code. A folder for each part of document 01; the main theorems:
+--   what a layout has that planning does not refuse, and back          Refusals/Accepted  accepted, accepted-back
 --   the loop order and the order of fusing are permutations, sorted    Order/Permutation  fusing-permutes, loop-sorted
 --   sums and products over axes do not depend on the order             Order/Folds        picked-fold
 --   the plan keeps the total                                           Fuse/Maps          plan-total
@@ -13,6 +14,7 @@
 --   row 10, exact                                                      Walk/Row10         row10-exact
 --   demand 3                                                           Demand3/Whole      demand3, exactly-one
 pub mod Base
+pub mod Refusals
 pub mod Order
 pub mod Fuse
 pub mod Walk

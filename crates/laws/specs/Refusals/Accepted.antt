@@ -1,0 +1,80 @@
+-- What a layout has that planning does not refuse: the bounds that the planner's code leans on. Assumes nothing.
+use mathlib.Core.Path.{_≡_, sym, _∙_}
+use mathlib.Core.Bool.{Bool, false, _||_, not}
+use mathlib.Core.List.{List}
+use mathlib.Core.Option.{Option, none, some}
+use Prim.Native.Nat.{ℕ, _+_, _*_, _^_, _≤_, _<_}
+use native.Mathlib.Omega.{arith}
+use lib.Dec.{ltb, eqb}
+use lib.IntN.{ℤ}
+use lib.ListN.{length, getD}
+use borrow.Author.Tests.{le-ltb, ltb-false, eq-eqb, ne-eqb, eqb-false, leb-false}
+use Rattle.strided.specs.Base.{some-of}
+use Rattle.strided.specs.Layout.{strideRow, chosen, leadOf, total, hasZero, reach, maxU, maxI}
+use Rattle.strided.specs.Refusals.{layoutRows, layoutRefused, missing, row5}
+use Rattle.strided.specs.declared.Purpose.{Purpose}
+use Rattle.laws.specs.Base.Tests.{or-none}
+use Rattle.laws.specs.Base.Refusals.{NoneApplies, none-applies, layout-counts}
+use Rattle.laws.specs.Refusals.Rows.{none-refuses, unless-passes, passes-unless}
+use Rattle.laws.specs.Refusals.Operands.{some-of-at, some-of-none}
+use Rattle.laws.specs.Refusals.Zeros.{row5-total}
+
+pub record Accepted (es sizes : List ℕ) (ss : List ℤ) (u : Purpose) : Type 0 where
+  pub axes : length es ≤ 64
+  pub one : 1 ≤ length sizes
+  pub few : length sizes ≤ 8
+  pub strides : length ss ≡ length es * length sizes
+  -- the chosen operand is there, and so is the lead
+  pub there : missing (length sizes) (chosen u) ≡ false
+  -- a zero extent makes the total 0, so it fits in any case
+  pub cells : total es < 2 ^ 64
+  pub near : hasZero es ≡ false → (k : ℕ) → k < length sizes → reach es (strideRow ss (length es) k) ≤ maxI
+  pub narrow : hasZero es ≡ false → (k : ℕ) → k < length sizes → getD sizes k 0 * (1 + reach es (strideRow ss (length es) k)) ≤ maxI
+
+pub chosen-there : (operands k : ℕ) (o : Option ℕ) → missing operands o ≡ false → o ≡ some k → k < operands
+chosen-there operands k none h e = let z : _≡_ {A = ℕ} 0 1 = cc in absurd (omega arith)
+chosen-there operands k (some j) h e = let q : j ≡ k = cc in omega (arith, leb-false operands j h)
+
+pub lead-there : (operands : ℕ) (o : Option ℕ) → 1 ≤ operands → missing operands o ≡ false → leadOf o < operands
+lead-there operands none h m = omega arith
+lead-there operands (some j) h m = leb-false operands j m
+
+module _ (es sizes : List ℕ) (ss : List ℤ) (u : Purpose) where
+  abbrev farAt : ℕ → Bool
+  farAt k = ltb maxI (reach es (strideRow ss (length es) k))
+
+  abbrev wideAt : ℕ → Bool
+  wideAt k = ltb maxI (getD sizes k 0 * (1 + reach es (strideRow ss (length es) k)))
+
+  pub accepted : layoutRefused es sizes ss u ≡ none → Accepted es sizes ss u
+  unfolding layoutRefused NoneApplies
+  accepted h =
+      let a : NoneApplies (layoutRows es sizes ss u) = none-applies (layoutRows es sizes ss u) h in
+      let o = or-none (eqb (length sizes) 0) (ltb 8 (length sizes)) (a .1 .0) in
+      let n = layout-counts es sizes ss u h in
+      let five : ltb maxU (total es) ≡ false = sym (row5-total es) ∙ a .1 .1 .1 .1 .0 in
+      record {
+        axes = n .axes;
+        one = omega (arith, eqb-false (length sizes) 0 (o .0));
+        few = n .operands;
+        strides = n .strides;
+        there = a .1 .1 .1 .0;
+        cells = omega (arith, ltb-false maxU (total es) five);
+        near = λ q k l. ltb-false maxI (reach es (strideRow ss (length es) k)) (some-of-at farAt (length sizes) (unless-passes (hasZero es) (some-of farAt 0 (length sizes)) (a .1 .1 .1 .1 .1 .0) q) k l);
+        narrow = λ q k l. ltb-false maxI (getD sizes k 0 * (1 + reach es (strideRow ss (length es) k))) (some-of-at wideAt (length sizes) (unless-passes (hasZero es) (some-of wideAt 0 (length sizes)) (a .1 .1 .1 .1 .1 .1 .0) q) k l);
+      }
+
+  -- and back: nothing else is refused
+  pub accepted-back : Accepted es sizes ss u → layoutRefused es sizes ss u ≡ none
+  unfolding layoutRefused NoneApplies
+  accepted-back f =
+      let n : length sizes ≡ 0 → ⊥ = λ q. absurd (omega (arith, f .one)) in
+      let two : (eqb (length sizes) 0 || ltb 8 (length sizes)) ≡ false = rw (ne-eqb (length sizes) 0 n) (le-ltb 8 (length sizes) (f .few)) in
+      let three : not (eqb (length ss) (length es * length sizes)) ≡ false = rw (eq-eqb (length ss) (length es * length sizes) (f .strides)) in
+      let five : row5 es .applies ≡ false = row5-total es ∙ le-ltb maxU (total es) (omega (arith, f .cells)) in
+      let six : hasZero es ≡ false → some-of farAt 0 (length sizes) ≡ false =
+      λ q. some-of-none farAt (length sizes) (λ k l. le-ltb maxI (reach es (strideRow ss (length es) k)) (f .near q k l)) in
+      let seven : hasZero es ≡ false → some-of wideAt 0 (length sizes) ≡ false =
+      λ q. some-of-none wideAt (length sizes) (λ k l. le-ltb maxI (getD sizes k 0 * (1 + reach es (strideRow ss (length es) k))) (f .narrow q k l)) in
+      none-refuses (layoutRows es sizes ss u)
+      (le-ltb 64 (length es) (f .axes), (two, (three, (f .there, (five, (passes-unless (hasZero es) (some-of farAt 0 (length sizes)) six, (passes-unless (hasZero es) (some-of wideAt 0 (length sizes)) seven, tt)))))))

@@ -1,0 +1,54 @@
+-- The first row that applies refuses: the laws that an entry's tests, one after the other, are proved with. Assumes nothing.
+use mathlib.Core.Path.{_≡_, refl, sym, ap, _∙_}
+use mathlib.Core.Bool.{Bool, true, false, _&&_, not, false≢true}
+use mathlib.Core.List.{List, [], _∷_}
+use mathlib.Core.Option.{Option, none, some}
+use Prim.Native.Nat.{ℕ}
+use native.Mathlib.Omega.{arith}
+use Rattle.strided.specs.Refusals.{Row, refusedBy, answered}
+use Rattle.strided.specs.declared.Refusal.{Refusal}
+use Rattle.strided.specs.declared.Answer.the-variants.{Served, Refused}
+use Rattle.laws.specs.Base.Refusals.{NoneApplies}
+
+-- ---- the code's tests, row by row
+
+-- of all rows none before rs applies, so rs decide
+pub record Past (all rs : List Row) : Type 0 where
+  pub same : refusedBy all ≡ refusedBy rs
+
+pub past-none : (all : List Row) → Past all all
+past-none all = record { same = refl }
+
+-- the code's test b is that of the first row left: it fails, and the next row is up; or it holds, and this row refuses
+module _ {all rs : List Row} {r : Row} (p : Past all (r ∷ rs)) {b : Bool} (is : b ≡ r .applies) where
+  pub past-next : b ≡ false → Past all rs
+  past-next h = record { same = p .same ∙ rw (sym is ∙ h) }
+
+  pub past-refused : b ≡ true → Refused (r .refusal) ≡ answered (refusedBy all)
+  past-refused h =
+      let e : refusedBy (r ∷ rs) ≡ some (r .refusal) = rw (sym is ∙ h) in
+      sym (ap answered (p .same ∙ e))
+
+pub past-served : {all : List Row} → Past all [] → Served ≡ answered (refusedBy all)
+past-served p = sym (ap answered (p .same))
+
+-- ---- no row applies
+
+pub none-refuses : (rs : List Row) → NoneApplies rs → refusedBy rs ≡ none
+unfolding NoneApplies
+none-refuses [] h = refl
+none-refuses (r ∷ rs) h = rw (h .0) (none-refuses rs (h .1))
+
+-- an entry serves exactly if it does not refuse
+pub served-none : (o : Option Refusal) → answered o ≡ Served → o ≡ none
+served-none none h = refl
+served-none (some r) h = let z : _≡_ {A = ℕ} 0 1 = cc h in absurd (omega arith)
+
+-- a row that passes where z holds
+pub unless-passes : (z t : Bool) → (not z && t) ≡ false → z ≡ false → t ≡ false
+unless-passes true t h q = absurd (false≢true (sym q))
+unless-passes false t h q = h
+
+pub passes-unless : (z t : Bool) → (z ≡ false → t ≡ false) → (not z && t) ≡ false
+passes-unless true t h = refl
+passes-unless false t h = h refl

@@ -1,0 +1,94 @@
+// What a layout is refused for: rows 1 to 7 of the refusal table. Beside it what all later crates read off a layout: the size of a
+// stride, the total, the reach, the lead, and the number of a refusal.
+ghost use mathlib.Core.Path.{_≡_};
+ghost use Rattle.strided.specs.Layout.{lead};
+ghost use Rattle.strided.specs.Refusals.{number, answered, layoutRefused};
+use strided::Answer;
+use strided::Purpose;
+use strided::Refusal;
+
+pub mod rows;
+pub mod sizes;
+
+pub use rows::bytes_over;
+pub use rows::chosen_missing;
+pub use rows::operands_wrong;
+pub use rows::rank_over;
+pub use rows::reach_at;
+pub use rows::reach_over;
+pub use rows::strides_wrong;
+pub use rows::total_over;
+pub use sizes::Total;
+pub use sizes::has_zero;
+pub use sizes::magnitude;
+pub use sizes::total_at_most;
+pub use sizes::total_len;
+
+// The number of a refusal in document 01's table.
+pub fn number(refusal: Refusal) -> u64
+    ensures { λ r. ⌜ r ≡ number refusal ⌝ }
+{
+    match refusal {
+        Refusal::Rank => 1,
+        Refusal::Operands => 2,
+        Refusal::StrideCount => 3,
+        Refusal::Chosen => 4,
+        Refusal::Total => 5,
+        Refusal::Reach => 6,
+        Refusal::Bytes => 7,
+        Refusal::StartCount => 8,
+        Refusal::Offsets => 9,
+        Refusal::State => 10,
+        Refusal::Index => 11,
+        Refusal::Form => 12,
+        Refusal::TextTotal => 13,
+        Refusal::Room => 14,
+    }
+}
+
+// The chosen operand, or operand 0 if none.
+pub fn lead(purpose: Purpose) -> u64
+    ensures { λ r. ⌜ r ≡ lead purpose ⌝ }
+{
+    match purpose {
+        Purpose::Pointwise => 0,
+        Purpose::PointwiseInto(k) => k,
+        Purpose::Fold(k) => k,
+    }
+}
+
+// Rows 1 to 7, the least number first. A row may lean on those before it: row 3 multiplies counts that rows 1 and 2 let through, and
+// rows 6 and 7 read the strides that row 3 counted.
+pub fn check_layout<'a>(
+    extents: &'a [u64],
+    sizes: &'a [u64],
+    strides: &'a [i64],
+    purpose: Purpose,
+) -> Answer
+    ensures { λ r. ⌜ r ≡ answered (layoutRefused (now (extents .entry)) (now (sizes .entry)) (now (strides .entry)) purpose) ⌝ }
+{
+    let rank = extents.len();
+    let operands = sizes.len();
+    if rank_over(rank) {
+        return Answer::Refused(Refusal::Rank);
+    }
+    if operands_wrong(operands) {
+        return Answer::Refused(Refusal::Operands);
+    }
+    if strides_wrong(rank, operands, strides) {
+        return Answer::Refused(Refusal::StrideCount);
+    }
+    if chosen_missing(operands, purpose) {
+        return Answer::Refused(Refusal::Chosen);
+    }
+    if total_over(extents) {
+        return Answer::Refused(Refusal::Total);
+    }
+    if reach_over(extents, strides, rank, operands) {
+        return Answer::Refused(Refusal::Reach);
+    }
+    if bytes_over(extents, sizes, strides, rank) {
+        return Answer::Refused(Refusal::Bytes);
+    }
+    Answer::Served
+}

@@ -1,0 +1,137 @@
+// Rows 1 to 7 of the refusal table, each as a test. Rows 5 and 6 serve a walk's beginning too, so the operands' strides may stand further
+// apart than the rank.
+ghost use mathlib.Core.Path.{_≡_};
+ghost use Prim.Native.Nat.{_+_, _*_, _^_, _≤_, min};
+ghost use lib.ListN.{length};
+ghost use lib.Dec.{ltb};
+ghost use Rattle.strided.specs.Base.{some-of};
+ghost use Rattle.strided.specs.Layout.{reach, maxI};
+ghost use Rattle.strided.specs.Refusals.{row1, row2, row3, row4, row5, row6, row7};
+ghost use Rattle.layout.specs.Laid.{Laid, rowAt, farAt, wideAt};
+use super::sizes::Total;
+use super::sizes::has_zero;
+use super::sizes::mul_cap;
+use super::sizes::reach_of;
+use super::sizes::total_len;
+use strided::MAX_OPERANDS;
+use strided::MAX_RANK;
+use strided::Purpose;
+
+// Row 1.
+pub fn rank_over(rank: usize) -> bool
+    ensures { λ r. ⌜ r ≡ row1 rank .applies ⌝ }
+{
+    MAX_RANK < rank
+}
+
+// Row 2.
+pub fn operands_wrong(operands: usize) -> bool
+    ensures { λ r. ⌜ r ≡ row2 operands .applies ⌝ }
+{
+    operands == 0 || MAX_OPERANDS < operands
+}
+
+// Row 3.
+pub fn strides_wrong(rank: usize, operands: usize, strides: &[i64]) -> bool
+    requires { ⌜ (rank ≤ 64) × (operands ≤ 8) ⌝ }
+    ensures { λ r. ⌜ r ≡ row3 rank operands (now (strides .entry)) .applies ⌝ }
+{
+    strides.len() != rank * operands
+}
+
+// Row 4.
+pub fn chosen_missing(operands: usize, purpose: Purpose) -> bool
+    ensures { λ r. ⌜ r ≡ row4 operands purpose .applies ⌝ }
+{
+    match purpose {
+        Purpose::Pointwise => false,
+        Purpose::PointwiseInto(k) => operands as u64 <= k,
+        Purpose::Fold(k) => operands as u64 <= k,
+    }
+}
+
+// Row 5. A zero extent makes the total 0.
+pub fn total_over(extents: &[u64]) -> bool
+    ensures { λ r. ⌜ r ≡ row5 (now (extents .entry)) .applies ⌝ }
+{
+    let t = total_len(extents);
+    match t {
+        Total::Fits(x) => false,
+        Total::Over => true,
+    }
+}
+
+// The reach of operand k, whose strides begin at k * pitch, or 2^63 where that is less.
+pub fn reach_at<'a>(extents: &'a [u64], strides: &'a [i64], pitch: usize, k: usize) -> u64
+    requires { ⌜ k * pitch + length (now extents) ≤ length (now strides) ⌝ }
+    ensures { λ r. ⌜ r ≡ min (reach (now (extents .entry)) (rowAt (now (extents .entry)) (now (strides .entry)) pitch k)) (2 ^ 63) ⌝ }
+{
+    let from = k * pitch;
+    let to = from + extents.len();
+    reach_of(extents, &strides[from..to])
+}
+
+// Whether some operand's reach is above 2^63 - 1.
+fn some_far<'a>(extents: &'a [u64], strides: &'a [i64], pitch: usize, operands: usize) -> bool
+    requires { ⌜ Laid (now extents) (now strides) pitch operands ⌝ }
+    ensures { λ r. ⌜ r ≡ some-of (farAt (now (extents .entry)) (rowAt (now (extents .entry)) (now (strides .entry)) pitch)) 0 operands ⌝ }
+{
+    let mut k: usize = 0;
+    while k < operands {
+        if 9223372036854775807 < reach_at(extents, strides, pitch, k) {
+            return true;
+        }
+        k += 1;
+    }
+    false
+}
+
+// Row 6.
+pub fn reach_over<'a>(extents: &'a [u64], strides: &'a [i64], pitch: usize, operands: usize) -> bool
+    requires { ⌜ Laid (now extents) (now strides) pitch operands ⌝ }
+    ensures { λ r. ⌜ r ≡ row6 (now (extents .entry)) operands (rowAt (now (extents .entry)) (now (strides .entry)) pitch) .applies ⌝ }
+{
+    if has_zero(extents) {
+        return false;
+    }
+    some_far(extents, strides, pitch, operands)
+}
+
+// Whether size × (1 + reach) is above 2^63 - 1. A reach that stands for all above 2^63 - 1 gives the answer of each of them.
+fn too_wide(size: u64, reach: u64) -> bool
+    requires { ⌜ reach ≤ 2 ^ 63 ⌝ }
+    ensures { λ r. ⌜ r ≡ ltb maxI (size * (1 + reach)) ⌝ }
+{
+    9223372036854775807 < mul_cap(size, 1 + reach, 9223372036854775808)
+}
+
+// Whether some operand's size × (1 + reach) is above 2^63 - 1.
+fn some_wide<'a>(extents: &'a [u64], sizes: &'a [u64], strides: &'a [i64], pitch: usize) -> bool
+    requires { ⌜ Laid (now extents) (now strides) pitch (length (now sizes)) ⌝ }
+    ensures { λ r. ⌜ r ≡ some-of (wideAt (now (extents .entry)) (now (sizes .entry)) (rowAt (now (extents .entry)) (now (strides .entry)) pitch)) 0 (length (now (sizes .entry))) ⌝ }
+{
+    let mut k: usize = 0;
+    while k < sizes.len() {
+        if too_wide(sizes[k], reach_at(extents, strides, pitch, k)) {
+            return true;
+        }
+        k += 1;
+    }
+    false
+}
+
+// Row 7, with as many operands as sizes.
+pub fn bytes_over<'a>(
+    extents: &'a [u64],
+    sizes: &'a [u64],
+    strides: &'a [i64],
+    pitch: usize,
+) -> bool
+    requires { ⌜ Laid (now extents) (now strides) pitch (length (now sizes)) ⌝ }
+    ensures { λ r. ⌜ r ≡ row7 (now (extents .entry)) (now (sizes .entry)) (rowAt (now (extents .entry)) (now (strides .entry)) pitch) .applies ⌝ }
+{
+    if has_zero(extents) {
+        return false;
+    }
+    some_wide(extents, sizes, strides, pitch)
+}
