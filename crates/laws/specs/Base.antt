@@ -1,10 +1,15 @@
--- Laws of the common words: tests, lists, whole numbers, sums and counts, arrays with a count, layouts and refusals.
+-- Laws of the common words: tests, lists, whole numbers and their bits, sums and counts, arrays with a count and how loops fill them, layouts
+-- and refusals.
 pub mod Tests
 pub mod Lists
 pub mod Integers
+pub mod Bits
+pub mod Ranges
 pub mod Sums
 pub mod Counting
 pub mod Trace
 pub mod Arrays
+pub mod Filling
+pub mod Rows
 pub mod Layouts
 pub mod Refusals

@@ -1,0 +1,48 @@
+-- `order::compute_order` meets its contract, by what its callees ensure: the weights read from the array are those of the list. Assumes nothing.
+use mathlib.Core.Path.{_≡_, _∙_, ap}
+use mathlib.Core.List.{List}
+use Prim.Native.Nat.{ℕ, _≤_}
+use native.Mathlib.Omega.{arith}
+use lib.ListN.{length, getD}
+use borrow.Author.Needs.{needs}
+use Rattle.strided.specs.Base.{padded}
+use Rattle.strided.specs.Layout.{lead}
+use Rattle.strided.specs.Order.{orderTo, loopOrder}
+use Rattle.strided.specs.Weights.{weights}
+use Rattle.laws.specs.Base.Filling.{read-padded}
+use Rattle.laws.specs.Order.Tries.{weights-long}
+use Rattle.order.proofs.compute_order.Statement.{statement}
+use Rattle.order.proofs.compute_order.Tie as tie
+
+order-padded : (ws : List ℕ) (n : ℕ) → length ws ≤ 64 → orderTo (λ (i : ℕ). getD (padded 64 0 ws) i 0) n ≡ orderTo (λ (i : ℕ). getD ws i 0) n
+order-padded ws n h = λ j. orderTo (λ (i : ℕ). read-padded 64 0 ws h i j) n
+
+lead-of-requires : tie.Need-lead-of-requires
+lead-of-requires c κs = search needs
+
+compute-importance-requires : tie.Need-compute-importance-requires
+compute-importance-requires c κs = search needs
+
+sort-by-importance-requires : tie.Need-sort-by-importance-requires
+sort-by-importance-requires c κs = c .before .before .before .before .pre .rank-few
+
+returns : tie.Need-returns
+unfolding loopOrder
+returns c =
+    let i = c .before .before in
+    let l = i .before in
+    let s = l .before .before in
+    let a = s .args in
+    let es = a .extents .now in
+    let ws : List ℕ = weights es (a .operands) (a .strides .now) (lead (a .purpose)) in
+    let long : length ws ≤ 64 = omega (arith, weights-long es (a .operands) (a .strides .now) (lead (a .purpose)) (s .pre .operands-few), s .pre .rank-few) in
+    let w : i .compute-importance .result ≡ padded 64 0 ws =
+    i .compute-importance .ensures ∙ ap (λ (k : ℕ). padded 64 0 (weights es (a .operands) (a .strides .now) k)) (l .lead-of .ensures) in
+    c .sort-by-importance .ensures
+    ∙ ap (λ (v : List ℕ). padded 64 0 (orderTo (λ (i : ℕ). getD v i 0) (length es))) w
+    ∙ ap (padded 64 0) (order-padded ws (length es) long)
+
+pub compute-order-spec : {M : Type 1} → statement M
+compute-order-spec =
+    tie.close
+    (tie.spec lead-of-requires compute-importance-requires sort-by-importance-requires returns)
