@@ -17,8 +17,8 @@ use Rattle.order.proofs.compute_order.Tie as tie
 order-padded : (ws : List ℕ) (n : ℕ) → length ws ≤ 64 → orderTo (λ (i : ℕ). getD (padded 64 0 ws) i 0) n ≡ orderTo (λ (i : ℕ). getD ws i 0) n
 order-padded ws n h = λ j. orderTo (λ (i : ℕ). read-padded 64 0 ws h i j) n
 
-lead-of-requires : tie.Need-lead-of-requires
-lead-of-requires c κs = search needs
+lead-requires : tie.Need-lead-requires
+lead-requires c κs = search needs
 
 compute-importance-requires : tie.Need-compute-importance-requires
 compute-importance-requires c κs = search needs
@@ -37,7 +37,7 @@ returns c =
     let ws : List ℕ = weights es (a .operands) (a .strides .now) (lead (a .purpose)) in
     let long : length ws ≤ 64 = omega (arith, weights-long es (a .operands) (a .strides .now) (lead (a .purpose)) (s .pre .operands-few), s .pre .rank-few) in
     let w : i .compute-importance .result ≡ padded 64 0 ws =
-    i .compute-importance .ensures ∙ ap (λ (k : ℕ). padded 64 0 (weights es (a .operands) (a .strides .now) k)) (l .lead-of .ensures) in
+    i .compute-importance .ensures ∙ ap (λ (k : ℕ). padded 64 0 (weights es (a .operands) (a .strides .now) k)) (l .lead .ensures) in
     c .sort-by-importance .ensures
     ∙ ap (λ (v : List ℕ). padded 64 0 (orderTo (λ (i : ℕ). getD v i 0) (length es))) w
     ∙ ap (padded 64 0) (order-padded ws (length es) long)
@@ -45,4 +45,4 @@ returns c =
 pub compute-order-spec : {M : Type 1} → statement M
 compute-order-spec =
     tie.close
-    (tie.spec lead-of-requires compute-importance-requires sort-by-importance-requires returns)
+    (tie.spec lead-requires compute-importance-requires sort-by-importance-requires returns)
