@@ -10,6 +10,7 @@ pub mod Counting
 pub mod Trace
 pub mod Arrays
 pub mod Filling
+pub mod Stores
 pub mod Rows
 pub mod Layouts
 pub mod Refusals

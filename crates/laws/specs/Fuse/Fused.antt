@@ -18,7 +18,7 @@ use Rattle.strided.specs.Layout.{row, inI64, extents, Axis}
 
 -- ---- the strides of axes that join
 
-eqZ-true : (a b : ℤ) → eqZ a b ≡ true → a ≡ b
+pub eqZ-true : (a b : ℤ) → eqZ a b ≡ true → a ≡ b
 eqZ-true (pos a) (pos b) h = ap pos (eqb-true a b h)
 eqZ-true (pos a) (negsuc b) h = absurd (false≢true h)
 eqZ-true (negsuc a) (pos b) h = absurd (false≢true h)

@@ -22,7 +22,7 @@ use Rattle.strided.specs.Layout.{Within, NoZero, total, dot, Axis, extents, row
 
 -- ---- the axes that are kept
 
-extents-keep : (xs : List Axis) → extents (keep xs) ≡ kept (extents xs)
+pub extents-keep : (xs : List Axis) → extents (keep xs) ≡ kept (extents xs)
 extents-keep [] = refl
 extents-keep (a ∷ xs) = go (eqb (a .extent) 1) (extents-keep xs)
   where

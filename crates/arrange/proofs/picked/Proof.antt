@@ -1,0 +1,81 @@
+-- `arrange::picked` meets its contract. The invariant: the first j elements are picked. Assumes nothing.
+use mathlib.Core.Path.{_≡_, ap, _∙_}
+use mathlib.Core.List.{List}
+use Prim.Native.Nat.{ℕ, _-_, _≤_}
+use native.Mathlib.Omega.{arith}
+use lib.ListN.{getD, take, set}
+use Rattle.strided.specs.Base.{padded}
+use Rattle.strided.specs.Order.{pick}
+use Rattle.laws.specs.Base.Filling.{fill-none}
+use Rattle.arrange.proofs.Turns.{picked-turn, picked-all}
+use Rattle.arrange.proofs.picked.Statement.{statement}
+use Rattle.arrange.proofs.picked.Tie as tie
+
+abbrev Inv-loop : tie.InvT-loop
+Inv-loop xs order count out₀ j₀ out j = (j ≤ count) × (out ≡ padded 64 0 (take j (pick 0 xs (take count order))))
+
+abbrev μ-loop : tie.MeasureT-loop
+μ-loop xs order count out₀ j₀ out j = count - j
+
+loop-holds : tie.Need-loop-holds Inv-loop μ-loop
+loop-holds c = (omega arith, fill-none 64 0)
+
+mul-a : tie.Need-mul-a Inv-loop μ-loop
+mul-a c = omega arith
+
+element-copy-out-a : tie.Need-element-copy-out-a Inv-loop μ-loop
+element-copy-out-a c = omega arith
+
+mul-out : tie.Need-mul-out Inv-loop μ-loop
+mul-out c =
+    let s = c .before .before .before in
+    omega (arith, s .pre .1 (c .before .before .loop .j) (c .before .loop-test .taken))
+
+shared-slice-read-out : tie.Need-shared-slice-read-out Inv-loop μ-loop
+shared-slice-read-out c = c .before .before .before .before .pre .1 (c .before .before .before .loop .j) (c .before .before .loop-test .taken)
+
+mul-out-2 : tie.Need-mul-out-2 Inv-loop μ-loop
+mul-out-2 c = omega arith
+
+array-write-out : tie.Need-array-write-out Inv-loop μ-loop
+array-write-out c = omega arith
+
+add-j : tie.Need-add-j Inv-loop μ-loop
+add-j c = omega arith
+
+loop-less : tie.Need-loop-less Inv-loop μ-loop
+loop-less c = omega arith
+
+loop-again : tie.Need-loop-again Inv-loop μ-loop
+loop-again c =
+    let l = c .before .before .before in
+    let s = l .before in
+    let p = s .pre .0 in (
+      omega (arith, c .before .before .loop-test),
+      ap (λ (r : List ℕ). set r (l .loop .j) (getD (s .args .xs .now) (getD (s .args .order .now) (l .loop .j) 0) 0)) (l .loop .inv .1)
+          ∙ picked-turn (s .args .order .now) (s .args .count) (p .0) (p .1) 0 (s .args .xs .now) (l .loop .j) (c .before .before .loop-test .taken),
+    )
+
+returns : tie.Need-returns Inv-loop μ-loop
+returns c =
+    let l = c .before in
+    let s = l .before in
+    l .loop .inv .1 ∙ ap (padded 64 0) (picked-all (s .args .order .now) (s .args .count) (s .pre .0 .0) (s .pre .0 .1) 0 (s .args .xs .now) (l .loop .j) (c .loop-test .left))
+
+pub picked-spec : {M : Type 1} → statement M
+picked-spec =
+    tie.close
+    (tie.spec
+    Inv-loop
+    μ-loop
+    loop-holds
+    mul-a
+    element-copy-out-a
+    mul-out
+    shared-slice-read-out
+    mul-out-2
+    array-write-out
+    add-j
+    loop-less
+    loop-again
+    returns)

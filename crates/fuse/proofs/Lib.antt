@@ -1,0 +1,5 @@
+pub mod Signs
+pub mod Joining
+pub mod Fusing
+pub mod Keeping
+pub mod Costing
