@@ -110,6 +110,11 @@ pub fn index_order(strides: &[isize]) -> Vec<usize> {
     strided_view::auxiliary::index_order(strides).to_vec()
 }
 
+/// The original `index_order`, its result lent: for timing.
+pub fn with_ranks<R>(strides: &[isize], f: impl FnOnce(&[usize]) -> R) -> R {
+    f(&strided_view::auxiliary::index_order(strides))
+}
+
 /// The original `compute_importance`, with the lead's row first, as
 /// `compute_order` hands it over; the ranks are worked out here.
 pub fn compute_importance(extents: &[usize], strides: &[&[isize]]) -> Vec<u64> {
@@ -120,6 +125,16 @@ pub fn compute_importance(extents: &[usize], strides: &[&[isize]]) -> Vec<u64> {
 /// The original `compute_order`.
 pub fn compute_order(extents: &[usize], strides: &[&[isize]], chosen: Option<usize>) -> Vec<usize> {
     order::compute_order(extents, strides, chosen).to_vec()
+}
+
+/// The original `compute_order`, its result lent: for timing.
+pub fn with_order<R>(
+    extents: &[usize],
+    strides: &[&[isize]],
+    chosen: Option<usize>,
+    f: impl FnOnce(&[usize]) -> R,
+) -> R {
+    f(&order::compute_order(extents, strides, chosen))
 }
 
 /// The original `fuse_dims`.

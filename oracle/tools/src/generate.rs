@@ -155,7 +155,7 @@ fn finish(
 }
 
 /// A stride of any size, often an extreme one.
-fn any_stride(random: &mut Random) -> isize {
+pub fn any_stride(random: &mut Random) -> isize {
     match random.within(0, 5) {
         0 => 0,
         1 => isize::MIN,

@@ -3,11 +3,17 @@
 
 mod common;
 
-use tools::record::{answers, walks, Recording};
+use tools::record::{answers, replay, walks, Recording};
 
 fn stored(name: &str) -> String {
     let folder = concat!(env!("CARGO_MANIFEST_DIR"), "/../recorded/");
     std::fs::read_to_string(format!("{folder}{name}")).expect("the recorded file is there")
+}
+
+/// A file of the port's program replay.
+fn replayed(name: &str) -> String {
+    let folder = concat!(env!("CARGO_MANIFEST_DIR"), "/../../crates/replay/");
+    std::fs::read_to_string(format!("{folder}{name}")).expect("the file of replay is there")
 }
 
 fn check(recording: Recording, name: &str) {
@@ -69,13 +75,30 @@ fn the_program_answers_as_recorded() {
 fn the_program_record_writes_the_recorded_files() {
     let folder = std::path::Path::new(env!("CARGO_TARGET_TMPDIR")).join("record");
     std::fs::create_dir_all(&folder).expect("the test folder takes folders");
-    let options = ["--out", folder.to_str().expect("a path in UTF-8")];
+    let path = folder.to_str().expect("a path in UTF-8");
+    let options = ["--out", path, "--replay", path];
     let outcome = common::run(env!("CARGO_BIN_EXE_record"), &options, b"");
     assert_eq!(outcome.status, Some(0), "{}", outcome.message);
+    let again = |name| std::fs::read_to_string(folder.join(name)).expect("a written file");
     for name in ["answers.txt", "walks.txt"] {
-        let again = std::fs::read_to_string(folder.join(name)).expect("a written file");
-        assert!(again == stored(name), "{name} differs");
+        assert!(again(name) == stored(name), "{name} differs");
     }
+    for name in ["stdin", "stdout"] {
+        assert!(again(name) == replayed(name), "{name} of replay differs");
+    }
+}
+
+#[test]
+fn replay_has_the_recorded_layouts_and_answers() {
+    let replay = replay(&stored("answers.txt"));
+    assert!(replay.stdin == replayed("stdin"), "stdin differs");
+    assert!(replay.stdout == replayed("stdout"), "stdout differs");
+    let outcome = common::oracle(&["--parts"], &replay.stdin);
+    assert_eq!(outcome.status, Some(0), "{}", outcome.message);
+    assert!(
+        outcome.output == replay.stdout,
+        "the program answers otherwise"
+    );
 }
 
 #[test]

@@ -1,0 +1,39 @@
+-- What a C function of a part answers: the purpose that its two numbers tell, the refusal's number or 0, and the lent memory.
+-- Assumes nothing.
+use mathlib.Core.Path.{_≡_}
+use mathlib.Core.Bool.{cond}
+use mathlib.Core.List.{List}
+use mathlib.Core.Option.{Option, none, some}
+use Prim.Native.Nat.{ℕ}
+use lib.Dec.{eqb}
+use lib.IntN.{ℤ}
+use lib.ListN.{take}
+use Rattle.strided.specs.Refusals.{Row, number, refusedBy, layoutRows}
+use Rattle.strided.specs.declared.Purpose.{Purpose}
+use Rattle.strided.specs.declared.Purpose.the-variants.{Pointwise, PointwiseInto, Fold}
+use Rattle.strided.specs.declared.Refusal.{Refusal}
+
+-- 0 is pointwise with no chosen operand, 1 pointwise into the chosen one, and any other number a fold
+abbrev pub purposeOf : ℕ → ℕ → Purpose
+purposeOf kind chosen = cond (eqb kind 0) Pointwise (cond (eqb kind 1) (PointwiseInto chosen) (Fold chosen))
+
+-- ranks, weights and order are there for every layout whose counts are right: they are refused by rows 1 to 4 alone
+abbrev pub shapeRows : List ℕ → List ℕ → List ℤ → Purpose → List Row
+shapeRows es sizes ss u = take 4 (layoutRows es sizes ss u)
+
+unfoldable pub shapeRefused : List ℕ → List ℕ → List ℤ → Purpose → Option Refusal
+shapeRefused es sizes ss u = refusedBy (shapeRows es sizes ss u)
+
+-- the refusal's number, or 0
+abbrev pub told : Option Refusal → ℕ
+told none = 0
+told (some r) = number r
+
+-- lent memory that held `old`: the part, or on a refusal what it held
+abbrev pub kept : {A : Type 0} → Option Refusal → A → A → A
+kept none part old = part
+kept (some r) part old = old
+
+pub record Part {A : Type 0} (refused : Option Refusal) (part old new : A) (r : ℕ) : Type 0 where
+  pub answer : r ≡ told refused
+  pub memory : new ≡ kept refused part old

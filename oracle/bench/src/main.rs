@@ -1,0 +1,169 @@
+//! Times the port's functions and the original's in one run and prints the
+//! ratios. Both are built for release. For each rank and number of operands it
+//! takes a few seeded layouts, and of many short runs over them the best one.
+
+use port::{Flat, Ranks};
+use std::hint::black_box;
+use std::io::{stdout, Write};
+use std::process::ExitCode;
+use std::time::Instant;
+use strided_basic as original;
+use tools::answer::rows;
+use tools::generate::Random;
+use tools::layout::{Layout, Purpose};
+use tools::options::{end, unknown, Options};
+
+const HELP: &str = "\
+bench: times the port and the original, and prints the ratios as a table
+
+  --seed S   the seed of the layouts (0)
+  --runs N   short runs, of which the best counts (2000)
+  --help     this text
+";
+
+/// Layouts over which one short run goes.
+const LAYOUTS: usize = 16;
+/// Rounds of a short run over the layouts.
+const ROUNDS: usize = 8;
+
+/// A layout as each side takes it.
+struct Case<'a> {
+    layout: &'a Layout,
+    strides: Vec<&'a [isize]>,
+    flat: Flat,
+}
+
+/// The arrays that the port is lent.
+struct Room {
+    ranks: Ranks,
+    order: [usize; 64],
+}
+
+/// One function on both sides. Each answers a number of its result.
+struct Function {
+    name: &'static str,
+    original: fn(&Case) -> usize,
+    port: fn(&Case, &mut Room) -> usize,
+}
+
+const FUNCTIONS: [Function; 2] = [
+    Function {
+        name: "ranks",
+        original: |case| {
+            let first = |strides: &&[isize]| original::with_ranks(strides, |ranks| ranks[0]);
+            case.strides.iter().map(first).sum()
+        },
+        port: |case, room| {
+            port::ranks(&case.flat, &mut room.ranks);
+            room.ranks[0][0] as usize
+        },
+    },
+    Function {
+        name: "order, ranks inside",
+        original: |case| {
+            let (extents, chosen) = (&case.layout.extents, case.layout.chosen);
+            original::with_order(extents, &case.strides, chosen, |order| order[0])
+        },
+        port: |case, room| {
+            port::order(&case.flat, &mut room.order);
+            room.order[0]
+        },
+    },
+];
+
+/// A dense layout: each operand has its axes in an order of its own.
+fn dense(random: &mut Random, rank: usize, operands: usize) -> Layout {
+    let extents: Vec<usize> = (0..rank).map(|_| random.within(2, 9)).collect();
+    let row = |_| {
+        let mut axes: Vec<usize> = (0..rank).collect();
+        for last in (1..rank).rev() {
+            axes.swap(last, random.within(0, last));
+        }
+        let (mut row, mut next) = (vec![0; rank], 1);
+        for axis in axes {
+            row[axis] = next;
+            next *= extents[axis] as isize;
+        }
+        row
+    };
+    let strides: Vec<Vec<isize>> = (0..operands).map(row).collect();
+    Layout {
+        purpose: Purpose::Pointwise,
+        chosen: Some(0),
+        extents,
+        sizes: vec![8; operands],
+        strides,
+    }
+}
+
+/// Nanoseconds of one call, over one short run.
+fn time(cases: &[Case], mut function: impl FnMut(&Case) -> usize) -> f64 {
+    let start = Instant::now();
+    for _ in 0..ROUNDS {
+        for case in cases {
+            black_box(function(black_box(case)));
+        }
+    }
+    start.elapsed().as_nanos() as f64 / (ROUNDS * cases.len()) as f64
+}
+
+/// The best times of both sides, the runs in turn.
+fn best(cases: &[Case], function: &Function, runs: u64) -> (f64, f64) {
+    let mut room = Room {
+        ranks: [[0; 64]; 8],
+        order: [0; 64],
+    };
+    let (mut original, mut port) = (f64::INFINITY, f64::INFINITY);
+    for _ in 0..runs {
+        original = original.min(time(cases, function.original));
+        port = port.min(time(cases, |case| (function.port)(case, &mut room)));
+    }
+    (original, port)
+}
+
+fn run() -> Result<(), String> {
+    let (mut seed, mut runs) = (0, 2000);
+    let mut options = Options::of_process()?;
+    let mut output = stdout().lock();
+    let unwritable = |error| format!("the output cannot be written: {error}");
+    while let Some(option) = options.next_option() {
+        match option.as_str() {
+            "--seed" => seed = options.number(&option)?,
+            "--runs" => runs = options.number(&option)?,
+            "--help" => return output.write_all(HELP.as_bytes()).map_err(unwritable),
+            _ => return Err(unknown(&option)),
+        }
+    }
+    port::linked()?;
+    let head =
+        "| function | rank | operands | Rust ns | port ns | ratio |\n|---|---|---|---|---|---|\n";
+    output.write_all(head.as_bytes()).map_err(unwritable)?;
+    for function in &FUNCTIONS {
+        for rank in [2, 4, 6, 8] {
+            for operands in [1, 2, 3] {
+                let mut random = Random::new(seed);
+                let layouts: Vec<Layout> = (0..LAYOUTS)
+                    .map(|_| dense(&mut random, rank, operands))
+                    .collect();
+                let case = |layout| Case {
+                    layout,
+                    strides: rows(&layout.strides),
+                    flat: Flat::of(layout),
+                };
+                let cases: Vec<Case> = layouts.iter().map(case).collect();
+                let (original, port) = best(&cases, function, runs);
+                let (name, ratio) = (function.name, port / original);
+                writeln!(
+                    output,
+                    "| {name} | {rank} | {operands} | {original:.0} | {port:.0} | {ratio:.2} |"
+                )
+                .map_err(unwritable)?;
+            }
+        }
+    }
+    Ok(())
+}
+
+fn main() -> ExitCode {
+    end("bench", run())
+}
