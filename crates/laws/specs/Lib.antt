@@ -19,3 +19,4 @@ pub mod Order
 pub mod Fuse
 pub mod Walk
 pub mod Demand3
+pub mod Plan

@@ -1,13 +1,18 @@
-// The loop order of a layout: its axes from the innermost loop to the outermost.
+// The loop order of a layout, its axes from the innermost loop to the outermost, and the order in which a plan's axes are fused.
 use importance::compute_importance;
 use importance::sort_by_importance;
 use layout::lead;
+use layout::total_at_most;
 use strided::Purpose;
 ghost use mathlib.Core.Path.{_≡_};
+ghost use Prim.Native.Nat.{_≤_};
 ghost use lib.ListN.{length};
-ghost use Rattle.strided.specs.Base.{padded};
-ghost use Rattle.strided.specs.Order.{loopOrder};
+ghost use Rattle.strided.specs.Base.{padded, run};
+ghost use Rattle.strided.specs.Order.{loopOrder, fusingOrder};
 ghost use Rattle.auxiliary.specs.Fitting.{Fitting};
+
+// A layout with no more cells than this is walked as it is given: finding a better order would cost more than it gains.
+pub const SMALL_TENSOR_THRESHOLD: u64 = 1024;
 
 // The axes of a layout by falling weight, where the lead is the chosen operand, or operand 0 if none is.
 pub fn compute_order(
@@ -21,4 +26,34 @@ pub fn compute_order(
 {
     let importance = compute_importance(extents, strides, operands, lead(purpose));
     sort_by_importance(&importance, extents.len())
+}
+
+// The axes as they are given.
+fn as_given(rank: usize) -> [usize; 64]
+    requires { ⌜ rank ≤ 64 ⌝ }
+    ensures { λ r. ⌜ r ≡ padded 64 0 (run 0 rank) ⌝ }
+{
+    let mut out = [0usize; 64];
+    let mut i: usize = 0;
+    while i < rank {
+        out[i] = i;
+        i += 1;
+    }
+    out
+}
+
+// The order in which a plan's axes are fused: as given if the layout is small, else the loop order.
+pub fn fusing_order(
+    extents: &[u64],
+    strides: &[i64],
+    operands: usize,
+    purpose: Purpose,
+) -> [usize; 64]
+    requires { ⌜ Fitting (now strides) (length (now extents)) operands ⌝ }
+    ensures { λ r. ⌜ r ≡ padded 64 0 (fusingOrder (now (extents .entry)) operands (now (strides .entry)) purpose) ⌝ }
+{
+    if total_at_most(extents, SMALL_TENSOR_THRESHOLD) {
+        return as_given(extents.len());
+    }
+    compute_order(extents, strides, operands, purpose)
 }

@@ -44,6 +44,10 @@ pub served-none : (o : Option Refusal) → answered o ≡ Served → o ≡ none
 served-none none h = refl
 served-none (some r) h = let z : _≡_ {A = ℕ} 0 1 = cc h in absurd (omega arith)
 
+pub refused-some : (o : Option Refusal) {r : Refusal} → answered o ≡ Refused r → o ≡ some r
+refused-some none h = let z : _≡_ {A = ℕ} 0 1 = cc h in absurd (omega arith)
+refused-some (some s) h = cc
+
 -- a row that passes where z holds
 pub unless-passes : (z t : Bool) → (not z && t) ≡ false → z ≡ false → t ≡ false
 unless-passes true t h q = absurd (false≢true (sym q))

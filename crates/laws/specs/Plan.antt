@@ -1,0 +1,2 @@
+-- Laws of whole plans: what cutting may lean on, and how the plans of the two purposes compare.
+pub mod Purposes
