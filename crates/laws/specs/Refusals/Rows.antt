@@ -24,10 +24,11 @@ module _ {all rs : List Row} {r : Row} (p : Past all (r ∷ rs)) {b : Bool} (is 
   pub past-next : b ≡ false → Past all rs
   past-next h = record { same = p .same ∙ rw (sym is ∙ h) }
 
+  pub past-some : b ≡ true → refusedBy all ≡ some (r .refusal)
+  past-some h = p .same ∙ rw (sym is ∙ h)
+
   pub past-refused : b ≡ true → Refused (r .refusal) ≡ answered (refusedBy all)
-  past-refused h =
-      let e : refusedBy (r ∷ rs) ≡ some (r .refusal) = rw (sym is ∙ h) in
-      sym (ap answered (p .same ∙ e))
+  past-refused h = sym (ap answered (past-some h))
 
 pub past-served : {all : List Row} → Past all [] → Served ≡ answered (refusedBy all)
 past-served p = sym (ap answered (p .same))

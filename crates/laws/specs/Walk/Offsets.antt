@@ -30,7 +30,7 @@ dot-place [] [] k ts h =
     rw (z, zero-*ℤ (firstOf ts))
 dot-place (ax e w ∷ axs) [] k ts h = absurd (omega arith)
 
-getD-offsets : (tss : List (List ℤ)) (zs : List ℤ) (c : List ℕ) (j : ℕ) → length zs ≡ length tss → j < length tss
+pub getD-offsets : (tss : List (List ℤ)) (zs : List ℤ) (c : List ℕ) (j : ℕ) → length zs ≡ length tss → j < length tss
     → getD (offsetsFrom tss zs c) j (pos 0) ≡ getD zs j (pos 0) +ℤ dot c (getD tss j [])
 getD-offsets [] zs c j e h = absurd (omega arith)
 getD-offsets (ts ∷ tss) [] c j e h = absurd (omega arith)

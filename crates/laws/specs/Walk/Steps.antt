@@ -41,7 +41,7 @@ padded-zeros zero axs = refl
 padded-zeros (suc n) [] = ap (λ r. 0 ∷ r) (padded-zeros n [])
 padded-zeros (suc n) (a ∷ axs) = ap (λ r. 0 ∷ r) (padded-zeros n axs)
 
-offsets-zeros : (axs : List CutAxis) (tss : List (List ℤ)) (zs : List ℤ) → length zs ≡ length tss → offsetsFrom tss zs (zeros axs) ≡ zs
+pub offsets-zeros : (axs : List CutAxis) (tss : List (List ℤ)) (zs : List ℤ) → length zs ≡ length tss → offsetsFrom tss zs (zeros axs) ≡ zs
 offsets-zeros axs [] [] h = refl
 offsets-zeros axs [] (z ∷ zs) h = absurd (omega arith)
 offsets-zeros axs (ts ∷ tss) [] h = absurd (omega arith)
@@ -90,7 +90,7 @@ module _ (p : Plan) (zs : List ℤ) (r : Ready p zs) where
   pub as-many : length zs ≡ length (planRows p)
   as-many = r .many ∙ sym rows-many
 
-  cut-many : length (planCutAxes p) ≡ p .rank
+  pub cut-many : length (planCutAxes p) ≡ p .rank
   cut-many = length-cut (planExtents p) _ ∙ r .long
 
   -- the state whose counters are those, or that has ended

@@ -1,0 +1,24 @@
+use Rattle.advance.proofs.Turns.{inside-done, tile-done}
+use native.Mathlib.Omega.{arith}
+use Prim.Native.Nat.{_≤_}
+use borrow.Author.Needs.{needs}
+use Rattle.advance.proofs.advance.Statement.{statement}
+use Rattle.advance.proofs.advance.Tie as tie
+use Rattle.advance.proofs.advance.Reads as reads
+use Rattle.advance.proofs.advance.Lts as lts
+use Rattle.advance.proofs.carry.Reads as carry-reads
+
+carry-requires : tie.Need-carry-requires
+carry-requires c κs = (c .before .before .before .pre .0, (c .before .before .before .pre .1 .0, c .before .before .before .pre .1 .1 .most))
+
+returns : tie.Need-returns
+returns c = inside-done (c .before .before .before .before .before .pre .1 .1) (c .before .before .before .before .before .pre .0 .counted) (c .before .before .before .before .before .pre .0 .axes) (c .before .carry .ensures) (c .if1 .taken)
+
+carry-requires-2 : tie.Need-carry-requires-2
+carry-requires-2 c κs = (c .before .before .before .before .carry .ensures .roomy, (c .before .before .before .before .carry .ensures .tiled, omega arith))
+
+returns-2 : tie.Need-returns-2
+returns-2 c = tile-done (c .before .before .before .before .before .before .before .before .before .pre .1 .1) (c .before .before .before .before .before .before .before .before .before .pre .0 .counted) (c .before .before .before .before .before .before .before .before .before .pre .0 .axes) (c .before .before .before .before .before .carry .ensures) (c .before .before .before .before .if1 .left) (c .carry2 .ensures)
+
+pub advance-spec : {M : Type 1} → statement M
+advance-spec = tie.close (tie.spec carry-requires returns carry-requires-2 returns-2)

@@ -1,0 +1,26 @@
+use Rattle.advance.specs.Axis.{aimOf, insideAim, tileAim}
+use mathlib.Core.Path.{_≡_, refl, sym, ap, subst, _∙_}
+use borrow.Author.Needs.{needs}
+use Rattle.advance.proofs.aim_of.Statement.{statement}
+use Rattle.advance.proofs.aim_of.Tie as tie
+use Rattle.advance.proofs.aim_of.Reads as reads
+use Rattle.advance.proofs.aim_of.Lts as lts
+use Rattle.advance.proofs.inside_aim.Reads as inside-aim-reads
+use Rattle.advance.proofs.tile_aim.Reads as tile-aim-reads
+
+inside-aim-requires : tie.Need-inside-aim-requires
+inside-aim-requires c κs = search needs
+
+returns : tie.Need-returns
+unfolding aimOf
+returns c = c .inside-aim .ensures ∙ simp (c .before .if1 .taken)
+
+tile-aim-requires : tie.Need-tile-aim-requires
+tile-aim-requires c κs = search needs
+
+returns-2 : tie.Need-returns-2
+unfolding aimOf
+returns-2 c = c .tile-aim .ensures ∙ simp (c .before .if1 .left)
+
+pub aim-of-spec : {M : Type 1} → statement M
+aim-of-spec = tie.close (tie.spec inside-aim-requires returns tile-aim-requires returns-2)

@@ -1,0 +1,109 @@
+use Prim.Native.Nat.{_<_}
+use Prim.Native.Nat.{_≤_}
+use borrow.Author.Needs.{needs}
+use Rattle.advance.proofs.Turns.{Before, begins, ends, shifts-at, stops-at, goes-on-at}
+use Prim.Native.Nat.{_-_}
+use native.Mathlib.Omega.{arith}
+use mathlib.Core.Path.{_≡_, refl, sym, ap, subst, _∙_}
+use Rattle.advance.proofs.carry.Statement.{statement}
+use Rattle.advance.proofs.carry.Tie as tie
+use Rattle.advance.proofs.carry.Reads as reads
+use Rattle.advance.proofs.carry.Lts as lts
+use Rattle.advance.proofs.aim_of.Reads as aim-of-reads
+use Rattle.advance.proofs.shift.Reads as shift-reads
+
+abbrev Inv-loop : tie.InvT-loop
+Inv-loop inside first last rank operands e w s t₀ c₀ o₀ i₀ t c o i = (last ≤ rank) × Before inside first last rank operands e w s c₀ o₀ i t c o
+
+abbrev μ-loop : tie.MeasureT-loop
+μ-loop inside first last rank operands e w s t₀ c₀ o₀ i₀ t c o i = last - i
+
+loop-holds : tie.Need-loop-holds Inv-loop μ-loop
+loop-holds c = (c .pre .1 .1, begins _ _ _ _ _ _ _ _ _ _ _ (c .pre .0) (c .pre .1 .0))
+
+mul-at : tie.Need-mul-at Inv-loop μ-loop
+mul-at c = record { fits = omega (arith, c .before .loop .inv .0, c .before .loop .inv .1 .roomy .axes) }
+
+element-copy-out-at : tie.Need-element-copy-out-at Inv-loop μ-loop
+element-copy-out-at c = omega (arith, c .before .loop .inv .0, c .before .loop .inv .1 .roomy .axes)
+
+mul-aim-of : tie.Need-mul-aim-of Inv-loop μ-loop
+mul-aim-of c = record { fits = omega (arith, c .before .before .loop .inv .0, c .before .before .loop .inv .1 .roomy .axes) }
+
+element-copy-out-aim-of : tie.Need-element-copy-out-aim-of Inv-loop μ-loop
+element-copy-out-aim-of c = omega (arith, c .before .before .loop .inv .0, c .before .before .loop .inv .1 .roomy .axes)
+
+mul-aim-of-2 : tie.Need-mul-aim-of-2 Inv-loop μ-loop
+mul-aim-of-2 c = record { fits = omega (arith, c .before .before .before .loop .inv .0, c .before .before .before .loop .inv .1 .roomy .axes) }
+
+element-copy-out-aim-of-2 : tie.Need-element-copy-out-aim-of-2 Inv-loop μ-loop
+element-copy-out-aim-of-2 c = omega (arith, c .before .before .before .loop .inv .0, c .before .before .before .loop .inv .1 .roomy .axes)
+
+mul-aim-of-3 : tie.Need-mul-aim-of-3 Inv-loop μ-loop
+mul-aim-of-3 c = record { fits = omega (arith, c .before .before .before .before .loop .inv .0, c .before .before .before .before .loop .inv .1 .roomy .axes) }
+
+element-copy-out-aim-of-3 : tie.Need-element-copy-out-aim-of-3 Inv-loop μ-loop
+element-copy-out-aim-of-3 c = omega (arith, c .before .before .before .before .loop .inv .0, c .before .before .before .before .loop .inv .1 .roomy .axes)
+
+aim-of-requires : tie.Need-aim-of-requires Inv-loop μ-loop
+aim-of-requires c κs =
+    let l = c .before .before .before .before .before .loop in
+    let t : l .i < c .before .before .before .before .before .before .args .rank = omega (arith, c .before .before .before .before .loop-test .taken, l .inv .0) in
+    (l .inv .1 .tiled .wide _ t, l .inv .1 .roomy .within _ t, l .inv .1 .tiled .start _ t)
+
+shift-requires : tie.Need-shift-requires Inv-loop μ-loop
+shift-requires c κs = shifts-at _ _ _ _ _ _ _ _ _ _ _ _ _ _ (c .before .before .before .before .before .before .before .loop .inv .1) (c .before .before .before .before .before .before .before .loop .inv .0) (c .before .before .before .before .before .before .loop-test .taken) _ (c .before .aim-of .ensures)
+
+mul-c : tie.Need-mul-c Inv-loop μ-loop
+mul-c c = record { fits = omega (arith, c .before .before .before .before .before .before .before .before .loop .inv .0, c .before .before .before .before .before .before .before .before .loop .inv .1 .roomy .axes) }
+
+element-write-c : tie.Need-element-write-c Inv-loop μ-loop
+element-write-c c = omega (arith, c .before .before .before .before .before .before .before .before .loop .inv .0, c .before .before .before .before .before .before .before .before .loop .inv .1 .roomy .axes)
+
+mul-t : tie.Need-mul-t Inv-loop μ-loop
+mul-t c = record { fits = omega (arith, c .before .before .before .before .before .before .before .before .loop .inv .0, c .before .before .before .before .before .before .before .before .loop .inv .1 .roomy .axes) }
+
+element-write-t : tie.Need-element-write-t Inv-loop μ-loop
+element-write-t c = omega (arith, c .before .before .before .before .before .before .before .before .loop .inv .0, c .before .before .before .before .before .before .before .before .loop .inv .1 .roomy .axes)
+
+returns : tie.Need-returns Inv-loop μ-loop
+returns c = stops-at _ _ _ _ _ _ _ _ _ _ _ _ _ _ (c .before .before .before .before .before .before .before .before .before .loop .inv .1) (c .before .before .before .before .before .before .before .before .before .loop .inv .0) (c .before .before .before .before .before .before .before .before .loop-test .taken) _ (c .before .before .before .aim-of .ensures) _ (c .before .shift .ensures) (c .if1 .taken)
+
+add-i : tie.Need-add-i Inv-loop μ-loop
+add-i c = record { fits = omega (arith, c .before .before .before .before .before .before .before .before .before .loop .inv .0, c .before .before .before .before .before .before .before .before .before .loop .inv .1 .roomy .axes) }
+
+loop-less : tie.Need-loop-less Inv-loop μ-loop
+loop-less c = omega arith
+
+loop-again : tie.Need-loop-again Inv-loop μ-loop
+loop-again c = (c .before .before .before .before .before .before .before .before .before .loop .inv .0, goes-on-at _ _ _ _ _ _ _ _ _ _ _ _ _ _ (c .before .before .before .before .before .before .before .before .before .loop .inv .1) (c .before .before .before .before .before .before .before .before .before .loop .inv .0) (c .before .before .before .before .before .before .before .before .loop-test .taken) _ (c .before .before .before .aim-of .ensures) _ (c .before .shift .ensures) (c .if1 .left))
+
+returns-2 : tie.Need-returns-2 Inv-loop μ-loop
+returns-2 c = ends _ _ _ _ _ _ _ _ _ _ _ _ _ _ (c .before .loop .inv .1) (c .loop-test .left)
+
+pub carry-spec : {M : Type 1} → statement M
+carry-spec =
+    tie.close
+    (tie.spec
+    Inv-loop
+    μ-loop
+    loop-holds
+    mul-at
+    element-copy-out-at
+    mul-aim-of
+    element-copy-out-aim-of
+    mul-aim-of-2
+    element-copy-out-aim-of-2
+    mul-aim-of-3
+    element-copy-out-aim-of-3
+    aim-of-requires
+    shift-requires
+    mul-c
+    element-write-c
+    mul-t
+    element-write-t
+    returns
+    add-i
+    loop-less
+    loop-again
+    returns-2)

@@ -1,0 +1,174 @@
+use mathlib.Core.Path.{_≡_, refl, ap, _∙_}
+use mathlib.Core.Bool.{not}
+use mathlib.Core.List.{[]}
+use Prim.Native.Nat.{ℕ, _≤_}
+use native.Mathlib.Omega.{arith}
+use lib.ListN.{length, take, replicate}
+use borrow.Author.Needs.{needs}
+use borrow.Author.Tests.{eq-eqb, ne-eqb}
+use Rattle.strided.specs.Refusals.{row6, row9}
+use Rattle.strided.specs.Begin.{beginRows, beginRefused}
+use Rattle.laws.specs.Refusals.Rows.{past-none, past-next, past-refused, past-served}
+use Rattle.states.specs.Reaches.{planOf}
+use Rattle.states.specs.Starts.{Begins}
+use Rattle.states.proofs.Table.{Passed, few-axes, few-operands, cut-length, laid, row6-is, row9-is, begins}
+use Rattle.states.proofs.check_begin.Statement.{statement}
+use Rattle.states.proofs.check_begin.Tie as tie
+use Rattle.states.proofs.check_begin.Reads as reads
+use Rattle.states.proofs.check_begin.Lts as lts
+use Rattle.layout.proofs.operands_wrong.Reads as operands-wrong-reads
+use Rattle.layout.proofs.rank_over.Reads as rank-over-reads
+use Rattle.layout.proofs.reach_over.Reads as reach-over-reads
+use Rattle.layout.proofs.total_over.Reads as total-over-reads
+use Rattle.states.proofs.starts.starts_leave.Reads as starts-leave-reads
+
+-- what rows 1 and 2 let through
+axes : (c : tie.Else1) → c .before .before .before .args .rank ≤ 64
+axes c = few-axes _ (c .before .rank-over .ensures) (c .if1 .left)
+
+few : (c : tie.Else2) → c .before .before .before .before .before .args .operands ≤ 8
+few c = few-operands _ (c .before .operands-wrong .ensures) (c .if2 .left)
+
+-- no row up to the one just tested applies
+passed-1 : (c : tie.Else1) → let a = c .before .before .before .args in Passed (a .rank) (a .operands) (a .e .now) (a .s .now) (a .starts .now) 1
+passed-1 c =
+    past-next (past-none _) (c .before .rank-over .ensures) (c .if1 .left)
+
+passed-2 : (c : tie.Else2) → let a = c .before .before .before .before .before .args in Passed (a .rank) (a .operands) (a .e .now) (a .s .now) (a .starts .now) 2
+passed-2 c =
+    past-next (passed-1 (c .before .before)) (c .before .operands-wrong .ensures) (c .if2 .left)
+
+passed-3 : (c : tie.Else3) → let a = c .before .before .before .before .before .before .before .before .args in Passed (a .rank) (a .operands) (a .e .now) (a .s .now) (a .starts .now) 3
+passed-3 c =
+    past-next (passed-2 (c .before .before .before)) (c .before .total-over .ensures) (c .if3 .left)
+
+passed-4 : (c : tie.Else4) → let a = c .before .before .before .before .before .before .before .before .before .before .before .args in Passed (a .rank) (a .operands) (a .e .now) (a .s .now) (a .starts .now) 4
+passed-4 c =
+    let s = c .before .before .before .before .before .before .before .before .before .before .before in
+    let a = s .args in
+    past-next (passed-3 (c .before .before .before)) (c .before .reach-over .ensures ∙ row6-is (a .rank) (a .operands) (a .e .now) (a .s .now) (a .starts .now) (s .pre .0) (s .pre .1) (axes (c .before .before .before .before .before .before .before .before)) (few (c .before .before .before .before .before .before))) (c .if4 .left)
+
+passed-5 : (c : tie.Else5) → let a = c .before .before .before .before .before .before .before .before .before .before .before .before .args in Passed (a .rank) (a .operands) (a .e .now) (a .s .now) (a .starts .now) 5
+passed-5 c =
+    past-next (passed-4 (c .before)) refl (ap not (eq-eqb _ _ (c .if5 .left)))
+
+passed-6 : (c : tie.Else6) → let a = c .before .before .before .before .before .before .before .before .before .before .before .before .before .before .before .before .args in Passed (a .rank) (a .operands) (a .e .now) (a .s .now) (a .starts .now) 6
+passed-6 c =
+    let s = c .before .before .before .before .before .before .before .before .before .before .before .before .before .before .before .before in
+    let a = s .args in
+    past-next (passed-5 (c .before .before .before .before)) (c .before .starts-leave .ensures ∙ row9-is (a .rank) (a .operands) (a .e .now) (a .s .now) (a .starts .now) (s .pre .0) (s .pre .1) (axes (c .before .before .before .before .before .before .before .before .before .before .before .before .before)) (few (c .before .before .before .before .before .before .before .before .before .before .before))) (c .if6 .left)
+
+rank-over-requires : tie.Need-rank-over-requires
+rank-over-requires c κs =
+    search needs
+
+returns : tie.Need-returns
+unfolding beginRefused
+returns c =
+    let s = c .before .before .before in
+    let a = s .args in
+    past-refused (past-none (beginRows (planOf (a .rank) (a .operands) (a .e .now) [] (a .s .now)) (a .starts .now))) (c .before .rank-over .ensures) (c .if1 .taken)
+
+operands-wrong-requires : tie.Need-operands-wrong-requires
+operands-wrong-requires c κs =
+    search needs
+
+returns-2 : tie.Need-returns-2
+unfolding beginRefused
+returns-2 c =
+    past-refused (passed-1 (c .before .before)) (c .before .operands-wrong .ensures) (c .if2 .taken)
+
+slice-aggregate-total-over : tie.Need-slice-aggregate-total-over
+slice-aggregate-total-over c =
+    let s = c .before .before .before .before .before .before in
+    let a = s .args in
+    cut-length (a .rank) (a .e .now) (omega (arith, s .pre .0, axes (c .before .before .before)))
+
+total-over-requires : tie.Need-total-over-requires
+total-over-requires c κs =
+    search needs
+
+returns-3 : tie.Need-returns-3
+unfolding beginRefused
+returns-3 c =
+    past-refused (passed-2 (c .before .before .before)) (c .before .total-over .ensures) (c .if3 .taken)
+
+slice-aggregate-reach-over : tie.Need-slice-aggregate-reach-over
+slice-aggregate-reach-over c =
+    let s = c .before .before .before .before .before .before .before .before .before in
+    let a = s .args in
+    cut-length (a .rank) (a .e .now) (omega (arith, s .pre .0, axes (c .before .before .before .before .before .before)))
+
+reach-over-requires : tie.Need-reach-over-requires
+reach-over-requires c κs =
+    let s = c .before .before .before .before .before .before .before .before .before in
+    let a = s .args in
+    laid (a .rank) (a .operands) (a .e .now) (a .s .now) (a .starts .now) (s .pre .0) (s .pre .1) (axes (c .before .before .before .before .before .before)) (few (c .before .before .before .before))
+
+returns-4 : tie.Need-returns-4
+unfolding beginRefused
+returns-4 c =
+    let s = c .before .before .before .before .before .before .before .before .before .before .before in
+    let a = s .args in
+    past-refused (passed-3 (c .before .before .before)) (c .before .reach-over .ensures ∙ row6-is (a .rank) (a .operands) (a .e .now) (a .s .now) (a .starts .now) (s .pre .0) (s .pre .1) (axes (c .before .before .before .before .before .before .before .before)) (few (c .before .before .before .before .before .before))) (c .if4 .taken)
+
+returns-5 : tie.Need-returns-5
+unfolding beginRefused
+returns-5 c =
+    past-refused (passed-4 (c .before)) refl (ap not (ne-eqb _ _ (c .if5 .taken)))
+
+slice-aggregate-starts-leave : tie.Need-slice-aggregate-starts-leave
+slice-aggregate-starts-leave c =
+    let s = c .before .before .before .before .before .before .before .before .before .before .before .before .before in
+    let a = s .args in
+    cut-length (a .rank) (a .e .now) (omega (arith, s .pre .0, axes (c .before .before .before .before .before .before .before .before .before .before)))
+
+array-share-prefix-counters : tie.Need-array-share-prefix-counters
+array-share-prefix-counters c =
+    axes (c .before .before .before .before .before .before .before .before .before .before)
+
+slice-aggregate-starts-leave-2 : tie.Need-slice-aggregate-starts-leave-2
+slice-aggregate-starts-leave-2 c =
+    let s = c .before .before .before .before .before .before .before .before .before .before .before .before .before .before in
+    let a = s .args in
+    cut-length (a .rank) (replicate 64 0) (axes (c .before .before .before .before .before .before .before .before .before .before .before))
+
+starts-leave-requires : tie.Need-starts-leave-requires
+starts-leave-requires c κs =
+    let s = c .before .before .before .before .before .before .before .before .before .before .before .before .before .before in
+    let a = s .args in
+    begins (a .rank) (a .operands) (a .e .now) (a .s .now) (a .starts .now) (s .pre .0) (s .pre .1) (axes (c .before .before .before .before .before .before .before .before .before .before .before)) (few (c .before .before .before .before .before .before .before .before .before)) (omega (arith, c .before .before .if5 .left)) (c .before .before .before .before .reach-over .ensures) (c .before .before .before .if4 .left)
+
+returns-6 : tie.Need-returns-6
+unfolding beginRefused
+returns-6 c =
+    let s = c .before .before .before .before .before .before .before .before .before .before .before .before .before .before .before .before in
+    let a = s .args in
+    past-refused (passed-5 (c .before .before .before .before)) (c .before .starts-leave .ensures ∙ row9-is (a .rank) (a .operands) (a .e .now) (a .s .now) (a .starts .now) (s .pre .0) (s .pre .1) (axes (c .before .before .before .before .before .before .before .before .before .before .before .before .before)) (few (c .before .before .before .before .before .before .before .before .before .before .before))) (c .if6 .taken)
+
+returns-7 : tie.Need-returns-7
+unfolding beginRefused
+returns-7 c =
+    past-served (passed-6 c)
+
+pub check-begin-spec : {M : Type 1} → statement M
+check-begin-spec =
+    tie.close
+    (tie.spec
+    rank-over-requires
+    returns
+    operands-wrong-requires
+    returns-2
+    slice-aggregate-total-over
+    total-over-requires
+    returns-3
+    slice-aggregate-reach-over
+    reach-over-requires
+    returns-4
+    returns-5
+    slice-aggregate-starts-leave
+    array-share-prefix-counters
+    slice-aggregate-starts-leave-2
+    starts-leave-requires
+    returns-6
+    returns-7)

@@ -1,0 +1,24 @@
+use mathlib.Core.Path.{_≡_, refl, sym, ap, subst, _∙_}
+use lib.ListN.{length-take}
+use native.Mathlib.Omega.{arith}
+use borrow.Author.Needs.{needs}
+use Rattle.states.proofs.no_block.Statement.{statement}
+use Rattle.states.proofs.no_block.Tie as tie
+use Rattle.states.proofs.no_block.Reads as reads
+use Rattle.states.proofs.no_block.Lts as lts
+use Rattle.layout.proofs.has_zero.Reads as has-zero-reads
+
+slice-aggregate-has-zero : tie.Need-slice-aggregate-has-zero
+slice-aggregate-has-zero c =
+    let a = c .before .before .args in
+    let l = length-take (a .rank) (a .e .now) in
+    omega (arith, l, c .before .before .pre)
+
+has-zero-requires : tie.Need-has-zero-requires
+has-zero-requires c κs = search needs
+
+returns : tie.Need-returns
+returns c = search needs
+
+pub no-block-spec : {M : Type 1} → statement M
+no-block-spec = tie.close (tie.spec slice-aggregate-has-zero has-zero-requires returns)

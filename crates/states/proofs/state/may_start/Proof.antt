@@ -1,0 +1,27 @@
+use mathlib.Core.Bool.{not}
+use Rattle.states.specs.Reaches.{mayStart}
+use mathlib.Core.Path.{_≡_, refl, sym, ap, subst, _∙_}
+use borrow.Author.Needs.{needs}
+use Rattle.states.proofs.state.may_start.Statement.{statement}
+use Rattle.states.proofs.state.may_start.Tie as tie
+use Rattle.states.proofs.state.may_start.Reads as reads
+use Rattle.states.proofs.state.may_start.Lts as lts
+use Rattle.layout.proofs.reach_over.Reads as reach-over-reads
+use Rattle.layout.proofs.total_over.Reads as total-over-reads
+
+total-over-requires : tie.Need-total-over-requires
+total-over-requires c κs = search needs
+
+returns : tie.Need-returns
+unfolding mayStart
+returns c = sym (rw (sym (c .before .total-over .ensures) ∙ c .if1 .taken))
+
+reach-over-requires : tie.Need-reach-over-requires
+reach-over-requires c κs = search needs
+
+returns-2 : tie.Need-returns-2
+unfolding mayStart
+returns-2 c = ap not (c .reach-over .ensures) ∙ sym (rw (sym (c .before .before .total-over .ensures) ∙ c .before .if1 .left))
+
+pub may-start-spec : {M : Type 1} → statement M
+may-start-spec = tie.close (tie.spec total-over-requires returns reach-over-requires returns-2)

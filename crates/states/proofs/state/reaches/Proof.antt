@@ -1,0 +1,113 @@
+use Rattle.states.proofs.Table.{cut-length}
+use Rattle.states.proofs.Reaching.{blocks-long, counters-long, laid-here, untidy, may-not, stands-not, leave-last, begins-here}
+use native.Mathlib.Omega.{arith}
+use mathlib.Core.Path.{_≡_, refl, sym, ap, subst, _∙_}
+use borrow.Author.Needs.{needs}
+use Rattle.states.proofs.state.reaches.Statement.{statement}
+use Rattle.states.proofs.state.reaches.Tie as tie
+use Rattle.states.proofs.state.reaches.Reads as reads
+use Rattle.states.proofs.state.reaches.Lts as lts
+use Rattle.states.proofs.starts.starts_leave.Reads as starts-leave-reads
+use Rattle.states.proofs.state.may_start.Reads as may-start-reads
+use Rattle.states.proofs.state.stands.Reads as stands-reads
+use Rattle.states.proofs.state.tidy.Reads as tidy-reads
+
+tidy-requires : tie.Need-tidy-requires
+tidy-requires c κs = search needs
+
+slice-aggregate-may-start : tie.Need-slice-aggregate-may-start
+slice-aggregate-may-start c =
+    let s = c .before .before .before .before .before .before in
+    let a = s .args in
+    cut-length (a .rank) (a .e .now) (omega (arith, s .pre .extents, s .pre .axes))
+
+may-start-requires : tie.Need-may-start-requires
+may-start-requires c κs =
+    let s = c .before .before .before .before .before .before in
+    let a = s .args in
+    laid-here (a .ended) (a .rank) (a .operands) (a .e .now) (a .b .now) (a .s .now) (a .c .now) (a .o .now) (s .pre)
+
+slice-aggregate-stands : tie.Need-slice-aggregate-stands
+slice-aggregate-stands c =
+    let s = c .before .before .before .before .before .before .before .before .before in
+    let a = s .args in
+    cut-length (a .rank) (a .e .now) (omega (arith, s .pre .extents, s .pre .axes))
+
+slice-aggregate-stands-2 : tie.Need-slice-aggregate-stands-2
+slice-aggregate-stands-2 c =
+    let s = c .before .before .before .before .before .before .before .before .before .before in
+    let a = s .args in
+    cut-length (a .rank) (a .b .now) (omega (arith, s .pre .blocks, s .pre .axes))
+
+slice-aggregate-stands-3 : tie.Need-slice-aggregate-stands-3
+slice-aggregate-stands-3 c =
+    let s = c .before .before .before .before .before .before .before .before .before .before .before in
+    let a = s .args in
+    cut-length (a .rank) (a .c .now) (omega (arith, s .pre .counters, s .pre .axes))
+
+stands-requires : tie.Need-stands-requires
+stands-requires c κs =
+    let s = c .before .before .before .before .before .before .before .before .before .before .before in
+    let a = s .args in
+    (blocks-long (a .ended) (a .rank) (a .operands) (a .e .now) (a .b .now) (a .s .now) (a .c .now) (a .o .now) (s .pre), counters-long (a .ended) (a .rank) (a .operands) (a .e .now) (a .b .now) (a .s .now) (a .c .now) (a .o .now) (s .pre))
+
+slice-aggregate-starts-leave : tie.Need-slice-aggregate-starts-leave
+slice-aggregate-starts-leave c =
+    let s = c .before .before .before .before .before .before .before .before .before .before .before .before .before .before in
+    let a = s .args in
+    cut-length (a .rank) (a .e .now) (omega (arith, s .pre .extents, s .pre .axes))
+
+slice-aggregate-starts-leave-2 : tie.Need-slice-aggregate-starts-leave-2
+slice-aggregate-starts-leave-2 c =
+    let s = c .before .before .before .before .before .before .before .before .before .before .before .before .before .before .before in
+    let a = s .args in
+    cut-length (a .rank) (a .c .now) (omega (arith, s .pre .counters, s .pre .axes))
+
+starts-leave-requires : tie.Need-starts-leave-requires
+starts-leave-requires c κs =
+    let s = c .before .before .before .before .before .before .before .before .before .before .before .before .before .before .before in
+    let a = s .args in
+    begins-here (a .ended) (a .rank) (a .operands) (a .e .now) (a .b .now) (a .s .now) (a .c .now) (a .o .now) (s .pre) (c .before .before .before .before .before .before .before .before .before .before .before .tidy .ensures) (c .before .before .before .before .before .before .before .before .before .before .if1 .taken) (c .before .before .before .before .before .before .before .before .may-start .ensures) (c .before .before .before .before .before .before .before .if2 .taken) (c .before .before .before .stands .ensures) (c .before .before .if3 .taken)
+
+returns : tie.Need-returns
+returns c =
+    let s = c .before .before .before .before .before .before .before .before .before .before .before .before .before .before .before .before in
+    let a = s .args in
+    leave-last (a .ended) (a .rank) (a .operands) (a .e .now) (a .b .now) (a .s .now) (a .c .now) (a .o .now) (s .pre) (c .before .before .before .before .before .before .before .before .before .before .before .before .tidy .ensures) (c .before .before .before .before .before .before .before .before .before .before .before .if1 .taken) (c .before .before .before .before .before .before .before .before .before .may-start .ensures) (c .before .before .before .before .before .before .before .before .if2 .taken) (c .before .before .before .before .stands .ensures) (c .before .before .before .if3 .taken) (c .starts-leave .ensures)
+
+returns-2 : tie.Need-returns-2
+returns-2 c =
+    let s = c .before .before .before .before .before .before .before .before .before .before .before .before .before in
+    let a = s .args in
+    stands-not (a .ended) (a .rank) (a .operands) (a .e .now) (a .b .now) (a .s .now) (a .c .now) (a .o .now) (s .pre) (c .before .before .before .before .before .before .before .before .before .tidy .ensures) (c .before .before .before .before .before .before .before .before .if1 .taken) (c .before .before .before .before .before .before .may-start .ensures) (c .before .before .before .before .before .if2 .taken) (c .before .stands .ensures) (c .if3 .left)
+
+returns-3 : tie.Need-returns-3
+returns-3 c =
+    let s = c .before .before .before .before .before .before .before .before in
+    let a = s .args in
+    may-not (a .ended) (a .rank) (a .operands) (a .e .now) (a .b .now) (a .s .now) (a .c .now) (a .o .now) (s .pre) (c .before .before .before .before .tidy .ensures) (c .before .before .before .if1 .taken) (c .before .may-start .ensures) (c .if2 .left)
+
+returns-4 : tie.Need-returns-4
+returns-4 c =
+    let s = c .before .before .before .before .before in
+    let a = s .args in
+    untidy (a .ended) (a .rank) (a .operands) (a .e .now) (a .b .now) (a .s .now) (a .c .now) (a .o .now) (s .pre) (c .before .tidy .ensures) (c .if1 .left)
+
+pub reaches-spec : {M : Type 1} → statement M
+reaches-spec =
+    tie.close
+    (tie.spec
+    tidy-requires
+    slice-aggregate-may-start
+    may-start-requires
+    slice-aggregate-stands
+    slice-aggregate-stands-2
+    slice-aggregate-stands-3
+    stands-requires
+    slice-aggregate-starts-leave
+    slice-aggregate-starts-leave-2
+    starts-leave-requires
+    returns
+    returns-2
+    returns-3
+    returns-4)

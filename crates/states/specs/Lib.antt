@@ -1,0 +1,3 @@
+-- What the checks of a walk's beginning and of its states answer.
+pub mod Starts
+pub mod Reaches

@@ -1,0 +1,41 @@
+use Rattle.advance.proofs.Turns.{single-all}
+use Rattle.walk.proofs.Stepping.{axes-few, operands-few, widths-here, tiled-here, roomy-here, block-step}
+use mathlib.Core.Path.{_≡_, refl, sym, ap, subst, _∙_}
+use Rattle.walk.proofs.block_at.Statement.{statement}
+use Rattle.walk.proofs.block_at.Tie as tie
+use Rattle.walk.proofs.block_at.Reads as reads
+use Rattle.walk.proofs.block_at.Lts as lts
+use Rattle.advance.proofs.advance.Reads as advance-reads
+use Rattle.advance.proofs.firsts.Reads as firsts-reads
+use Rattle.advance.proofs.length_of.Reads as length-of-reads
+use Rattle.advance.proofs.tile_starts.Reads as tile-starts-reads
+use Rattle.advance.proofs.widths.Reads as widths-reads
+
+widths-requires : tie.Need-widths-requires
+widths-requires c κs = axes-few _ _ (c .pre)
+
+tile-starts-requires : tie.Need-tile-starts-requires
+tile-starts-requires c κs = (axes-few _ _ (c .before .before .before .pre), widths-here _ _ (c .before .before .before .pre) _ (c .before .before .widths .ensures))
+
+length-of-requires : tie.Need-length-of-requires
+length-of-requires c κs = roomy-here _ _ (c .before .before .before .before .before .before .pre) refl .within 0
+
+firsts-requires : tie.Need-firsts-requires
+firsts-requires c κs = operands-few _ _ (c .before .before .before .before .before .before .before .pre)
+
+advance-requires : tie.Need-advance-requires
+advance-requires c κs = (roomy-here _ _ (c .before .before .before .before .before .before .before .before .before .before .before .before .pre) refl, (tiled-here _ _ (c .before .before .before .before .before .before .before .before .before .before .before .before .pre) _ (c .before .before .before .before .before .before .before .before .before .before .before .widths .ensures) _ (c .before .before .before .before .before .before .before .before .tile-starts .ensures), single-all _ _))
+
+returns : tie.Need-returns
+returns c = block-step _ _ (c .before .before .before .before .before .before .before .before .before .before .before .before .before .pre) refl _ (c .before .before .before .before .before .before .before .before .before .before .before .before .widths .ensures) (c .before .before .before .before .before .before .length-of .ensures) (c .before .before .before .before .before .firsts .ensures) (c .advance .ensures)
+
+pub block-at-spec : {M : Type 1} → statement M
+block-at-spec =
+    tie.close
+    (tie.spec
+    widths-requires
+    tile-starts-requires
+    length-of-requires
+    firsts-requires
+    advance-requires
+    returns)

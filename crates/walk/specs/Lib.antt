@@ -1,0 +1,2 @@
+-- What a step by value and a lent one leave.
+pub mod Lent

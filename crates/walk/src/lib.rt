@@ -1,0 +1,155 @@
+// One step of a walk by value, on any plan and any state; and the same on a state that is lent.
+ghost use mathlib.Core.Path.{_≡_};
+ghost use mathlib.Core.Bool.{false};
+ghost use Rattle.strided.specs.Step.{notStepped, stepped};
+ghost use Rattle.states.specs.Reaches.{planOf, walkOf};
+ghost use Rattle.walk.specs.Lent.{Taken, overStep, left};
+use advance::advance;
+use advance::firsts;
+use advance::length_of;
+use advance::tile_starts;
+use advance::widths;
+use layout::operands_wrong;
+use layout::rank_over;
+pub use states::begin;
+use states::reaches;
+use strided::Outcome;
+use strided::Plan;
+use strided::Refusal;
+use strided::Stepped;
+use strided::Walk;
+
+// "A refusal carries its number and nothing else."
+fn rejected(refusal: Refusal) -> Stepped
+    ensures { λ r. ⌜ r ≡ notStepped refusal ⌝ }
+{
+    let counters = [0u64; 64];
+    let offsets = [0i64; 8];
+    Stepped {
+        answer: Outcome::Rejected(refusal),
+        counters: counters,
+        length: 0,
+        offsets: offsets,
+        strides: offsets,
+        walk: Walk {
+            ended: false,
+            counters: counters,
+            offsets: offsets,
+        },
+    }
+}
+
+// "A step after the last block answers "ended" again, state unchanged."
+fn ended_again(walk: Walk) -> Stepped
+    ensures { λ r. ⌜ r ≡ overStep walk ⌝ }
+{
+    let counters = [0u64; 64];
+    let offsets = [0i64; 8];
+    Stepped {
+        answer: Outcome::Ended,
+        counters: counters,
+        length: 0,
+        offsets: offsets,
+        strides: offsets,
+        walk: walk,
+    }
+}
+
+// The block at the counters, with the state at the next one. It checks nothing.
+fn block_at<'a>(
+    rank: usize,
+    operands: usize,
+    e: &'a [u64; 64],
+    b: &'a [u64; 64],
+    s: &'a [i64; 512],
+    counters: [u64; 64],
+    offsets: [i64; 8],
+) -> Stepped
+    requires { ⌜ Taken (planOf rank operands (now e) (now b) (now s)) (walkOf false counters offsets) ⌝ }
+    ensures { λ r. ⌜ r ≡ stepped (planOf rank operands (now (e .entry)) (now (b .entry)) (now (s .entry))) (walkOf false counters offsets) ⌝ }
+{
+    let w = widths(rank, e, b);
+    let mut c = counters;
+    let mut o = offsets;
+    let mut t = tile_starts(rank, &w, &c);
+    let length = length_of(rank, e, &w, &c);
+    let strides = firsts(rank, operands, s);
+    let more = advance(rank, rank, operands, e, &w, s, &mut t, &mut c, &mut o);
+    let next = Walk {
+        ended: !more,
+        counters: c,
+        offsets: o,
+    };
+    Stepped {
+        answer: Outcome::Block,
+        counters: counters,
+        length: length,
+        offsets: offsets,
+        strides: strides,
+        walk: next,
+    }
+}
+
+// ONE STEP of a walk: rows 1 and 2 of the plan, then row 10, whatever the values of plan and state.
+pub fn step(plan: Plan, walk: Walk) -> Stepped
+    ensures { λ r. ⌜ r ≡ stepped plan walk ⌝ }
+{
+    let rank = plan.rank;
+    let operands = plan.operands;
+    if rank_over(rank) {
+        return rejected(Refusal::Rank);
+    }
+    if operands_wrong(operands) {
+        return rejected(Refusal::Operands);
+    }
+    let ended = walk.ended;
+    let c = walk.counters;
+    let o = walk.offsets;
+    let reached = reaches(
+        ended,
+        rank,
+        operands,
+        &plan.extents,
+        &plan.blocks,
+        &plan.strides,
+        &c,
+        &o,
+    );
+    if reached {
+        if ended {
+            return ended_again(walk);
+        }
+        return block_at(
+            rank,
+            operands,
+            &plan.extents,
+            &plan.blocks,
+            &plan.strides,
+            c,
+            o,
+        );
+    }
+    rejected(Refusal::State)
+}
+
+// The state that a lent step leaves: the one that the step returns, or, if refused, the one it was lent.
+fn left_by(stepped: Stepped, lent: Walk) -> Walk
+    ensures { λ r. ⌜ r ≡ left stepped lent ⌝ }
+{
+    let answer = stepped.answer;
+    match answer {
+        Outcome::Rejected(refusal) => lent,
+        Outcome::Block => stepped.walk,
+        Outcome::Ended => stepped.walk,
+    }
+}
+
+// A walk lent by reference moves to its next block.
+pub fn step_lent(plan: Plan, walk: &mut Walk) -> Stepped
+    ensures { λ r. ⌜ (r ≡ stepped plan (now (walk .entry))) × (now (walk .exit) ≡ left (stepped plan (now (walk .entry))) (now (walk .entry))) ⌝ }
+{
+    let lent = *walk;
+    let r = step(plan, lent);
+    *walk = left_by(r, lent);
+    r
+}
