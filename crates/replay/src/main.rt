@@ -1,6 +1,6 @@
 // Answers layouts as the original does: standard input holds any number of them in the text form, and to each the program prints what the
 // Rust program `oracle --parts` prints. Blank lines and lines that begin with `#` may stand between layouts. A text that is not in the form
-// is answered up to there, and then with `malformed` and the byte's place.
+// is answered up to there, and then with `malformed` and the byte's place. A text has at most 262,143 bytes.
 ghost use mathlib.Core.Path.{_≡_};
 ghost use Prim.Native.Nat.{_≤_, _*_};
 ghost use lib.ListN.{length};
@@ -136,9 +136,14 @@ fn replay(s: &[u8], out: &mut [u8]) {
     flush(out, held)
 }
 
+// A text that fills the whole array may go on, so it is not answered.
 fn main() {
-    let mut text = [0u8; 131072];
+    let mut text = [0u8; 262144];
     let mut out = [0u8; 65536];
     let n = io::read_full(0, &mut text);
-    replay(&text[..n], &mut out);
+    if n < 262144 {
+        replay(&text[..n], &mut out);
+    } else {
+        stop(&mut out, 0, n);
+    }
 }
