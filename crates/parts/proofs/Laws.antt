@@ -2,12 +2,12 @@
 use mathlib.Core.Path.{_≡_, refl, sym, ap, _∙_}
 use mathlib.Core.List.{List}
 use mathlib.Core.Option.{Option, none, some}
-use Prim.Native.Nat.{ℕ, _*_}
+use Prim.Native.Nat.{ℕ, _*_, _<_}
 use native.Mathlib.Omega.{arith}
 use lib.Dec.{ltb, eqb}
 use lib.IntN.{ℤ}
 use lib.ListN.{length, drop}
-use borrow.Author.Tests.{ltb-false, eqb-true, not-false}
+use borrow.Author.Tests.{ltb-false, eqb-true, eqb-false, not-false}
 use Rattle.strided.specs.Refusals.{number, answered}
 use Rattle.strided.specs.declared.Purpose.{Purpose}
 use Rattle.strided.specs.declared.Refusal.{Refusal}
@@ -53,3 +53,9 @@ shape-fits es sizes ss u h =
       operands-few = ltb-false 8 (length sizes) (or-none (eqb (length sizes) 0) (ltb 8 (length sizes)) (a .1 .0) .1);
       strides-all = eqb-true (length ss) (length es * length sizes) (not-false (eqb (length ss) (length es * length sizes)) (a .1 .1 .0));
     }
+
+pub some-operands : (es sizes : List ℕ) (ss : List ℤ) (u : Purpose) → answered (shapeRefused es sizes ss u) ≡ Served → 0 < length sizes
+unfolding shapeRefused NoneApplies
+some-operands es sizes ss u h =
+    let a : NoneApplies (shapeRows es sizes ss u) = none-applies (shapeRows es sizes ss u) (served-none (shapeRefused es sizes ss u) h) in
+    omega (arith, eqb-false (length sizes) 0 (or-none (eqb (length sizes) 0) (ltb 8 (length sizes)) (a .1 .0) .0))

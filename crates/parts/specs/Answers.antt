@@ -7,7 +7,12 @@ use mathlib.Core.Option.{Option, none, some}
 use Prim.Native.Nat.{ℕ}
 use lib.Dec.{eqb}
 use lib.IntN.{ℤ}
-use lib.ListN.{take}
+use lib.ListN.{length, take}
+use Rattle.strided.specs.Layout.{noAxis, axesOf, extents}
+use Rattle.strided.specs.Order.{pick, fusingOrder}
+use Rattle.strided.specs.Fuse.{fuse, planAxes}
+use Rattle.strided.specs.Costs.{costs}
+use Rattle.strided.specs.Plan.{strideTable}
 use Rattle.strided.specs.Refusals.{Row, number, refusedBy, layoutRows}
 use Rattle.strided.specs.declared.Purpose.{Purpose}
 use Rattle.strided.specs.declared.Purpose.the-variants.{Pointwise, PointwiseInto, Fold}
@@ -17,7 +22,7 @@ use Rattle.strided.specs.declared.Refusal.{Refusal}
 abbrev pub purposeOf : ℕ → ℕ → Purpose
 purposeOf kind chosen = cond (eqb kind 0) Pointwise (cond (eqb kind 1) (PointwiseInto chosen) (Fold chosen))
 
--- ranks, weights and order are there for every layout whose counts are right: they are refused by rows 1 to 4 alone
+-- the parts are there for every layout whose counts are right: they are refused by rows 1 to 4 alone
 abbrev pub shapeRows : List ℕ → List ℕ → List ℤ → Purpose → List Row
 shapeRows es sizes ss u = take 4 (layoutRows es sizes ss u)
 
@@ -37,3 +42,11 @@ kept (some r) part old = old
 pub record Part {A : Type 0} (refused : Option Refusal) (part old new : A) (r : ℕ) : Type 0 where
   pub answer : r ≡ told refused
   pub memory : new ≡ kept refused part old
+
+-- the extents after fusing, in the order of fusing
+abbrev pub fusedExtents : List ℕ → ℕ → List ℤ → Purpose → List ℕ
+fusedExtents es operands ss u = extents (fuse (pick noAxis (axesOf es operands ss) (fusingOrder es operands ss u)))
+
+-- the costs of the plan's axes
+abbrev pub planCosts : List ℕ → ℕ → List ℤ → Purpose → List ℕ
+planCosts es operands ss u = let axs = planAxes es operands ss u in costs (strideTable axs operands) operands (length axs)

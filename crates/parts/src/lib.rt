@@ -2,16 +2,26 @@
 // Each takes any layout, and answers 0 and writes its part into the lent array, or answers a refusal's number and leaves the array as it
 // was. The purpose is two numbers: 0 for pointwise with no chosen operand, 1 for pointwise into the chosen one, 2 for a fold by it.
 ghost use mathlib.Core.Path.{_≡_};
-ghost use mathlib.Core.List.{map};
+ghost use mathlib.Core.List.{map, [], _∷_};
+ghost use Prim.Native.Nat.{_<_};
 ghost use lib.ListN.{length, replicate};
 ghost use Rattle.strided.specs.Base.{padded};
-ghost use Rattle.strided.specs.Layout.{lead};
+ghost use Rattle.strided.specs.Layout.{lead, extents as extentsOf};
 ghost use Rattle.strided.specs.Refusals.{answered, layoutRefused};
 ghost use Rattle.strided.specs.Ranks.{rankTable};
 ghost use Rattle.strided.specs.Weights.{weights};
 ghost use Rattle.strided.specs.Order.{loopOrder};
-ghost use Rattle.parts.specs.Answers.{purposeOf, shapeRefused, told, Part};
+ghost use Rattle.strided.specs.Fuse.{planAxes};
+ghost use Rattle.strided.specs.Plan.{strideTable};
+ghost use Rattle.auxiliary.specs.Fitting.{Fitting};
+ghost use Rattle.arrange.specs.Axes.{axesArrays};
+ghost use Rattle.parts.specs.Answers.{purposeOf, shapeRefused, told, Part, fusedExtents, planCosts};
+use arrange::Axes;
+use arrange::arrange;
 use auxiliary::rank_table_into;
+use fuse::compute_costs;
+use fuse::fuse_dims;
+use fuse::plan_axes;
 use importance::compute_importance;
 use layout::check_layout;
 use layout::lead;
@@ -21,6 +31,7 @@ use layout::rows::operands_wrong;
 use layout::rows::rank_over;
 use layout::rows::strides_wrong;
 use order::compute_order;
+use order::fusing_order;
 use strided::Answer;
 use strided::Purpose;
 use strided::Refusal;
@@ -147,6 +158,119 @@ pub extern "C" fn parts_order<'a>(
         Answer::Served => {
             let found = compute_order(extents, strides, sizes.len(), purpose);
             *order = found;
+            0
+        }
+    }
+}
+
+// ---- fused axes
+
+// The extents after fusing, in the order of fusing.
+fn fused_extents(extents: &[u64], strides: &[i64], operands: usize, purpose: Purpose) -> [u64; 64]
+    requires { ⌜ Fitting (now strides) (length (now extents)) operands ⌝ }
+    ensures { λ r. ⌜ r ≡ padded 64 0 (fusedExtents (now (extents .entry)) operands (now (strides .entry)) purpose) ⌝ }
+{
+    let rank = extents.len();
+    let order = fusing_order(extents, strides, operands, purpose);
+    let a = arrange(extents, strides, rank, operands, &order, rank);
+    fuse_dims(&a.extents, &a.strides, rank, operands)
+}
+
+// The axes of the plan.
+fn axes_of(extents: &[u64], strides: &[i64], operands: usize, purpose: Purpose) -> Axes
+    requires { ⌜ Fitting (now strides) (length (now extents)) operands ⌝ }
+    ensures { λ r. ⌜ r ≡ axesArrays (planAxes (now (extents .entry)) operands (now (strides .entry)) purpose) operands ⌝ }
+{
+    let order = fusing_order(extents, strides, operands, purpose);
+    plan_axes(extents, strides, operands, &order)
+}
+
+// The costs of the plan's axes.
+fn costs_of(extents: &[u64], strides: &[i64], operands: usize, purpose: Purpose) -> [u64; 64]
+    requires layout { ⌜ Fitting (now strides) (length (now extents)) operands ⌝ }
+    requires operands { ⌜ 0 < operands ⌝ }
+    ensures { λ r. ⌜ r ≡ padded 64 0 (planCosts (now (extents .entry)) operands (now (strides .entry)) purpose) ⌝ }
+{
+    let a = axes_of(extents, strides, operands, purpose);
+    compute_costs(&a.strides, operands, a.rank)
+}
+
+// The extents after fusing, one for each axis in the order of fusing: one that has joined the axis before it is 1.
+#[no_mangle]
+pub extern "C" fn parts_fused<'a>(
+    extents: &'a [u64],
+    sizes: &'a [u64],
+    strides: &'a [i64],
+    kind: u64,
+    chosen: u64,
+    fused: &mut [u64; 64],
+) -> u64
+    ensures { λ r. ⌜ Part (shapeRefused (now (extents .entry)) (now (sizes .entry)) (now (strides .entry)) (purposeOf kind chosen)) (padded 64 0 (fusedExtents (now (extents .entry)) (length (now (sizes .entry))) (now (strides .entry)) (purposeOf kind chosen))) (now (fused .entry)) (now (fused .exit)) r ⌝ }
+{
+    let purpose = purpose_of(kind, chosen);
+    let checked = check_shape(extents, sizes, strides, purpose);
+    match checked {
+        Answer::Refused(refusal) => number(refusal),
+        Answer::Served => {
+            let found = fused_extents(extents, strides, sizes.len(), purpose);
+            *fused = found;
+            0
+        }
+    }
+}
+
+// The plan's axes: their number, extents and strides, operand k's stride on axis i at k * 64 + i.
+#[no_mangle]
+pub extern "C" fn parts_axes<'a>(
+    extents: &'a [u64],
+    sizes: &'a [u64],
+    strides: &'a [i64],
+    kind: u64,
+    chosen: u64,
+    count: &mut [usize; 1],
+    kept: &mut [u64; 64],
+    table: &mut [i64; 512],
+) -> u64
+    ensures rank { λ r. ⌜ Part (shapeRefused (now (extents .entry)) (now (sizes .entry)) (now (strides .entry)) (purposeOf kind chosen)) (length (planAxes (now (extents .entry)) (length (now (sizes .entry))) (now (strides .entry)) (purposeOf kind chosen)) ∷ []) (now (count .entry)) (now (count .exit)) r ⌝ }
+    ensures extents { λ r. ⌜ Part (shapeRefused (now (extents .entry)) (now (sizes .entry)) (now (strides .entry)) (purposeOf kind chosen)) (padded 64 0 (extentsOf (planAxes (now (extents .entry)) (length (now (sizes .entry))) (now (strides .entry)) (purposeOf kind chosen)))) (now (kept .entry)) (now (kept .exit)) r ⌝ }
+    ensures strides { λ r. ⌜ Part (shapeRefused (now (extents .entry)) (now (sizes .entry)) (now (strides .entry)) (purposeOf kind chosen)) (strideTable (planAxes (now (extents .entry)) (length (now (sizes .entry))) (now (strides .entry)) (purposeOf kind chosen)) (length (now (sizes .entry)))) (now (table .entry)) (now (table .exit)) r ⌝ }
+{
+    let purpose = purpose_of(kind, chosen);
+    let checked = check_shape(extents, sizes, strides, purpose);
+    match checked {
+        Answer::Refused(refusal) => number(refusal),
+        Answer::Served => {
+            let found = axes_of(extents, strides, sizes.len(), purpose);
+            let rank = found.rank;
+            let es = found.extents;
+            let ss = found.strides;
+            *count = [rank];
+            *kept = es;
+            *table = ss;
+            0
+        }
+    }
+}
+
+// The costs of the plan's axes.
+#[no_mangle]
+pub extern "C" fn parts_costs<'a>(
+    extents: &'a [u64],
+    sizes: &'a [u64],
+    strides: &'a [i64],
+    kind: u64,
+    chosen: u64,
+    costs: &mut [u64; 64],
+) -> u64
+    ensures { λ r. ⌜ Part (shapeRefused (now (extents .entry)) (now (sizes .entry)) (now (strides .entry)) (purposeOf kind chosen)) (padded 64 0 (planCosts (now (extents .entry)) (length (now (sizes .entry))) (now (strides .entry)) (purposeOf kind chosen))) (now (costs .entry)) (now (costs .exit)) r ⌝ }
+{
+    let purpose = purpose_of(kind, chosen);
+    let checked = check_shape(extents, sizes, strides, purpose);
+    match checked {
+        Answer::Refused(refusal) => number(refusal),
+        Answer::Served => {
+            let found = costs_of(extents, strides, sizes.len(), purpose);
+            *costs = found;
             0
         }
     }

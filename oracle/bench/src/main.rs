@@ -2,7 +2,7 @@
 //! ratios. Both are built for release. For each rank and number of operands it
 //! takes a few seeded layouts, and of many short runs over them the best one.
 
-use port::{Flat, Ranks};
+use port::{Flat, Ranks, Strides};
 use std::hint::black_box;
 use std::io::{stdout, Write};
 use std::process::ExitCode;
@@ -37,18 +37,26 @@ struct Case<'a> {
 struct Room {
     ranks: Ranks,
     order: [usize; 64],
+    rank: [usize; 1],
+    extents: [u64; 64],
+    strides: Strides,
 }
 
 /// One function on both sides. Each answers a number of its result.
 struct Function {
     name: &'static str,
+    operands: &'static [usize],
+    /// The least and the greatest extent at a rank.
+    extents: fn(usize) -> (usize, usize),
     original: fn(&Case) -> usize,
     port: fn(&Case, &mut Room) -> usize,
 }
 
-const FUNCTIONS: [Function; 2] = [
+const FUNCTIONS: [Function; 4] = [
     Function {
         name: "ranks",
+        operands: &[1, 2, 3],
+        extents: |_| (2, 9),
         original: |case| {
             let first = |strides: &&[isize]| original::with_ranks(strides, |ranks| ranks[0]);
             case.strides.iter().map(first).sum()
@@ -60,6 +68,8 @@ const FUNCTIONS: [Function; 2] = [
     },
     Function {
         name: "order, ranks inside",
+        operands: &[1, 2, 3],
+        extents: |_| (2, 9),
         original: |case| {
             let (extents, chosen) = (&case.layout.extents, case.layout.chosen);
             original::with_order(extents, &case.strides, chosen, |order| order[0])
@@ -69,11 +79,50 @@ const FUNCTIONS: [Function; 2] = [
             room.order[0]
         },
     },
+    // no more than 1,024 cells: neither side puts the axes into loop order
+    Function {
+        name: "fuse and compress, as given",
+        operands: &[2],
+        extents: |rank| (2, [32, 32, 10, 5, 4, 3, 2, 2][rank - 1]),
+        original: |case| {
+            original::with_fused(&case.layout.extents, &case.strides, |extents, strides| {
+                black_box(strides);
+                extents[0]
+            })
+        },
+        port: plan_axes,
+    },
+    // more than 1,024 cells: both do
+    Function {
+        name: "fuse and compress, order inside",
+        operands: &[2],
+        extents: |_| (33, 40),
+        original: |case| {
+            let (extents, chosen) = (&case.layout.extents, case.layout.chosen);
+            original::with_ordered_fused(extents, &case.strides, chosen, |extents, strides| {
+                black_box(strides);
+                extents[0]
+            })
+        },
+        port: plan_axes,
+    },
 ];
 
+/// The port's axes of a plan.
+fn plan_axes(case: &Case, room: &mut Room) -> usize {
+    port::axes(
+        &case.flat,
+        &mut room.rank,
+        &mut room.extents,
+        &mut room.strides,
+    );
+    room.rank[0]
+}
+
 /// A dense layout: each operand has its axes in an order of its own.
-fn dense(random: &mut Random, rank: usize, operands: usize) -> Layout {
-    let extents: Vec<usize> = (0..rank).map(|_| random.within(2, 9)).collect();
+fn dense(random: &mut Random, rank: usize, operands: usize, within: (usize, usize)) -> Layout {
+    let (least, most) = within;
+    let extents: Vec<usize> = (0..rank).map(|_| random.within(least, most)).collect();
     let row = |_| {
         let mut axes: Vec<usize> = (0..rank).collect();
         for last in (1..rank).rev() {
@@ -112,6 +161,9 @@ fn best(cases: &[Case], function: &Function, runs: u64) -> (f64, f64) {
     let mut room = Room {
         ranks: [[0; 64]; 8],
         order: [0; 64],
+        rank: [0],
+        extents: [0; 64],
+        strides: [0; 512],
     };
     let (mut original, mut port) = (f64::INFINITY, f64::INFINITY);
     for _ in 0..runs {
@@ -140,10 +192,10 @@ fn run() -> Result<(), String> {
     output.write_all(head.as_bytes()).map_err(unwritable)?;
     for function in &FUNCTIONS {
         for rank in [2, 4, 6, 8] {
-            for operands in [1, 2, 3] {
+            for &operands in function.operands {
                 let mut random = Random::new(seed);
                 let layouts: Vec<Layout> = (0..LAYOUTS)
-                    .map(|_| dense(&mut random, rank, operands))
+                    .map(|_| dense(&mut random, rank, operands, (function.extents)(rank)))
                     .collect();
                 let case = |layout| Case {
                     layout,

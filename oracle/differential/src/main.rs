@@ -1,13 +1,14 @@
 //! Compares the port with the original on seeded layouts: refusals, ranks,
-//! weights and loop order. It ends at the first difference.
+//! weights, loop order, fused extents, the plan's axes and their costs. It ends
+//! at the first difference.
 
-use port::{Flat, Ranks};
+use port::{Flat, Ranks, Strides};
 use std::fmt::{Debug, Write as _};
 use std::io::{stdout, Write};
 use std::panic::{catch_unwind, AssertUnwindSafe};
 use std::process::ExitCode;
 use strided_basic as original;
-use tools::answer::{lead_first, rows, silence_panics};
+use tools::answer::{lead_first, rows, silence_panics, Axes};
 use tools::generate::{any_stride, layout, Kind, Random};
 use tools::layout::Layout;
 use tools::options::{end, unknown, Options};
@@ -69,6 +70,57 @@ impl Parts {
     }
 }
 
+/// The axes of a plan: what the port writes, or what it has to write.
+#[derive(PartialEq, Eq)]
+struct Fused {
+    fused: [u64; 64],
+    rank: [usize; 1],
+    extents: [u64; 64],
+    strides: Strides,
+    costs: [u64; 64],
+}
+
+impl Fused {
+    /// Arrays before a call, and after one that is refused.
+    fn held() -> Fused {
+        Fused {
+            fused: [HELD; 64],
+            rank: [HELD as usize],
+            extents: [HELD; 64],
+            strides: [HELD as i64; 512],
+            costs: [HELD; 64],
+        }
+    }
+
+    /// The original's axes, with 0 behind the counts.
+    fn of(layout: &Layout) -> Fused {
+        let axes = Axes::of(layout);
+        let mut found = Fused {
+            fused: [0; 64],
+            rank: [axes.extents.len()],
+            extents: [0; 64],
+            strides: [0; 512],
+            costs: [0; 64],
+        };
+        for (place, &extent) in found.fused.iter_mut().zip(&axes.fused) {
+            *place = extent as u64;
+        }
+        for (place, &extent) in found.extents.iter_mut().zip(&axes.extents) {
+            *place = extent as u64;
+        }
+        for (row, strides) in found.strides.chunks_mut(64).zip(&axes.strides) {
+            for (place, &stride) in row.iter_mut().zip(strides) {
+                *place = stride as i64;
+            }
+        }
+        let costs = original::compute_costs(&rows(&axes.strides));
+        for (place, &cost) in found.costs.iter_mut().zip(&costs) {
+            *place = cost as u64;
+        }
+        found
+    }
+}
+
 /// Fails with both values unless they are equal.
 fn same<T: PartialEq + Debug>(what: &str, port: T, original: T) -> Result<(), String> {
     if port == original {
@@ -103,18 +155,46 @@ fn same_parts(flat: &Flat, number: u64, expected: &Parts) -> Result<(), String> 
     same("order", found.order, expected.order)
 }
 
-/// Compares a layout. Ranks, weights and order are there also if one of the
-/// rows 5 to 7 refuses.
+/// Compares the axes of a layout's plan, as `same_parts` does.
+fn same_axes(flat: &Flat, number: u64, expected: &Fused) -> Result<(), String> {
+    let mut found = Fused::held();
+    let refusal = port::fused(flat, &mut found.fused);
+    same("refusal of fused", refusal, number)?;
+    let (rank, extents, strides) = (&mut found.rank, &mut found.extents, &mut found.strides);
+    let refusal = port::axes(flat, rank, extents, strides);
+    same("refusal of axes", refusal, number)?;
+    let refusal = port::costs(flat, &mut found.costs);
+    same("refusal of costs", refusal, number)?;
+    same("fused", found.fused, expected.fused)?;
+    same("plan rank", found.rank, expected.rank)?;
+    same("plan extents", found.extents, expected.extents)?;
+    same("plan strides", found.strides, expected.strides)?;
+    same("costs", found.costs, expected.costs)
+}
+
+/// Compares a layout. The parts are there also if one of the rows 5 to 7
+/// refuses, but the original's axes rest on the total, which row 5 keeps.
 fn compare(layout: &Layout) -> Result<(), String> {
     let flat = Flat::of(layout);
     let number = u64::from(layout.refusal().unwrap_or(0));
     same("refusal", port::check(&flat), number)?;
     if (1..=4).contains(&number) {
-        return same_parts(&flat, number, &Parts::held());
+        return all_held(&flat, number);
     }
-    let original = catch_unwind(AssertUnwindSafe(|| Parts::of(layout)));
-    let expected = original.map_err(|_| "the original panics".to_string())?;
-    same_parts(&flat, 0, &expected)
+    let panics = |_| "the original panics".to_string();
+    let expected = catch_unwind(AssertUnwindSafe(|| Parts::of(layout))).map_err(panics)?;
+    same_parts(&flat, 0, &expected)?;
+    if number == 5 {
+        return Ok(());
+    }
+    let expected = catch_unwind(AssertUnwindSafe(|| Fused::of(layout))).map_err(panics)?;
+    same_axes(&flat, 0, &expected)
+}
+
+/// Every function refuses with this number, and the lent arrays are as before.
+fn all_held(flat: &Flat, number: u64) -> Result<(), String> {
+    same_parts(flat, number, &Parts::held())?;
+    same_axes(flat, number, &Fused::held())
 }
 
 /// Compares a layout with a stride too many or too few: row 3 refuses it, if
@@ -129,11 +209,11 @@ fn compare_wrong_count(layout: &Layout, more: bool) -> Result<(), String> {
     let number = u64::from(layout.refusal().unwrap_or(3).min(3));
     let told = |error| format!("with {} strides, {error}", flat.strides.len());
     same("refusal", port::check(&flat), number).map_err(told)?;
-    same_parts(&flat, number, &Parts::held()).map_err(told)
+    all_held(&flat, number).map_err(told)
 }
 
 /// The layout with some strides replaced by any numbers, often extreme ones. Few
-/// such layouts pass row 6, but their ranks, weights and order are there.
+/// such layouts pass row 6, but their parts are there.
 fn with_any_strides(layout: &Layout, random: &mut Random) -> Layout {
     let mut layout = layout.clone();
     let part = random.within(1, 4);

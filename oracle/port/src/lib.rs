@@ -9,6 +9,9 @@ pub const LINKED: bool = cfg!(linked);
 /// The ranks, a row of 64 per operand.
 pub type Ranks = [[u64; 64]; 8];
 
+/// The strides of a plan's axes, a row of 64 per operand.
+pub type Strides = [i64; 512];
+
 /// What a program says that needs the library and was built without it.
 pub fn linked() -> Result<(), String> {
     if LINKED {
@@ -50,7 +53,7 @@ impl Flat {
 /// Declares the functions of the library, with a safe face for each. A slice
 /// passes as its address and its length, an array as its address.
 macro_rules! functions {
-    ($($(#[$doc:meta])* $face:ident = $name:ident($($out:ident: &mut $array:ty)?);)*) => {
+    ($($(#[$doc:meta])* $face:ident = $name:ident($($out:ident: &mut $array:ty),*);)*) => {
         #[cfg(linked)]
         extern "C" {
             $(fn $name(
@@ -62,15 +65,15 @@ macro_rules! functions {
                 count: usize,
                 kind: u64,
                 chosen: u64,
-                $($out: *mut $array,)?
+                $($out: *mut $array,)*
             ) -> u64;)*
         }
 
         $($(#[$doc])*
         #[cfg(linked)]
         #[inline]
-        pub fn $face(layout: &Flat $(, $out: &mut $array)?) -> u64 {
-            // The function reads the three slices and writes at most the array.
+        pub fn $face(layout: &Flat $(, $out: &mut $array)*) -> u64 {
+            // The function reads the three slices and writes at most the arrays.
             unsafe {
                 $name(
                     layout.extents.as_ptr(),
@@ -81,14 +84,14 @@ macro_rules! functions {
                     layout.strides.len(),
                     layout.kind,
                     layout.chosen,
-                    $($out,)?
+                    $($out,)*
                 )
             }
         }
 
         $(#[$doc])*
         #[cfg(not(linked))]
-        pub fn $face(_: &Flat $(, _: &mut $array)?) -> u64 {
+        pub fn $face(_: &Flat $(, _: &mut $array)*) -> u64 {
             unreachable!("a program asks `linked` first")
         })*
     };
@@ -103,4 +106,10 @@ functions! {
     weights = parts_weights(out: &mut [u64; 64]);
     /// The loop order.
     order = parts_order(out: &mut [usize; 64]);
+    /// The extents after fusing, in the order of fusing.
+    fused = parts_fused(out: &mut [u64; 64]);
+    /// The plan's axes: their number, extents and strides.
+    axes = parts_axes(rank: &mut [usize; 1], extents: &mut [u64; 64], strides: &mut Strides);
+    /// The costs of the plan's axes.
+    costs = parts_costs(out: &mut [u64; 64]);
 }

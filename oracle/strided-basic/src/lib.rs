@@ -149,6 +149,32 @@ pub fn compress_dims(extents: &[usize], strides: &[&[isize]]) -> (Vec<usize>, Ve
     (extents.to_vec(), strides)
 }
 
+/// The original `fuse_dims` and `compress_dims`, their result lent: for timing.
+pub fn with_fused<R>(
+    extents: &[usize],
+    strides: &[&[isize]],
+    f: impl FnOnce(&[usize], &[InlineVec<isize>]) -> R,
+) -> R {
+    let fused = fuse::fuse_dims(extents, strides);
+    let (extents, strides) = fuse::compress_dims(&fused, strides);
+    f(&extents, &strides)
+}
+
+/// The same in loop order, as the original's `plan_fused` begins: for timing.
+pub fn with_ordered_fused<R>(
+    extents: &[usize],
+    strides: &[&[isize]],
+    chosen: Option<usize>,
+    f: impl FnOnce(&[usize], &[InlineVec<isize>]) -> R,
+) -> R {
+    let order = order::compute_order(extents, strides, chosen);
+    let extents: InlineVec<usize> = order.iter().map(|&axis| extents[axis]).collect();
+    let in_order = |row: &&[isize]| order.iter().map(|&axis| row[axis]).collect();
+    let strides: OperandVec<InlineVec<isize>> = strides.iter().map(in_order).collect();
+    let strides: OperandVec<&[isize]> = strides.iter().map(|row| row.as_slice()).collect();
+    with_fused(&extents, &strides, f)
+}
+
 /// The original `compute_costs`.
 pub fn compute_costs(strides: &[&[isize]]) -> Vec<isize> {
     fuse::compute_costs(strides).to_vec()

@@ -1,0 +1,25 @@
+-- `parts::costs_of` meets its contract. Assumes nothing.
+use borrow.Author.Needs.{needs}
+use Rattle.parts.proofs.Fusing.{few-made, costs-made}
+use Rattle.parts.proofs.costs_of.Statement.{statement}
+use Rattle.parts.proofs.costs_of.Tie as tie
+
+axes-of-requires : tie.Need-axes-of-requires
+axes-of-requires c κs = search needs
+
+compute-costs-requires : tie.Need-compute-costs-requires
+compute-costs-requires c κs =
+    let f = c .before .before in
+    let s = f .before .before in
+    let a = s .args in
+    (s .pre .1, (s .pre .0 .operands-few, few-made (a .extents .now) (a .operands) (a .strides .now) (a .purpose) (s .pre .0) (f .axes-of .result) (f .axes-of .ensures)))
+
+returns : tie.Need-returns
+returns c =
+    let f = c .before .before .before in
+    let s = f .before .before in
+    let a = s .args in
+    costs-made (a .extents .now) (a .operands) (a .strides .now) (a .purpose) (s .pre .0) (f .axes-of .result) (f .axes-of .ensures) (c .compute-costs .result) (c .compute-costs .ensures)
+
+pub costs-of-spec : {M : Type 1} → statement M
+costs-of-spec = tie.close (tie.spec axes-of-requires compute-costs-requires returns)

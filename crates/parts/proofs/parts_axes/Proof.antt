@@ -1,0 +1,78 @@
+-- `parts::parts_axes` meets its contract. Assumes nothing.
+use borrow.Author.Needs.{needs}
+use mathlib.Core.Path.{_≡_, ap, _∙_}
+use mathlib.Core.List.{[], _∷_}
+use lib.ListN.{length}
+use Rattle.strided.specs.Fuse.{planAxes}
+use Rattle.strided.specs.Refusals.{answered}
+use Rattle.strided.specs.declared.Answer.the-variants.{Served}
+use Rattle.arrange.specs.Axes.{axesArrays}
+use Rattle.arrange.specs.declared.Axes.{Axes}
+use Rattle.parts.specs.Answers.{purposeOf, shapeRefused}
+use Rattle.parts.proofs.Laws.{answer-of, part-refused, part-served, shape-fits}
+use Rattle.parts.proofs.parts_axes.Statement.{statement}
+use Rattle.parts.proofs.parts_axes.Tie as tie
+
+-- the checks let the layout through
+served : (c : tie.After-enum-told) → let a = c .before .before .before .before .before .before .args in
+    answered (shapeRefused (a .extents .now) (a .sizes .now) (a .strides .now) (purposeOf (a .kind) (a .chosen))) ≡ Served
+served c =
+    let k = c .before .before in
+    let a = k .before .before .before .before .args in
+    answer-of (shapeRefused (a .extents .now) (a .sizes .now) (a .strides .now)) (k .before .purpose-of .ensures) (k .check-shape .ensures) (c .enum-told .given .1)
+
+purpose-of-requires : tie.Need-purpose-of-requires
+purpose-of-requires c κs = search needs
+
+check-shape-requires : tie.Need-check-shape-requires
+check-shape-requires c κs = search needs
+
+enum-known-checked : tie.Need-enum-known-checked
+enum-known-checked c = search needs
+
+number-requires : tie.Need-number-requires
+number-requires c κs = search needs
+
+enum-told : tie.Need-enum-told
+enum-told c = search needs
+
+axes-of-requires : tie.Need-axes-of-requires
+axes-of-requires c κs =
+    let a = c .before .before .before .before .before .before .args in
+    shape-fits (a .extents .now) (a .sizes .now) (a .strides .now) (purposeOf (a .kind) (a .chosen)) (served c)
+
+returns : tie.Need-returns
+returns c =
+    let k = c .before .before .before .before in
+    let a = c .before .before .before .before .before .before .before .before .args in
+    let refused = shapeRefused (a .extents .now) (a .sizes .now) (a .strides .now) in
+    let h = answer-of refused (k .before .purpose-of .ensures) (k .check-shape .ensures) (c .before .before .checked .given .1) in
+    let o = refused (purposeOf (a .kind) (a .chosen)) in
+    (part-refused o h (c .number .ensures), (part-refused o h (c .number .ensures), part-refused o h (c .number .ensures)))
+
+returns-2 : tie.Need-returns-2
+returns-2 c =
+    let f = c .before .before .before in
+    let t = f .before in
+    let a = t .before .before .before .before .before .before .args in
+    let u = purposeOf (a .kind) (a .chosen) in
+    let o = shapeRefused (a .extents .now) (a .sizes .now) (a .strides .now) u in
+    let made : f .axes-of .result ≡ axesArrays (planAxes (a .extents .now) (length (a .sizes .now)) (a .strides .now) u) (length (a .sizes .now)) =
+    f .axes-of .ensures
+    ∙ ap (λ u. axesArrays (planAxes (a .extents .now) (length (a .sizes .now)) (a .strides .now) u) (length (a .sizes .now))) (t .before .before .before .purpose-of .ensures) in (
+      part-served o (served t) (ap (λ (x : Axes). x .rank ∷ []) made),
+      (part-served o (served t) (ap (λ (x : Axes). x .extents) made), part-served o (served t) (ap (λ (x : Axes). x .strides) made)),
+    )
+
+pub parts-axes-spec : {M : Type 1} → statement M
+parts-axes-spec =
+    tie.close
+    (tie.spec
+    purpose-of-requires
+    check-shape-requires
+    enum-known-checked
+    number-requires
+    enum-told
+    axes-of-requires
+    returns
+    returns-2)
