@@ -6,6 +6,10 @@
 --   the index maps stay in range, undo each other, keep the offsets    Fuse/Maps          plan-in, orig-in, orig-plan, plan-orig, same-dot
 --   index finding there and back, at the entries                       Fuse/Entries       told-inverse
 --   the plan keeps each operand's reach (row 6)                        Fuse/Reach         plan-reach
+--   cutting: the counts never run out, blocks only shrink              Cut/Steps          halved-ends, lessened-small, shrunk-le
+--   many single steps may be one jump                                  Cut/Jump           jump
+--   regions and loads grow with the blocks                             Cut/Grow           region-mono, load-mono
+--   declining axis by axis, in any order                               Cut/Rising         apart-each
 --   cover: each index is a cell of the blocks exactly once             Walk/Cover         met-once, met-within
 --   the Z figures: number of blocks, sum of their lengths              Walk/Totals        blocks-number, blocks-total, cells-total, plan-cells
 --   chain: the successor hands out the blocks in order                 Walk/Chain         chain
@@ -17,6 +21,7 @@ pub mod Base
 pub mod Refusals
 pub mod Order
 pub mod Fuse
+pub mod Cut
 pub mod Walk
 pub mod Demand3
 pub mod Plan

@@ -1,0 +1,86 @@
+-- A loop tests the operands in turn against the least rank.
+use native.Mathlib.Omega.{arith}
+use mathlib.Core.Path.{_≡_, sym, ap, _∙_}
+use mathlib.Core.Bool.{true}
+use Prim.Native.Nat.{ℕ, _-_, _≤_}
+use lib.Dec.{eqb}
+use borrow.Author.Tests.{eq-eqb, ne-eqb}
+use Rattle.strided.specs.Base.{every}
+use Rattle.strided.specs.Cut.{rankAt, keepsFirst}
+use Rattle.laws.specs.Cut.Ranges.{every-none, every-more, every-fails-at}
+use Rattle.block.proofs.keeps_first.Statement.{statement}
+use Rattle.block.proofs.keeps_first.Tie as tie
+use Rattle.block.proofs.keeps_first.Reads as reads
+use Rattle.block.proofs.keeps_first.Lts as lts
+use Rattle.block.proofs.least_rank.Reads as least-rank-reads
+
+abbrev Inv-loop : tie.InvT-loop
+Inv-loop ranks operands offset rank m k₀ k = (k ≤ operands) × (every (λ j. eqb (rankAt ranks j offset) m) 0 k ≡ true)
+
+abbrev μ-loop : tie.MeasureT-loop
+μ-loop ranks operands offset rank m k₀ k = operands - k
+
+least-rank-requires : tie.Need-least-rank-requires Inv-loop μ-loop
+least-rank-requires c κs = omega arith
+
+loop-holds : tie.Need-loop-holds Inv-loop μ-loop
+loop-holds c = (omega arith, every-none _)
+
+mul-if1 : tie.Need-mul-if1 Inv-loop μ-loop
+mul-if1 c = omega arith
+
+mul-if1-2 : tie.Need-mul-if1-2 Inv-loop μ-loop
+mul-if1-2 c = omega arith
+
+index-1-if1 : tie.Need-index-1-if1 Inv-loop μ-loop
+index-1-if1 c = omega arith
+
+index-2-if1 : tie.Need-index-2-if1 Inv-loop μ-loop
+index-2-if1 c = omega arith
+
+returns : tie.Need-returns Inv-loop μ-loop
+unfolding keepsFirst
+returns c = let a = c .before .before .before .before .before .args in
+    let l = c .before .before .before .loop in
+    let q = c .before .before .before .before .least-rank in
+    sym (ap (λ (m : ℕ). every (λ j. eqb (rankAt (a .ranks .now) j (a .offset)) m) 0 (a .operands)) (sym (q .ensures))
+    ∙ every-fails-at (λ j. eqb (rankAt (a .ranks .now) j (a .offset)) (q .result)) 0 (l .k) (a .operands) (omega arith) (omega arith) (ne-eqb _ _ (c .if1 .taken)))
+
+add-k : tie.Need-add-k Inv-loop μ-loop
+add-k c = omega arith
+
+loop-less : tie.Need-loop-less Inv-loop μ-loop
+loop-less c = omega arith
+
+loop-again : tie.Need-loop-again Inv-loop μ-loop
+loop-again c = let a = c .before .before .before .before .before .args in
+    let l = c .before .before .before .loop in
+    let m : ℕ = c .before .before .before .before .least-rank .result in
+    (omega arith, every-more (λ j. eqb (rankAt (a .ranks .now) j (a .offset)) m) (l .k) (eq-eqb _ _ (c .if1 .left)) ∙ l .inv .1)
+
+returns-2 : tie.Need-returns-2 Inv-loop μ-loop
+unfolding keepsFirst
+returns-2 c = let a = c .before .before .before .args in
+    let l = c .before .loop in
+    let q = c .before .before .least-rank in
+    let e : l .k ≡ a .operands = omega arith in
+    sym (ap (λ (m : ℕ). every (λ j. eqb (rankAt (a .ranks .now) j (a .offset)) m) 0 (a .operands)) (sym (q .ensures))
+    ∙ ap (every (λ j. eqb (rankAt (a .ranks .now) j (a .offset)) (q .result)) 0) (sym e) ∙ l .inv .1)
+
+pub keeps-first-spec : {M : Type 1} → statement M
+keeps-first-spec =
+    tie.close
+    (tie.spec
+    Inv-loop
+    μ-loop
+    least-rank-requires
+    loop-holds
+    mul-if1
+    mul-if1-2
+    index-1-if1
+    index-2-if1
+    returns
+    add-k
+    loop-less
+    loop-again
+    returns-2)

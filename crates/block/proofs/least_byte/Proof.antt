@@ -1,0 +1,62 @@
+-- A loop keeps the least of the operands so far.
+use native.Mathlib.Omega.{arith}
+use mathlib.Core.Path.{_≡_, sym, ap, _∙_}
+use mathlib.Core.Logic.{⊎-elim}
+use Prim.Native.Nat.{ℕ, _-_, _≤_, _<_}
+use Rattle.strided.specs.Base.{least}
+use Rattle.strided.specs.Region.{byteAt}
+use Rattle.strided.specs.Cut.{leastByte}
+use Rattle.laws.specs.Cut.Ranges.{least-first, least-more}
+use Rattle.block.proofs.least_byte.Statement.{statement}
+use Rattle.block.proofs.least_byte.Tie as tie
+use Rattle.block.proofs.least_byte.Reads as reads
+use Rattle.block.proofs.least_byte.Lts as lts
+use Rattle.block.proofs.least_byte_of.Reads as least-byte-of-reads
+
+abbrev Inv-loop : tie.InvT-loop
+Inv-loop bytes operands offset rank m₀ k₀ m k = (0 < k) × (k ≤ operands) × (m ≡ least (λ j. least (byteAt bytes j) offset (rank - offset)) 0 k)
+
+abbrev μ-loop : tie.MeasureT-loop
+μ-loop bytes operands offset rank m₀ k₀ m k = operands - k
+
+least-byte-of-requires : tie.Need-least-byte-of-requires Inv-loop μ-loop
+least-byte-of-requires c κs = omega arith
+
+loop-holds : tie.Need-loop-holds Inv-loop μ-loop
+loop-holds c = (omega arith, omega arith, c .least-byte-of .ensures ∙ sym (least-first _))
+
+least-byte-of-requires-2 : tie.Need-least-byte-of-requires-2 Inv-loop μ-loop
+least-byte-of-requires-2 c κs = omega arith
+
+add-k : tie.Need-add-k Inv-loop μ-loop
+add-k c = omega arith
+
+loop-less : tie.Need-loop-less Inv-loop μ-loop
+loop-less c = omega arith
+
+loop-again : tie.Need-loop-again Inv-loop μ-loop
+loop-again c = let a = c .before .before .before .before .before .args in
+    let l = c .before .before .before .loop in
+    let st = least-more (λ j. least (byteAt (a .bytes .now) j) (a .offset) (a .rank - a .offset)) (l .k) (l .inv .0) in
+    ⊎-elim (λ w. omega (arith, c .before .least-byte-of2 .ensures)) (λ w. omega (arith, c .before .least-byte-of2 .ensures)) (c .if1 .came)
+
+returns : tie.Need-returns Inv-loop μ-loop
+unfolding leastByte
+returns c = let a = c .before .before .before .args in
+    let l = c .before .loop in
+    let e : l .k ≡ a .operands = omega arith in
+    l .inv .2 ∙ ap (least (λ j. least (byteAt (a .bytes .now) j) (a .offset) (a .rank - a .offset)) 0) e
+
+pub least-byte-spec : {M : Type 1} → statement M
+least-byte-spec =
+    tie.close
+    (tie.spec
+    Inv-loop
+    μ-loop
+    least-byte-of-requires
+    loop-holds
+    least-byte-of-requires-2
+    add-k
+    loop-less
+    loop-again
+    returns)

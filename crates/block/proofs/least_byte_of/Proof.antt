@@ -1,0 +1,87 @@
+-- A loop keeps the least byte stride so far.
+use native.Mathlib.Omega.{arith}
+use mathlib.Core.Path.{_≡_, sym, ap, _∙_}
+use mathlib.Core.Logic.{⊎-elim}
+use Prim.Native.Nat.{ℕ, _-_, _≤_, _<_}
+use Rattle.strided.specs.Base.{least}
+use Rattle.strided.specs.Region.{byteAt}
+use Rattle.laws.specs.Cut.Ranges.{least-one, least-step}
+use Rattle.block.proofs.least_byte_of.Statement.{statement}
+use Rattle.block.proofs.least_byte_of.Tie as tie
+use Rattle.block.proofs.least_byte_of.Reads as reads
+use Rattle.block.proofs.least_byte_of.Lts as lts
+
+abbrev Inv-loop : tie.InvT-loop
+Inv-loop bytes k offset rank m₀ i₀ m i = (offset < i) × (i ≤ rank) × (m ≡ least (byteAt bytes k) offset (i - offset))
+
+abbrev μ-loop : tie.MeasureT-loop
+μ-loop bytes k offset rank m₀ i₀ m i = rank - i
+
+mul-m : tie.Need-mul-m Inv-loop μ-loop
+mul-m c = omega arith
+
+add-m : tie.Need-add-m Inv-loop μ-loop
+add-m c = omega arith
+
+mul-m-2 : tie.Need-mul-m-2 Inv-loop μ-loop
+mul-m-2 c = omega arith
+
+element-copy-out-m : tie.Need-element-copy-out-m Inv-loop μ-loop
+element-copy-out-m c = omega arith
+
+add-i : tie.Need-add-i Inv-loop μ-loop
+add-i c = omega arith
+
+loop-holds : tie.Need-loop-holds Inv-loop μ-loop
+loop-holds c = (omega arith, omega arith, sym (least-one _ _))
+
+mul-x : tie.Need-mul-x Inv-loop μ-loop
+mul-x c = omega arith
+
+add-x : tie.Need-add-x Inv-loop μ-loop
+add-x c = omega arith
+
+mul-x-2 : tie.Need-mul-x-2 Inv-loop μ-loop
+mul-x-2 c = omega arith
+
+element-copy-out-x : tie.Need-element-copy-out-x Inv-loop μ-loop
+element-copy-out-x c = omega arith
+
+add-i-2 : tie.Need-add-i-2 Inv-loop μ-loop
+add-i-2 c = omega arith
+
+loop-less : tie.Need-loop-less Inv-loop μ-loop
+loop-less c = omega arith
+
+loop-again : tie.Need-loop-again Inv-loop μ-loop
+loop-again c = let a = c .before .before .before .before .before .args in
+    let l = c .before .before .before .loop in
+    let st = least-step (byteAt (a .bytes .now) (a .k)) (a .offset) (l .i) (l .inv .0) in
+    ⊎-elim (λ w. omega arith) (λ w. omega arith) (c .if1 .came)
+
+returns : tie.Need-returns Inv-loop μ-loop
+returns c = let a = c .before .before .before .args in
+    let l = c .before .loop in
+    let e : l .i ≡ a .rank = omega arith in
+    l .inv .2 ∙ ap (λ (i : ℕ). least (byteAt (a .bytes .now) (a .k)) (a .offset) (i - a .offset)) e
+
+pub least-byte-of-spec : {M : Type 1} → statement M
+least-byte-of-spec =
+    tie.close
+    (tie.spec
+    Inv-loop
+    μ-loop
+    mul-m
+    add-m
+    mul-m-2
+    element-copy-out-m
+    add-i
+    loop-holds
+    mul-x
+    add-x
+    mul-x-2
+    element-copy-out-x
+    add-i-2
+    loop-less
+    loop-again
+    returns)

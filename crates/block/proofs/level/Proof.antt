@@ -1,0 +1,66 @@
+-- A search between two bounds ends; which score it finds does not matter.
+use native.Mathlib.Omega.{arith}
+use Prim.Native.Nat.{ℕ, _-_, _≤_, _<_, _^_}
+use Rattle.block.proofs.level.Statement.{statement}
+use Rattle.block.proofs.level.Tie as tie
+use Rattle.block.proofs.level.Reads as reads
+use Rattle.block.proofs.level.Lts as lts
+use Rattle.block.proofs.clip.Reads as clip-reads
+use Rattle.region.proofs.memory_region.Reads as memory-region-reads
+
+abbrev Inv-loop : tie.InvT-loop
+Inv-loop blocks bytes costs operands offset rank lo₀ hi₀ lo hi = (lo ≤ hi) × (hi < 2 ^ 64)
+
+abbrev μ-loop : tie.MeasureT-loop
+μ-loop blocks bytes costs operands offset rank lo₀ hi₀ lo hi = hi - lo
+
+loop-holds : tie.Need-loop-holds Inv-loop μ-loop
+loop-holds c = omega arith
+
+sub-mid : tie.Need-sub-mid Inv-loop μ-loop
+sub-mid c = omega arith
+
+add-mid : tie.Need-add-mid Inv-loop μ-loop
+add-mid c = omega arith
+
+clip-requires : tie.Need-clip-requires Inv-loop μ-loop
+clip-requires c κs = (c .before .before .pre .0 .1, c .before .before .pre .1)
+
+memory-region-requires : tie.Need-memory-region-requires Inv-loop μ-loop
+memory-region-requires c κs = c .before .before .before .before .pre .0
+
+loop-less : tie.Need-loop-less Inv-loop μ-loop
+loop-less c = omega arith
+
+loop-again : tie.Need-loop-again Inv-loop μ-loop
+loop-again c = omega arith
+
+add-lo : tie.Need-add-lo Inv-loop μ-loop
+add-lo c = omega arith
+
+loop-less-2 : tie.Need-loop-less-2 Inv-loop μ-loop
+loop-less-2 c = omega arith
+
+loop-again-2 : tie.Need-loop-again-2 Inv-loop μ-loop
+loop-again-2 c = omega arith
+
+returns : tie.Need-returns Inv-loop μ-loop
+returns c = tt
+
+pub level-spec : {M : Type 1} → statement M
+level-spec =
+    tie.close
+    (tie.spec
+    Inv-loop
+    μ-loop
+    loop-holds
+    sub-mid
+    add-mid
+    clip-requires
+    memory-region-requires
+    loop-less
+    loop-again
+    add-lo
+    loop-less-2
+    loop-again-2
+    returns)

@@ -1,0 +1,215 @@
+// The L1 fit of a copy's two operands. One set of the L1 cache holds few lines, and lines whose addresses differ by a multiple of the way
+// share a set. An operand revisits the lines along the axes before its reuse axis (its first with a byte stride below a line) on each step
+// of that axis, so they must all stay; a block on an axis whose byte stride is a multiple of the way puts that many of them into one set.
+use region::sat_add;
+use region::sat_mul;
+ghost use mathlib.Core.Path.{_≡_};
+ghost use mathlib.Core.Bool.{_&&_};
+ghost use Prim.Native.Nat.{ℕ, _+_, _*_, _<_, _≤_, min};
+ghost use lib.Dec.{ltb};
+ghost use lib.ListN.{length, getD, set};
+ghost use Rattle.strided.specs.Region.{live, byteAt};
+ghost use Rattle.strided.specs.Fit.{reuse, aliases, fitted};
+ghost use Rattle.laws.specs.Cut.Saturate.{cap};
+ghost use Rattle.l1.specs.Live.{liveAxes, productOf, Of, loadBy, entersBy, shortensBy, mostBy, chosenSize};
+
+// For each of the two operands the number of axes along which its lines stay live: those before its reuse axis, 0 if it does not count.
+pub struct L1Sets {
+    pub first: usize,
+    pub second: usize,
+}
+
+impl L1Sets {
+    pub const LINE: u64 = 64;
+
+    pub const WAY: u64 = 4096;
+
+    // The lines of a set that may be live: its eight less a quarter, which replacement and prefetching take.
+    pub const LIVE: u64 = 6;
+
+    // Operand k's first axis with a byte stride below a line; the rank where there is none.
+    fn reuse_axis(bytes: &[u64; 512], rank: usize, k: usize) -> usize
+        requires { ⌜ (k < 8) × (rank ≤ 64) ⌝ }
+        ensures { λ r. ⌜ r ≡ reuse (now (bytes .entry)) rank k ⌝ }
+    {
+        let mut i = 0;
+        while i < rank {
+            if bytes[k * 64 + i] < Self::LINE {
+                return i;
+            }
+            i += 1;
+        }
+        i
+    }
+
+    fn live_axes<'a>(bytes: &'a [u64; 512], sizes: &'a [u64], rank: usize, k: usize) -> usize
+        requires { ⌜ ((k < 8) × (rank ≤ 64)) × (k < length (now sizes)) ⌝ }
+        ensures { λ r. ⌜ r ≡ liveAxes (now (bytes .entry)) (now (sizes .entry)) rank k ⌝ }
+    {
+        if sizes[k] == 0 {
+            return 0;
+        }
+        let c = Self::reuse_axis(bytes, rank, k);
+        if c < rank { c } else { 0 }
+    }
+
+    fn of<'a>(bytes: &'a [u64; 512], sizes: &'a [u64], rank: usize) -> L1Sets
+        requires { ⌜ (rank ≤ 64) × (length (now sizes) ≡ 2) ⌝ }
+        ensures { λ r. ⌜ Of (now (bytes .entry)) (now (sizes .entry)) rank r ⌝ }
+    {
+        let first = Self::live_axes(bytes, sizes, rank, 0);
+        let second = Self::live_axes(bytes, sizes, rank, 1);
+        L1Sets {
+            first: first,
+            second: second,
+        }
+    }
+
+    // Whether every step along a byte stride lands in the same set.
+    fn in_one_set(s: u64) -> bool
+        ensures { λ r. ⌜ r ≡ aliases s ⌝ }
+    {
+        if s == 0 {
+            return false;
+        }
+        s % Self::WAY == 0
+    }
+
+    // The lines of one set that operand k keeps live along its first axes.
+    fn operand_load<'a>(bytes: &'a [u64; 512], blocks: &'a [u64; 64], k: usize, axes: usize) -> u64
+        requires { ⌜ (k < 8) × (axes ≤ 64) ⌝ }
+        ensures { λ r. ⌜ r ≡ min (productOf (now (bytes .entry)) (now (blocks .entry)) k axes) cap ⌝ }
+    {
+        if axes == 0 {
+            return 0;
+        }
+        let mut m: u64 = 1;
+        let mut i = 0;
+        while i < axes {
+            if Self::in_one_set(bytes[k * 64 + i]) {
+                m = sat_mul(m, blocks[i]);
+            }
+            i += 1;
+        }
+        m
+    }
+
+    // The lines of one set that both operands keep live.
+    fn load<'a>(self, bytes: &'a [u64; 512], blocks: &'a [u64; 64]) -> u64
+        requires { ⌜ (self .first ≤ 64) × (self .second ≤ 64) ⌝ }
+        ensures { λ r. ⌜ r ≡ min (loadBy (now (bytes .entry)) self (now (blocks .entry))) cap ⌝ }
+    {
+        let a = Self::operand_load(bytes, blocks, 0, self.first);
+        let b = Self::operand_load(bytes, blocks, 1, self.second);
+        sat_add(a, b)
+    }
+
+    // The load with the block of axis i put at x.
+    fn load_with(self, bytes: &[u64; 512], blocks: [u64; 64], i: usize, x: u64) -> u64
+        requires { ⌜ ((self .first ≤ 64) × (self .second ≤ 64)) × (i < 64) ⌝ }
+        ensures { λ r. ⌜ r ≡ min (loadBy (now (bytes .entry)) self (set blocks i x)) cap ⌝ }
+    {
+        let mut b = blocks;
+        b[i] = x;
+        self.load(bytes, &b)
+    }
+
+    // Whether axis i is one of operand k's first axes and brings its lines into one set.
+    fn enters_of(bytes: &[u64; 512], axes: usize, i: usize, k: usize) -> bool
+        requires { ⌜ (k < 8) × (i < 64) ⌝ }
+        ensures { λ r. ⌜ r ≡ ltb i axes && aliases (byteAt (now (bytes .entry)) k i) ⌝ }
+    {
+        if i < axes {
+            Self::in_one_set(bytes[k * 64 + i])
+        } else {
+            false
+        }
+    }
+
+    // Whether axis i enters a product.
+    fn enters(self, bytes: &[u64; 512], i: usize) -> bool
+        requires { ⌜ i < 64 ⌝ }
+        ensures { λ r. ⌜ r ≡ entersBy (now (bytes .entry)) self i ⌝ }
+    {
+        if Self::enters_of(bytes, self.first, i, 0) {
+            return true;
+        }
+        Self::enters_of(bytes, self.second, i, 1)
+    }
+
+    // Whether the fit shortens axis i: the order in which a cell of the chosen operand is written never changes, so an axis along which it
+    // does not move is left alone.
+    fn shortened<'a>(
+        self,
+        bytes: &'a [u64; 512],
+        strides: &'a [i64; 512],
+        chosen: usize,
+        blocks: &'a [u64; 64],
+        i: usize,
+    ) -> bool
+        requires { ⌜ (i < 64) × (chosen < 8) ⌝ }
+        ensures { λ r. ⌜ r ≡ shortensBy (now (bytes .entry)) self (chosenSize (now (strides .entry)) chosen) (now (blocks .entry)) i ⌝ }
+    {
+        if strides[chosen * 64 + i] == 0 {
+            return false;
+        }
+        if self.enters(bytes, i) {
+            1 < blocks[i]
+        } else {
+            false
+        }
+    }
+
+    // The greatest block of axis i with load at most 6, where block 1 has one.
+    fn most(self, bytes: &[u64; 512], blocks: [u64; 64], i: usize) -> u64
+        requires { ⌜ (((self .first ≤ 64) × (self .second ≤ 64)) × (i < 64)) × ((1 ≤ getD blocks i 0) × (loadBy (now bytes) self (set blocks i 1) ≤ live)) ⌝ }
+        ensures { λ r. ⌜ r ≡ mostBy (now (bytes .entry)) self blocks i ⌝ }
+    {
+        let mut lo: u64 = 1;
+        let mut hi = blocks[i];
+        while lo < hi {
+            let mid = hi - (hi - lo) / 2;
+            if self.load_with(bytes, blocks, i, mid) <= Self::LIVE {
+                lo = mid;
+            } else {
+                hi = mid - 1;
+            }
+        }
+        lo
+    }
+
+    // The blocks with load at most 6, or with every block that may be shortened at 1. The outermost axis is shortened first, so that the
+    // inner run stays long; blocks only shrink, so that the region still fits.
+    pub fn fit<'a>(
+        blocks: [u64; 64],
+        bytes: &'a [u64; 512],
+        sizes: &'a [u64],
+        strides: &'a [i64; 512],
+        chosen: usize,
+        rank: usize,
+    ) -> [u64; 64]
+        requires { ⌜ ((rank ≤ 64) × (chosen < 8)) × (length (now sizes) ≡ 2) ⌝ }
+        ensures { λ r. ⌜ r ≡ fitted (now (bytes .entry)) (now (sizes .entry)) rank (chosenSize (now (strides .entry)) chosen) blocks ⌝ }
+    {
+        let sets = Self::of(bytes, sizes, rank);
+        let mut b = blocks;
+        if sets.load(bytes, &b) <= Self::LIVE {
+            return b;
+        }
+        let mut n = rank;
+        while 0 < n {
+            let i = n - 1;
+            if sets.shortened(bytes, strides, chosen, &b, i) {
+                if Self::LIVE < sets.load_with(bytes, b, i, 1) {
+                    b[i] = 1;
+                } else {
+                    let x = sets.most(bytes, b, i);
+                    b[i] = x;
+                    return b;
+                }
+            }
+            n -= 1;
+        }
+        b
+    }
+}

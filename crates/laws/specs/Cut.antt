@@ -1,0 +1,12 @@
+-- Laws of "The plan": cutting ends and may jump, regions and loads grow with the blocks, declining and the fit by the tests of a loop.
+pub mod Ranges
+pub mod Until
+pub mod Picks
+pub mod Steps
+pub mod Grow
+pub mod Jump
+pub mod Cases
+pub mod Saturate
+pub mod Rising
+pub mod Same
+pub mod Tables

@@ -1,0 +1,50 @@
+-- Regions and loads grow with the blocks. Assumes nothing.
+use mathlib.Core.Path.{_≡_, subst⁻¹}
+use mathlib.Core.List.{List}
+use mathlib.Core.Logic.{⊎-elim}
+use Prim.Native.Nat.{ℕ, _+_, _-_, _*_, _/_, _<_, _≤_}
+use native.Mathlib.Nat.{mul-le-mul, mul-le-mul-left, le-refl}
+use native.Mathlib.Decide.{ℕ-discrete}
+use native.Mathlib.Omega.{arith}
+use lib.Dec.{ltb}
+use lib.ListN.{getD, set, length}
+use lib.Seq.{getD-set-same, getD-set-other, set-out}
+use Rattle.strided.specs.Base.{sum, product}
+use Rattle.strided.specs.Region.{line, byteAt, near, far, regionOf, region}
+use Rattle.strided.specs.Fit.{reuse, counts, aliases, factor, loadOf, load}
+use Rattle.laws.specs.Cut.Ranges.{le-or-lt, cond-mono, sum-termwise, product-termwise}
+
+pub region-mono : (bytes : List ℕ) (operands : ℕ) (b b′ : List ℕ) (o n : ℕ) → ((i : ℕ) → getD b i 0 ≤ getD b′ i 0)
+    → region bytes operands b o n ≤ region bytes operands b′ o n
+unfolding region regionOf
+region-mono bytes operands b b′ o n h = sum-termwise (regionOf bytes b o n) (regionOf bytes b′ o n)
+    (λ k.
+    let c = sum-termwise (near bytes b k) (near bytes b′ k)
+    (λ i. cond-mono (ltb (byteAt bytes k i) line) (mul-le-mul-left (byteAt bytes k i) (let q = h i in omega arith)) (le-refl 0)) o n in
+    let m = product-termwise (far bytes b k) (far bytes b′ k)
+    (λ i. cond-mono (ltb (byteAt bytes k i) line) (le-refl 1) (h i)) o n in
+    mul-le-mul (omega arith) m)
+    0 operands
+
+pub load-mono : (bytes sizes : List ℕ) (rank : ℕ) (b b′ : List ℕ) → ((i : ℕ) → getD b i 0 ≤ getD b′ i 0)
+    → load bytes sizes rank b ≤ load bytes sizes rank b′
+unfolding load loadOf
+load-mono bytes sizes rank b b′ h = sum-termwise (loadOf bytes sizes rank b) (loadOf bytes sizes rank b′)
+    (λ k. cond-mono (counts bytes sizes rank k)
+    (product-termwise (factor bytes b k) (factor bytes b′ k) (λ i. cond-mono (aliases (byteAt bytes k i)) (h i) (le-refl 1)) 0 (reuse bytes rank k)) (le-refl 0))
+    0 2
+
+pub set-mono : (b : List ℕ) (i x y : ℕ) → x ≤ y → (j : ℕ) → getD (set b i x) j 0 ≤ getD (set b i y) j 0
+set-mono b i x y h j = elim (ℕ-discrete j i) [
+  | yes e ↦ subst⁻¹ (λ (k : ℕ). getD (set b i x) k 0 ≤ getD (set b i y) k 0) e (⊎-elim
+      (λ (o : length b ≤ i). subst⁻¹ (λ (l : List ℕ). getD l i 0 ≤ getD (set b i y) i 0) (set-out b i x o)
+      (subst⁻¹ (λ (l : List ℕ). getD b i 0 ≤ getD l i 0) (set-out b i y o) (le-refl (getD b i 0))))
+      (λ (o : i < length b). let p = getD-set-same b i x 0 o in let q = getD-set-same b i y 0 o in omega arith)
+      (le-or-lt (length b) i))
+  | no e ↦ let p = getD-set-other b i j x 0 e in let q = getD-set-other b i j y 0 e in omega arith
+]
+
+-- one block of the load
+pub load-set-mono : (bytes sizes : List ℕ) (rank : ℕ) (b : List ℕ) (i x y : ℕ) → x ≤ y
+    → load bytes sizes rank (set b i x) ≤ load bytes sizes rank (set b i y)
+load-set-mono bytes sizes rank b i x y h = load-mono bytes sizes rank (set b i x) (set b i y) (set-mono b i x y h)

@@ -1,0 +1,201 @@
+-- Cutting, declining and the fit look at byte strides, costs and ranks of the plan's axes only: tables that agree there give the same.
+-- Assumes nothing.
+use mathlib.Core.Path.{_≡_, refl, sym, ap, ap₂, _∙_}
+use mathlib.Core.Bool.{Bool, true, false, cond, not, _&&_, _||_}
+use mathlib.Core.List.{List}
+use mathlib.Core.Option.{Option, none, some}
+use Prim.Native.Nat.{ℕ, zero, suc, _+_, _-_, _*_, _/_, _%_, _≤_, _<_}
+use native.Mathlib.Omega.{arith}
+use lib.Dec.{ltb, leb, eqb}
+use lib.ListN.{getD, set}
+use Rattle.strided.specs.Base.{sum, product, least, every, seek, greatest, until}
+use Rattle.strided.specs.Region.{line, cache, live, byteAt, near, far, regionOf, region}
+use Rattle.strided.specs.Cut.{score, later, greatestScore, shorten, halving, lessening, cells, halved, lessened, shrunk, rankAt, leastRank, leastByte, keepsFirst, ones, cutting}
+use Rattle.strided.specs.Decline.{firstCut, rising, apart, widthOf, passes, declined}
+use Rattle.strided.specs.Fit.{reuse, counts, aliases, factor, loadOf, load, entersOf, enters, shortens, mostOf, fitFrom, fitted}
+use Rattle.laws.specs.Cut.Ranges.{sum-cong, product-cong, least-cong, every-cong, seek-cong, seek-le}
+use Rattle.laws.specs.Cut.Picks.{pick-is}
+use Rattle.laws.specs.Cut.Rising.{before, wayOf, adds, keepsApart, apart-each}
+
+-- two tables of byte strides, two of ranks, and two lists of costs that agree on the plan's axes
+abbrev pub SameBytes : ℕ → ℕ → List ℕ → List ℕ → Type 0
+SameBytes operands rank bytes bytes′ = (k i : ℕ) → k < operands → i < rank → byteAt bytes k i ≡ byteAt bytes′ k i
+
+abbrev pub SameRanks : ℕ → ℕ → List (List ℕ) → List (List ℕ) → Type 0
+SameRanks operands rank table table′ = (k i : ℕ) → k < operands → i < rank → rankAt table k i ≡ rankAt table′ k i
+
+abbrev pub SameCosts : ℕ → List ℕ → List ℕ → Type 0
+SameCosts rank costs costs′ = (i : ℕ) → i < rank → getD costs i 0 ≡ getD costs′ i 0
+
+module _ (operands rank : ℕ) (bytes bytes′ : List ℕ) (same : SameBytes operands rank bytes bytes′) where
+  pub region-same : (b : List ℕ) (o n : ℕ) → o + n ≤ rank → region bytes operands b o n ≡ region bytes′ operands b o n
+  unfolding region regionOf
+  region-same b o n h = sum-cong (regionOf bytes b o n) (regionOf bytes′ b o n) 0 operands
+      (λ k p q. ap₂ (λ (x y : ℕ). line * (x / line + 1) * y)
+      (sum-cong (near bytes b k) (near bytes′ b k) o n
+      (λ i u v. ap (λ (s : ℕ). cond (ltb s line) (s * (getD b i 0 - 1)) 0) (same k i (omega arith) (omega arith))))
+      (product-cong (far bytes b k) (far bytes′ b k) o n
+      (λ i u v. ap (λ (s : ℕ). cond (ltb s line) 1 (getD b i 0)) (same k i (omega arith) (omega arith)))))
+
+  least-byte-same : (o n : ℕ) → o + n ≤ rank → leastByte bytes operands o n ≡ leastByte bytes′ operands o n
+  unfolding leastByte
+  least-byte-same o n h = least-cong (λ k. least (byteAt bytes k) o n) (λ k. least (byteAt bytes′ k) o n) 0 operands
+      (λ k p q. least-cong (byteAt bytes k) (byteAt bytes′ k) o n (λ i u v. same k i (omega arith) (omega arith)))
+
+  module _ (costs costs′ : List ℕ) (even : SameCosts rank costs costs′) where
+    score-same : (b : List ℕ) (i : ℕ) → i < rank → score b costs i ≡ score b costs′ i
+    score-same b i h = ap (λ (c : ℕ). (getD b i 0 - 1) * c) (even i h)
+
+    later-same : (s s′ : ℕ → ℕ) (i : ℕ) (p : Option ℕ) → s i ≡ s′ i → ((j : ℕ) → p ≡ some j → s j ≡ s′ j) → later s i p ≡ later s′ i p
+    later-same s s′ i none e f = refl
+    later-same s s′ i (some j) e f = ap₂ (λ (x y : ℕ). cond (ltb x y) (some j) (some i)) e (f j refl)
+
+    pick-same : (b : List ℕ) (o n : ℕ) → o + n ≤ rank → greatestScore b costs o n ≡ greatestScore b costs′ o n
+    unfolding greatestScore
+    pick-same b o zero h = refl
+    pick-same b o (suc n) h =
+        let old : Option ℕ = greatestScore b costs o n in
+        let i : ℕ = o + n in
+        ap (λ (p : Option ℕ). cond (ltb 1 (getD b i 0)) p old)
+        (later-same (score b costs) (score b costs′) i old (score-same b i (omega arith))
+        (λ j e. let r = pick-is b costs o n j e in score-same b j (omega (arith, r .below))))
+        ∙ ap (λ (p : Option ℕ). cond (ltb 1 (getD b i 0)) (later (score b costs′) i p) p) (pick-same b o n (omega arith))
+
+    halving-same : (o n : ℕ) → o + n ≤ rank → (b : List ℕ) → halving bytes operands costs o n b ≡ halving bytes′ operands costs′ o n b
+    unfolding halving
+    halving-same o n h b =
+        ap₂ (λ (r : ℕ) (p : Option ℕ). cond (leb (2 * cache) r) (shorten (λ x. (x + 1) / 2) b p) none) (region-same b o n h) (pick-same b o n h)
+
+    lessening-same : (o n : ℕ) → o + n ≤ rank → (b : List ℕ) → lessening bytes operands costs o n b ≡ lessening bytes′ operands costs′ o n b
+    unfolding lessening
+    lessening-same o n h b =
+        ap₂ (λ (r : ℕ) (p : Option ℕ). cond (ltb cache r) (shorten (λ x. x - 1) b p) none) (region-same b o n h) (pick-same b o n h)
+
+    shrunk-same : (o n : ℕ) → o + n ≤ rank → (b : List ℕ) → shrunk bytes operands costs o n b ≡ shrunk bytes′ operands costs′ o n b
+    unfolding shrunk halved lessened
+    shrunk-same o n h b =
+        let half : List ℕ → List ℕ = λ b. until (halving bytes operands costs o n) (cells o n b) b in
+        (λ t. until (λ x. lessening-same o n h x t) (cells o n (half b)) (half b))
+        ∙ (λ t. lessened bytes′ operands costs′ o n (until (λ x. halving-same o n h x t) (cells o n b) b))
+
+    module _ (table table′ : List (List ℕ)) (ranked : SameRanks operands rank table table′) where
+      least-rank-same : (o n : ℕ) → o + n ≤ rank → leastRank table operands o n ≡ leastRank table′ operands o n
+      unfolding leastRank
+      least-rank-same o n h = least-cong (λ k. least (rankAt table k) o n) (λ k. least (rankAt table′ k) o n) 0 operands
+          (λ k p q. least-cong (rankAt table k) (rankAt table′ k) o n (λ i u v. ranked k i (omega arith) (omega arith)))
+
+      keeps-same : (o n : ℕ) → o < rank → o + n ≤ rank → keepsFirst table operands o n ≡ keepsFirst table′ operands o n
+      unfolding keepsFirst
+      keeps-same o n l h =
+          every-cong (λ k. eqb (rankAt table k o) (leastRank table operands o n)) (λ k. eqb (rankAt table′ k o) (leastRank table′ operands o n)) 0 operands
+          (λ k p q. ap₂ eqb (ranked k o (omega arith) l) (least-rank-same o n h))
+
+      pub cutting-same : (n o : ℕ) → o + n ≤ rank → (b : List ℕ) → cutting bytes operands costs table o n b ≡ cutting bytes′ operands costs′ table′ o n b
+      unfolding cutting
+      cutting-same zero o h b = refl
+      cutting-same (suc n) o h b =
+          let rest = cutting-same n (o + 1) (omega arith) b in
+          let r = region-same b o (suc n) h in
+          let k = keeps-same o (suc n) (omega arith) h in
+          let l = least-byte-same o (suc n) h in
+          let s = shrunk-same o (suc n) h b in
+          λ t. cond (leb (r t) cache) b (cond (k t) (rest t) (cond (ltb cache (l t)) (ones o (suc n) b) (s t)))
+
+  -- ---- declining
+
+  module _ (sizes es : List ℕ) where
+    way-same : (k : ℕ) → k < operands → (o n : ℕ) → o + n ≤ rank → sum (wayOf (byteAt bytes k) es) o n ≡ sum (wayOf (byteAt bytes′ k) es) o n
+    way-same k h o n l = sum-cong (wayOf (byteAt bytes k) es) (wayOf (byteAt bytes′ k) es) o n
+        (λ i p q. ap (λ (s : ℕ). (getD es i 0 - 1) * s) (same k i h (omega arith)))
+
+    pub width-same : (k : ℕ) → k < operands → (cut : ℕ) → cut ≤ rank → widthOf bytes sizes es cut k ≡ widthOf bytes′ sizes es cut k
+    unfolding widthOf
+    width-same k h cut l = ap (λ (x : ℕ). getD sizes k 0 + x) (way-same k h 0 cut (omega arith))
+
+    adds-same : (k : ℕ) → k < operands → (i : ℕ) → i < rank → (o n : ℕ) → o + n ≤ rank
+        → sum (adds (byteAt bytes k) es i) o n ≡ sum (adds (byteAt bytes′ k) es i) o n
+    adds-same k h i l o n m = sum-cong (adds (byteAt bytes k) es i) (adds (byteAt bytes′ k) es i) o n
+        (λ j p q. ap₂ (λ (x y : ℕ). cond (cond (eqb y x) (ltb j i) (ltb y x)) ((getD es j 0 - 1) * y) 0) (same k i h l) (same k j h (omega arith)))
+
+    apart-same : (k : ℕ) → k < operands → (o n w : ℕ) → o + n ≤ rank
+        → every (keepsApart (byteAt bytes k) es o n w) o n ≡ every (keepsApart (byteAt bytes′ k) es o n w) o n
+    unfolding keepsApart
+    apart-same k h o n w m = every-cong (keepsApart (byteAt bytes k) es o n w) (keepsApart (byteAt bytes′ k) es o n w) o n
+        (λ i p q. ap₂ (λ (x y : ℕ). eqb (x % line) 0 && leb (w + y) x) (same k i h (omega arith)) (adds-same k h i (omega arith) o n m))
+
+    passes-same : (k : ℕ) → k < operands → (cut : ℕ) → cut ≤ rank → passes bytes sizes es cut rank k ≡ passes bytes′ sizes es cut rank k
+    unfolding passes
+    passes-same k h cut l =
+        let w : ℕ = widthOf bytes sizes es cut k in
+        let n : ℕ = rank - cut in
+        let front : ℕ → Bool → Bool = λ w t. eqb (getD sizes k 0) 0 || (eqb (w % line) 0 && t) in
+        ap (front w) (apart-each (byteAt bytes k) es cut n w ∙ apart-same k h cut n w (omega arith) ∙ sym (apart-each (byteAt bytes′ k) es cut n w))
+        ∙ ap (λ (w : ℕ). front w (apart (byteAt bytes′ k) es w (rising (byteAt bytes′ k) cut n))) (width-same k h cut l)
+
+    pub declined-same : (b : List ℕ) → declined bytes sizes operands es rank b ≡ declined bytes′ sizes operands es rank b
+    unfolding declined firstCut
+    declined-same b =
+        let cut : ℕ = seek (λ i. ltb (getD b i 0) (getD es i 0)) 0 rank in
+        let l : cut ≤ rank = omega (arith, seek-le (λ i. ltb (getD b i 0) (getD es i 0)) 0 rank) in
+        ap (λ (t : Bool). ltb 0 cut && (ltb cut rank && t))
+        (every-cong (passes bytes sizes es cut rank) (passes bytes′ sizes es cut rank) 0 operands (λ k p q. passes-same k (omega arith) cut l))
+
+  -- ---- the fit
+
+  module _ (two : 2 ≤ operands) (sizes : List ℕ) where
+    reuse-same : (k : ℕ) → k < 2 → reuse bytes rank k ≡ reuse bytes′ rank k
+    unfolding reuse
+    reuse-same k h = seek-cong (λ i. ltb (byteAt bytes k i) line) (λ i. ltb (byteAt bytes′ k i) line) 0 rank
+        (λ i p q. ap (λ (s : ℕ). ltb s line) (same k i (omega arith) (omega arith)))
+
+    reuse-le : (k : ℕ) → reuse bytes rank k ≤ rank
+    unfolding reuse
+    reuse-le k = omega (arith, seek-le (λ i. ltb (byteAt bytes k i) line) 0 rank)
+
+    counts-same : (k : ℕ) → k < 2 → counts bytes sizes rank k ≡ counts bytes′ sizes rank k
+    unfolding counts
+    counts-same k h = ap (λ (r : ℕ). not (eqb (getD sizes k 0) 0) && (ltb 0 r && ltb r rank)) (reuse-same k h)
+
+    load-same : (b : List ℕ) → load bytes sizes rank b ≡ load bytes′ sizes rank b
+    unfolding load loadOf
+    load-same b = sum-cong (loadOf bytes sizes rank b) (loadOf bytes′ sizes rank b) 0 2
+        (λ k p q. ap₂ (λ (t : Bool) (x : ℕ). cond t x 0) (counts-same k (omega arith))
+        (product-cong (factor bytes b k) (factor bytes′ b k) 0 (reuse bytes rank k)
+        (λ i u v. ap (λ (s : ℕ). cond (aliases s) (getD b i 0) 1) (same k i (omega arith) (omega (arith, reuse-le k))))
+        ∙ ap (product (factor bytes′ b k) 0) (reuse-same k (omega arith))))
+
+    enters-of-same : (i k : ℕ) → i < rank → k < 2 → entersOf bytes sizes rank i k ≡ entersOf bytes′ sizes rank i k
+    unfolding entersOf
+    enters-of-same i k l h =
+        let c = counts-same k h in
+        let r = reuse-same k h in
+        let s = same k i (omega arith) l in
+        λ t. c t && (ltb i (r t) && aliases (s t))
+
+    shortens-same : (chosen : ℕ → ℕ) (b : List ℕ) (i : ℕ) → i < rank → shortens bytes sizes rank chosen b i ≡ shortens bytes′ sizes rank chosen b i
+    unfolding shortens enters
+    shortens-same chosen b i l =
+        ap₂ (λ (x y : Bool). not (eqb (chosen i) 0) && ((x || y) && ltb 1 (getD b i 0)))
+        (enters-of-same i 0 l (omega arith)) (enters-of-same i 1 l (omega arith))
+
+    most-same : (b : List ℕ) (i : ℕ) → mostOf bytes sizes rank b i ≡ mostOf bytes′ sizes rank b i
+    unfolding mostOf
+    most-same b i = λ t. greatest (λ x. leb (load-same (set b i x) t) live) (getD b i 0)
+
+    fit-same : (chosen : ℕ → ℕ) (n : ℕ) → n ≤ rank → (b : List ℕ) → fitFrom bytes sizes rank chosen n b ≡ fitFrom bytes′ sizes rank chosen n b
+    unfolding fitFrom
+    fit-same chosen zero h b = refl
+    fit-same chosen (suc n) h b =
+        let s = shortens-same chosen b n (omega arith) in
+        let l = load-same (set b n 1) in
+        let on = fit-same chosen n (omega arith) (set b n 1) in
+        let m = most-same b n in
+        let skip = fit-same chosen n (omega arith) b in
+        λ t. cond (s t) (cond (ltb live (l t)) (on t) (set b n (m t))) (skip t)
+
+    pub fitted-same : (chosen : ℕ → ℕ) (b : List ℕ) → fitted bytes sizes rank chosen b ≡ fitted bytes′ sizes rank chosen b
+    unfolding fitted
+    fitted-same chosen b =
+        let l = load-same b in
+        let f = fit-same chosen rank (omega arith) b in
+        λ t. cond (ltb live (l t)) (f t) b

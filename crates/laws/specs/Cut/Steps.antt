@@ -1,0 +1,248 @@
+-- A step of `halving` or `lessening`: which block it shortens, that the tail has fewer cells after it, that scores still fit 64 bits, and
+-- that the counts of `halved` and `lessened` never run out. Assumes nothing.
+use mathlib.Core.Path.{_≡_, refl, sym, subst, subst⁻¹, ap, ap₂, _∙_}
+use mathlib.Core.List.{List}
+use mathlib.Core.Logic.{_⊎_, ⊎-elim, inl, inr}
+use mathlib.Core.Bool.{Bool, true, false, cond}
+use mathlib.Core.Option.{Option, none, some}
+use Prim.Native.Nat.{ℕ, zero, suc, _+_, _-_, _*_, _/_, _<_, _≤_, _^_}
+use native.Mathlib.Omega.{arith}
+use native.Mathlib.Nat.{mul-le-mul-right, le-of-eq, le-refl, le-trans, lt-of-le-of-lt, eq-or-lt-of-le}
+use native.Mathlib.Decide.{ℕ-discrete}
+use lib.Dec.{ltb, leb}
+use lib.ListN.{getD, set, length, length-set}
+use lib.Seq.{getD-set-same, getD-set-other}
+use borrow.Author.Tests.{le-leb, lt-leb, lt-ltb, le-ltb}
+use Rattle.strided.specs.Base.{sum, until}
+use Rattle.strided.specs.Region.{cache, region}
+use Rattle.strided.specs.Cut.{score, greatestScore, shorten, halving, lessening, cells, halved, lessened, shrunk}
+use Rattle.laws.specs.Cut.Ranges.{le-or-lt, cond-true, cond-false, cond-same}
+use Rattle.laws.specs.Cut.Until.{none-or-some, until-stop, until-step, until-keeps, until-ends}
+use Rattle.laws.specs.Cut.Picks.{Pickable, pick-is, above-there}
+
+-- every score of the first n axes fits 64 bits: rows 6 and 7 of the refusal table see to it
+abbrev pub ScoresFit : ℕ → List ℕ → List ℕ → Type 0
+ScoresFit n costs b = (i : ℕ) → i < n → score b costs i < 2 ^ 64
+
+-- ---- one block made smaller
+
+-- a sum up to i does not see a store at i
+sum-set-before : (b : List ℕ) (i v o n : ℕ) → o + n ≤ i → sum (λ k. getD (set b i v) k 0) o n ≡ sum (λ k. getD b k 0) o n
+unfolding sum
+sum-set-before b i v o zero h = refl
+sum-set-before b i v o (suc n) h =
+    ap₂ _+_ (sum-set-before b i v o n (omega arith)) (getD-set-other b i (o + n) v 0 (omega arith))
+
+-- a smaller block makes the tail smaller
+pub cells-set : (b : List ℕ) (i v o n : ℕ) → o ≤ i → i < o + n → i < length b → v < getD b i 0
+    → cells o n (set b i v) < cells o n b
+unfolding sum
+cells-set b i v o zero ho hn hl hv = absurd (omega arith)
+cells-set b i v o (suc n) ho hn hl hv = ⊎-elim
+    (λ (h : i ≡ o + n).
+    let e1 = sum-set-before b i v o n (omega arith) in
+    let e2 : getD (set b i v) (o + n) 0 ≡ v = ap (λ (k : ℕ). getD (set b i v) k 0) (sym h) ∙ getD-set-same b i v 0 hl in
+    let e3 : getD b (o + n) 0 ≡ getD b i 0 = ap (λ (k : ℕ). getD b k 0) (sym h) in
+    omega arith)
+    (λ (h : i < o + n).
+    let e1 = cells-set b i v o n ho h hl hv in
+    let e2 = getD-set-other b i (o + n) v 0 (omega arith) in
+    omega arith)
+    (eq-or-lt-of-le {n = i} {m = o + n} (omega arith))
+
+-- it makes no block greater
+pub set-le : (b : List ℕ) (i v j : ℕ) → i < length b → v ≤ getD b i 0 → getD (set b i v) j 0 ≤ getD b j 0
+set-le b i v j hl hv = elim (ℕ-discrete j i) [
+  | yes e ↦ subst⁻¹ (λ (k : ℕ). getD (set b i v) k 0 ≤ getD b k 0) e (subst⁻¹ (λ (x : ℕ). x ≤ getD b i 0) (getD-set-same b i v 0 hl) hv)
+  | no e ↦ le-of-eq (getD-set-other b i j v 0 e)
+]
+
+-- smaller blocks, smaller scores
+pub scores-le : (n : ℕ) (costs b b′ : List ℕ) → ((j : ℕ) → getD b′ j 0 ≤ getD b j 0) → ScoresFit n costs b → ScoresFit n costs b′
+scores-le n costs b b′ le fit j hj =
+    let h = le j in
+    lt-of-le-of-lt (mul-le-mul-right (getD costs j 0) (omega arith)) (fit j hj)
+
+-- ---- a step, whatever it makes of the block
+
+some-inj : (a b : List ℕ) → some a ≡ some b → a ≡ b
+some-inj a b e = cc
+
+cond-some : (t : Bool) (x : Option (List ℕ)) (b : List ℕ) → cond t x none ≡ some b → x ≡ some b
+cond-some true x b e = e
+cond-some false x b e = absurd (let z : _≡_ {A = ℕ} 0 1 = cc in omega arith)
+
+-- fewer cells, no block greater, as many places, and none outside the tail changed
+pub record Shorter (o n : ℕ) (b b′ : List ℕ) : Type 0 where
+  pub fewer : cells o n b′ < cells o n b
+  pub less : (j : ℕ) → getD b′ j 0 ≤ getD b j 0
+  pub long : length b′ ≡ length b
+
+module _ (f : ℕ → ℕ) (less : (x : ℕ) → 1 < x → f x < x) (o n : ℕ) (b b′ : List ℕ) where
+  shorten-shorter : (p : Option ℕ) → ((i : ℕ) → p ≡ some i → Pickable b o n i) → shorten f b p ≡ some b′ → Shorter o n b b′
+  shorten-shorter none q e = absurd (let z : _≡_ {A = ℕ} 0 1 = cc in omega arith)
+  shorten-shorter (some i) q e =
+      let r = q i refl in
+      let there = above-there b i (r .above) in
+      let smaller = less (getD b i 0) (r .above) in
+      subst (λ (l : List ℕ). Shorter o n b l) (some-inj (set b i (f (getD b i 0))) b′ e)
+      (record {
+        fewer = cells-set b i (f (getD b i 0)) o n (r .from) (r .below) there smaller;
+        less = λ j. set-le b i (f (getD b i 0)) j there (omega arith);
+        long = length-set b i (f (getD b i 0));
+      })
+
+module _ (bytes : List ℕ) (operands : ℕ) (costs : List ℕ) (o n : ℕ) where
+  pub halving-shorter : (b b′ : List ℕ) → halving bytes operands costs o n b ≡ some b′ → Shorter o n b b′
+  unfolding halving
+  halving-shorter b b′ e =
+      shorten-shorter (λ x. (x + 1) / 2) (λ x h. omega arith) o n b b′ (greatestScore b costs o n) (λ i q. pick-is b costs o n i q)
+      (cond-some (leb (2 * cache) (region bytes operands b o n)) (shorten (λ x. (x + 1) / 2) b (greatestScore b costs o n)) b′ e)
+
+  pub lessening-shorter : (b b′ : List ℕ) → lessening bytes operands costs o n b ≡ some b′ → Shorter o n b b′
+  unfolding lessening
+  lessening-shorter b b′ e =
+      shorten-shorter (λ x. x - 1) (λ x h. omega arith) o n b b′ (greatestScore b costs o n) (λ i q. pick-is b costs o n i q)
+      (cond-some (ltb cache (region bytes operands b o n)) (shorten (λ x. x - 1) b (greatestScore b costs o n)) b′ e)
+
+  pub halving-falls : (b b′ : List ℕ) → halving bytes operands costs o n b ≡ some b′ → cells o n b′ < cells o n b
+  halving-falls b b′ e = halving-shorter b b′ e .fewer
+
+  pub lessening-falls : (b b′ : List ℕ) → lessening bytes operands costs o n b ≡ some b′ → cells o n b′ < cells o n b
+  lessening-falls b b′ e = lessening-shorter b b′ e .fewer
+
+-- ---- what a step is, from the region and the pick
+
+module _ (bytes : List ℕ) (operands : ℕ) (costs : List ℕ) (o n : ℕ) (b : List ℕ) where
+  half : Option ℕ → Option (List ℕ)
+  half p = shorten (λ x. (x + 1) / 2) b p
+
+  one-off : Option ℕ → Option (List ℕ)
+  one-off p = shorten (λ x. x - 1) b p
+
+  pub halving-small : region bytes operands b o n < 2 * cache → halving bytes operands costs o n b ≡ none
+  unfolding halving half
+  halving-small h = cond-false (leb (2 * cache) (region bytes operands b o n)) (half (greatestScore b costs o n)) none (lt-leb (2 * cache) (region bytes operands b o n) h)
+
+  pub halving-nothing : greatestScore b costs o n ≡ none → halving bytes operands costs o n b ≡ none
+  unfolding halving half
+  halving-nothing e =
+      ap (λ (p : Option ℕ). cond (leb (2 * cache) (region bytes operands b o n)) (half p) none) e
+      ∙ cond-same (leb (2 * cache) (region bytes operands b o n)) none
+
+  pub halving-at : (i : ℕ) → 2 * cache ≤ region bytes operands b o n → greatestScore b costs o n ≡ some i
+      → halving bytes operands costs o n b ≡ some (set b i ((getD b i 0 + 1) / 2))
+  unfolding halving half
+  halving-at i h e =
+      cond-true (leb (2 * cache) (region bytes operands b o n)) (half (greatestScore b costs o n)) none (le-leb (2 * cache) (region bytes operands b o n) h)
+      ∙ ap half e
+
+  pub lessening-small : region bytes operands b o n ≤ cache → lessening bytes operands costs o n b ≡ none
+  unfolding lessening one-off
+  lessening-small h = cond-false (ltb cache (region bytes operands b o n)) (one-off (greatestScore b costs o n)) none (le-ltb cache (region bytes operands b o n) h)
+
+  pub lessening-nothing : greatestScore b costs o n ≡ none → lessening bytes operands costs o n b ≡ none
+  unfolding lessening one-off
+  lessening-nothing e =
+      ap (λ (p : Option ℕ). cond (ltb cache (region bytes operands b o n)) (one-off p) none) e
+      ∙ cond-same (ltb cache (region bytes operands b o n)) none
+
+  pub lessening-at : (i : ℕ) → cache < region bytes operands b o n → greatestScore b costs o n ≡ some i
+      → lessening bytes operands costs o n b ≡ some (set b i (getD b i 0 - 1))
+  unfolding lessening one-off
+  lessening-at i h e =
+      cond-true (ltb cache (region bytes operands b o n)) (one-off (greatestScore b costs o n)) none (lt-ltb cache (region bytes operands b o n) h)
+      ∙ ap one-off e
+
+-- ---- all the steps
+
+module _ (bytes : List ℕ) (operands : ℕ) (costs : List ℕ) (o n : ℕ) (b : List ℕ) where
+  -- blocks only shrink, and there are as many of them
+  record Shrunk (r : List ℕ) : Type 0 where
+    less : (j : ℕ) → getD r j 0 ≤ getD b j 0
+    long : length r ≡ length b
+
+  start : Shrunk b
+  start = record { less = λ j. le-refl (getD b j 0); long = refl }
+
+  go-on : (r r′ : List ℕ) → Shorter o n r r′ → Shrunk r → Shrunk r′
+  go-on r r′ h s = record { less = λ j. le-trans (h .less j) (s .less j); long = h .long ∙ s .long }
+
+  halved-shrunk : Shrunk (halved bytes operands costs o n b)
+  unfolding halved
+  halved-shrunk =
+      until-keeps (halving bytes operands costs o n) Shrunk (λ r r′ e. go-on r r′ (halving-shorter bytes operands costs o n r r′ e)) (cells o n b) b start
+
+  pub halved-le : (j : ℕ) → getD (halved bytes operands costs o n b) j 0 ≤ getD b j 0
+  halved-le = halved-shrunk .less
+
+  -- from any blocks that are no greater
+  lessened-from : (r : List ℕ) → Shrunk r → Shrunk (lessened bytes operands costs o n r)
+  unfolding lessened
+  lessened-from r s =
+      until-keeps (lessening bytes operands costs o n) Shrunk (λ r r′ e. go-on r r′ (lessening-shorter bytes operands costs o n r r′ e)) (cells o n r) r s
+
+  pub shrunk-le : (j : ℕ) → getD (shrunk bytes operands costs o n b) j 0 ≤ getD b j 0
+  unfolding shrunk
+  shrunk-le = lessened-from (halved bytes operands costs o n b) halved-shrunk .less
+
+  pub shrunk-length : length (shrunk bytes operands costs o n b) ≡ length b
+  unfolding shrunk
+  shrunk-length = lessened-from (halved bytes operands costs o n b) halved-shrunk .long
+
+  -- the counts are never met: nothing is left to do
+  pub halved-ends : halving bytes operands costs o n (halved bytes operands costs o n b) ≡ none
+  unfolding halved
+  halved-ends = until-ends (halving bytes operands costs o n) (cells o n) (halving-falls bytes operands costs o n) (cells o n b) b (le-refl (cells o n b))
+
+  pub lessened-ends : lessening bytes operands costs o n (lessened bytes operands costs o n b) ≡ none
+  unfolding lessened
+  lessened-ends = until-ends (lessening bytes operands costs o n) (cells o n) (lessening-falls bytes operands costs o n) (cells o n b) b (le-refl (cells o n b))
+
+  -- so that what comes out fits, or has no block above 1
+  pub lessened-small : (region bytes operands (lessened bytes operands costs o n b) o n ≤ cache)
+      ⊎ (greatestScore (lessened bytes operands costs o n b) costs o n ≡ none)
+  lessened-small =
+      let r : List ℕ = lessened bytes operands costs o n b in
+      ⊎-elim
+      (λ (h : region bytes operands r o n ≤ cache). inl h)
+      (λ (h : cache < region bytes operands r o n). ⊎-elim
+      (λ e. inr e)
+      (λ p. absurd (
+      let e : none ≡ some (set r (p .0) (getD r (p .0) 0 - 1)) = sym lessened-ends ∙ lessening-at bytes operands costs o n r (p .0) h (p .1) in
+      let z : _≡_ {A = ℕ} 0 1 = cc in omega arith))
+      (none-or-some (greatestScore r costs o n)))
+      (le-or-lt (region bytes operands r o n) cache)
+
+-- ---- the rules as a reader expects them: done where the region fits or no block is above 1, else one step and on
+
+module _ (bytes : List ℕ) (operands : ℕ) (costs : List ℕ) (o n : ℕ) (b : List ℕ) where
+  pub halved-small : region bytes operands b o n < 2 * cache → halved bytes operands costs o n b ≡ b
+  unfolding halved
+  halved-small h = until-stop (halving bytes operands costs o n) (cells o n b) b (halving-small bytes operands costs o n b h)
+
+  pub halved-nothing : greatestScore b costs o n ≡ none → halved bytes operands costs o n b ≡ b
+  unfolding halved
+  halved-nothing e = until-stop (halving bytes operands costs o n) (cells o n b) b (halving-nothing bytes operands costs o n b e)
+
+  pub halved-at : (i : ℕ) → 2 * cache ≤ region bytes operands b o n → greatestScore b costs o n ≡ some i
+      → halved bytes operands costs o n b ≡ halved bytes operands costs o n (set b i ((getD b i 0 + 1) / 2))
+  unfolding halved
+  halved-at i h e =
+      until-step (halving bytes operands costs o n) (cells o n) (halving-falls bytes operands costs o n) b (set b i ((getD b i 0 + 1) / 2))
+      (halving-at bytes operands costs o n b i h e)
+
+  pub lessened-fits : region bytes operands b o n ≤ cache → lessened bytes operands costs o n b ≡ b
+  unfolding lessened
+  lessened-fits h = until-stop (lessening bytes operands costs o n) (cells o n b) b (lessening-small bytes operands costs o n b h)
+
+  pub lessened-nothing : greatestScore b costs o n ≡ none → lessened bytes operands costs o n b ≡ b
+  unfolding lessened
+  lessened-nothing e = until-stop (lessening bytes operands costs o n) (cells o n b) b (lessening-nothing bytes operands costs o n b e)
+
+  pub lessened-at : (i : ℕ) → cache < region bytes operands b o n → greatestScore b costs o n ≡ some i
+      → lessened bytes operands costs o n b ≡ lessened bytes operands costs o n (set b i (getD b i 0 - 1))
+  unfolding lessened
+  lessened-at i h e =
+      until-step (lessening bytes operands costs o n) (cells o n) (lessening-falls bytes operands costs o n) b (set b i (getD b i 0 - 1))
+      (lessening-at bytes operands costs o n b i h e)

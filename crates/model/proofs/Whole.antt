@@ -1,0 +1,108 @@
+-- The cases of `cutBlocks`, over the table that the code makes. Assumes nothing.
+use mathlib.Core.Path.{_≡_, refl, sym, ap, ap₂, _∙_}
+use mathlib.Core.Bool.{Bool, true, false, cond, _||_}
+use mathlib.Core.List.{List}
+use Prim.Native.Nat.{ℕ, _+_, _≤_, _<_}
+use native.Mathlib.Omega.{arith}
+use lib.Dec.{leb, eqb}
+use lib.IntN.{ℤ}
+use lib.ListN.{length}
+use borrow.Author.Tests.{eqb-true, eq-eqb, ne-eqb, le-leb, lt-leb}
+use Rattle.strided.specs.Base.{every}
+use Rattle.strided.specs.Region.{cache, byteTable, region}
+use Rattle.strided.specs.Costs.{costs}
+use Rattle.strided.specs.Cut.{planRanks, cutting}
+use Rattle.strided.specs.Decline.{declined}
+use Rattle.strided.specs.Fit.{fitted}
+use Rattle.strided.specs.Plan.{grows, fittedFor, cutBlocks}
+use Rattle.strided.specs.declared.Purpose.{Purpose}
+use Rattle.strided.specs.declared.Purpose.the-variants.{Pointwise, PointwiseInto, Fold}
+use Rattle.laws.specs.Cut.Ranges.{cond-true, cond-false}
+use Rattle.laws.specs.Cut.Same.{SameBytes, SameCosts, SameRanks, region-same, cutting-same, declined-same, fitted-same}
+use Rattle.laws.specs.Cut.Tables.{strideSize}
+use Rattle.model.specs.Exits.{exits}
+
+-- ---- the exits, by the tests of the code
+
+module _ (bytes sizes es : List ℕ) (strides : List ℤ) (rank : ℕ) where
+  pub exits-none : rank ≡ 0 → exits bytes sizes es strides rank ≡ true
+  unfolding exits
+  exits-none e = rw (eq-eqb rank 0 e)
+
+  pub exits-small : (rank ≡ 0 → ⊥) → region bytes (length sizes) es 0 rank ≤ cache → exits bytes sizes es strides rank ≡ true
+  unfolding exits
+  exits-small n h = rw (ne-eqb rank 0 n, le-leb (region bytes (length sizes) es 0 rank) cache h)
+
+  pub exits-grow : (rank ≡ 0 → ⊥) → cache < region bytes (length sizes) es 0 rank
+      → exits bytes sizes es strides rank ≡ every (grows sizes strides rank) 0 (length sizes)
+  unfolding exits
+  exits-grow n h = rw (ne-eqb rank 0 n, lt-leb (region bytes (length sizes) es 0 rank) cache h)
+
+-- ---- the whole
+
+module _ (sizes es : List ℕ) (strides : List ℤ) (rank : ℕ) (u : Purpose)
+    (bytes : List ℕ) (same : SameBytes (length sizes) rank bytes (byteTable sizes strides))
+    (cs : List ℕ) (even : SameCosts rank cs (costs strides (length sizes) rank))
+    (ranks : List (List ℕ)) (ranked : SameRanks (length sizes) rank ranks (planRanks sizes strides rank)) where
+  true-table : List ℕ
+  true-table = byteTable sizes strides
+
+  -- what cutting gives, by the definition's tables
+  ruled : List ℕ
+  ruled = cutting true-table (length sizes) (costs strides (length sizes) rank) (planRanks sizes strides rank) 0 rank es
+
+  ruled-is : cutting bytes (length sizes) cs ranks 0 rank es ≡ ruled
+  unfolding ruled true-table
+  ruled-is =
+      cutting-same (length sizes) rank bytes (byteTable sizes strides) same cs (costs strides (length sizes) rank) even
+      ranks (planRanks sizes strides rank) ranked rank 0 (omega arith) es
+
+  whole : cutBlocks sizes es strides rank u
+      ≡ cond (exits true-table sizes es strides rank) es
+      (cond (declined true-table sizes (length sizes) es rank ruled) es (fittedFor u true-table sizes strides rank ruled))
+  unfolding cutBlocks exits ruled true-table
+  whole = refl
+
+  exits-is : exits bytes sizes es strides rank ≡ exits true-table sizes es strides rank
+  unfolding exits true-table
+  exits-is =
+      ap (λ (r : ℕ). eqb rank 0 || (leb r cache || every (grows sizes strides rank) 0 (length sizes)))
+      (region-same (length sizes) rank bytes (byteTable sizes strides) same es 0 rank (omega arith))
+
+  fit-is : (v : Purpose) (b : List ℕ) → fittedFor v bytes sizes strides rank b ≡ fittedFor v true-table sizes strides rank b
+  unfolding true-table
+  fit-is Pointwise b = refl
+  fit-is (Fold c) b = refl
+  fit-is (PointwiseInto c) b = go (eqb (length sizes) 2) refl
+    where
+      go : (t : Bool) → eqb (length sizes) 2 ≡ t
+          → cond t (fitted bytes sizes rank (strideSize strides c) b) b ≡ cond t (fitted (byteTable sizes strides) sizes rank (strideSize strides c) b) b
+      go true e =
+          fitted-same (length sizes) rank bytes (byteTable sizes strides) same (omega (arith, eqb-true (length sizes) 2 e)) sizes (strideSize strides c) b
+      go false e = refl
+
+  pub whole-exits : exits bytes sizes es strides rank ≡ true → cutBlocks sizes es strides rank u ≡ es
+  whole-exits e = whole ∙ rw (sym exits-is ∙ e)
+
+  pub whole-declined : (b : List ℕ) → b ≡ cutting bytes (length sizes) cs ranks 0 rank es → exits bytes sizes es strides rank ≡ false
+      → declined bytes sizes (length sizes) es rank b ≡ true → cutBlocks sizes es strides rank u ≡ es
+  unfolding true-table
+  whole-declined b is e d =
+      whole
+      ∙ rw (
+        sym exits-is ∙ e,
+        sym (declined-same (length sizes) rank bytes (byteTable sizes strides) same sizes es ruled)
+            ∙ ap (declined bytes sizes (length sizes) es rank) (sym (is ∙ ruled-is)) ∙ d,
+      )
+
+  pub whole-fitted : (b : List ℕ) → b ≡ cutting bytes (length sizes) cs ranks 0 rank es → exits bytes sizes es strides rank ≡ false
+      → declined bytes sizes (length sizes) es rank b ≡ false → cutBlocks sizes es strides rank u ≡ fittedFor u bytes sizes strides rank b
+  unfolding true-table
+  whole-fitted b is e d =
+      whole
+      ∙ rw (
+        sym exits-is ∙ e,
+        sym (declined-same (length sizes) rank bytes (byteTable sizes strides) same sizes es ruled)
+            ∙ ap (declined bytes sizes (length sizes) es rank) (sym (is ∙ ruled-is)) ∙ d,
+      )
+      (sym (ap (fittedFor u bytes sizes strides rank) (is ∙ ruled-is) ∙ fit-is u ruled))

@@ -1,0 +1,23 @@
+-- The exits that keep every axis whole, in the words of the code. Assumes nothing.
+use mathlib.Core.Bool.{Bool, _&&_, _||_}
+use mathlib.Core.List.{List}
+use Prim.Native.Nat.{ℕ, suc, _-_}
+use lib.Dec.{ltb, leb, eqb}
+use lib.IntN.{ℤ}
+use lib.ListN.{length}
+use Rattle.strided.specs.Base.{every}
+use Rattle.strided.specs.Region.{cache, region}
+use Rattle.strided.specs.Plan.{grows}
+use Rattle.laws.specs.Cut.Tables.{strideSize}
+
+-- operand k has "a nonzero first stride and strictly growing stride sizes"
+abbrev pub rises : List ℤ → ℕ → ℕ → Bool
+rises strides k i = ltb (strideSize strides k i) (strideSize strides k (suc i))
+
+unfoldable pub increasing : List ℤ → ℕ → ℕ → Bool
+increasing strides rank k = ltb 0 (strideSize strides k 0) && every (rises strides k) 0 (rank - 1)
+
+-- "No cut if rank is 0, the region is at most 32,768, or every operand has size above 0 .."
+unfoldable pub exits : List ℕ → List ℕ → List ℕ → List ℤ → ℕ → Bool
+exits bytes sizes es strides rank =
+    eqb rank 0 || (leb (region bytes (length sizes) es 0 rank) cache || every (grows sizes strides rank) 0 (length sizes))

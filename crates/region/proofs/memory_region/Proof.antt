@@ -1,0 +1,66 @@
+-- A loop adds the operands' regions, saturated.
+use native.Mathlib.Omega.{arith}
+use mathlib.Core.Path.{_≡_, sym, ap, _∙_}
+use Prim.Native.Nat.{ℕ, _+_, _-_, _≤_, min}
+use Rattle.strided.specs.Base.{sum}
+use Rattle.strided.specs.Region.{regionOf, region}
+use Rattle.laws.specs.Base.Ranges.{sum-next}
+use Rattle.laws.specs.Cut.Ranges.{sum-none}
+use Rattle.laws.specs.Cut.Saturate.{cap, add-sat}
+use Rattle.region.proofs.memory_region.Statement.{statement}
+use Rattle.region.proofs.memory_region.Tie as tie
+use Rattle.region.proofs.memory_region.Reads as reads
+use Rattle.region.proofs.memory_region.Lts as lts
+use Rattle.region.proofs.region_of.Reads as region-of-reads
+use Rattle.region.proofs.sat_add.Reads as sat-add-reads
+
+abbrev Inv-loop : tie.InvT-loop
+Inv-loop blocks bytes operands offset rank r₀ k₀ r k = (k ≤ operands) × (r ≡ min (sum (regionOf bytes blocks offset (rank - offset)) 0 k) cap)
+
+abbrev μ-loop : tie.MeasureT-loop
+μ-loop blocks bytes operands offset rank r₀ k₀ r k = operands - k
+
+loop-holds : tie.Need-loop-holds Inv-loop μ-loop
+loop-holds c = (omega arith, ap (λ (x : ℕ). min x cap) (sym (sum-none _ 0)))
+
+region-of-requires : tie.Need-region-of-requires Inv-loop μ-loop
+region-of-requires c κs = (omega arith, (omega arith, omega arith))
+
+sat-add-requires : tie.Need-sat-add-requires Inv-loop μ-loop
+sat-add-requires c κs = tt
+
+add-k : tie.Need-add-k Inv-loop μ-loop
+add-k c = omega arith
+
+loop-less : tie.Need-loop-less Inv-loop μ-loop
+loop-less c = omega arith
+
+loop-again : tie.Need-loop-again Inv-loop μ-loop
+loop-again c = let a = c .before .before .before .before .args in
+    let l = c .before .before .before .loop in
+    let f : ℕ → ℕ = regionOf (a .bytes .now) (a .blocks .now) (a .offset) (a .rank - a .offset) in (
+      omega arith,
+      add-sat (sum f 0 (l .k)) (f (l .k)) cap (l .inv .1) (c .before .region-of .ensures) (c .sat-add .ensures)
+          ∙ ap (λ (x : ℕ). min x cap) (sym (sum-next f (l .k))),
+    )
+
+returns : tie.Need-returns Inv-loop μ-loop
+unfolding region
+returns c = let a = c .before .before .args in
+    let l = c .before .loop in
+    let e : l .k ≡ a .operands = omega arith in
+    l .inv .1 ∙ ap (λ (k : ℕ). min (sum (regionOf (a .bytes .now) (a .blocks .now) (a .offset) (a .rank - a .offset)) 0 k) cap) e
+
+pub memory-region-spec : {M : Type 1} → statement M
+memory-region-spec =
+    tie.close
+    (tie.spec
+    Inv-loop
+    μ-loop
+    loop-holds
+    region-of-requires
+    sat-add-requires
+    add-k
+    loop-less
+    loop-again
+    returns)
