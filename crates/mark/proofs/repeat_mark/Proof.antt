@@ -3,18 +3,17 @@ use mathlib.Core.Path.{_≡_, sym, _∙_, ap, ap₂}
 use mathlib.Core.Bool.{Bool, false}
 use mathlib.Core.List.{List, [], _∷_}
 use mathlib.Core.Option.{Option, none, some}
-use Prim.Native.Nat.{ℕ, _*_, _≤_}
+use Prim.Native.Nat.{ℕ, _*_}
 use native.Mathlib.Omega.{arith}
 use lib.Dec.{eqb}
 use lib.IntN.{ℤ}
 use lib.ListN.{length}
 use borrow.Author.Needs.{needs}
 use borrow.Author.Tests.{ltb-false, eqb-true, not-false}
-use Rattle.strided.specs.Refusals.{Row, refusedBy, answered, row1, row3}
+use Rattle.strided.specs.Refusals.{refusedBy, answered, row3}
 use Rattle.strided.specs.Mark.{markRows, markRefused, markedOr, repeats, marked}
 use Rattle.strided.specs.declared.Refusal.{Refusal}
 use Rattle.strided.specs.declared.Answer.the-variants.{Served, Refused}
-use Rattle.strided.specs.declared.Marked.{Marked}
 use Rattle.laws.specs.Refusals.Rows.{Past, past-none, past-next, past-refused, past-served, refused-some, served-none}
 use Rattle.mark.proofs.repeat_mark.Statement.{statement}
 use Rattle.mark.proofs.repeat_mark.Tie as tie
