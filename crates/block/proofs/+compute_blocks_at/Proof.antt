@@ -10,14 +10,14 @@ use Rattle.region.proofs.memory_region.Kinds as memory-region-kinds
 use Rattle.block.proofs.keeps_first.Kinds as keeps-first-kinds
 use Rattle.block.proofs.least_byte.Kinds as least-byte-kinds
 use Rattle.block.proofs.set_ones.Kinds as set-ones-kinds
-use Rattle.block.proofs.shrink.Kinds as shrink-kinds
+use Rattle.shrink.proofs.shrink.Kinds as shrink-kinds
 use Rattle.block.proofs.compute_blocks_at.Reads as compute-blocks-at
 use Rattle.block.proofs.compute_blocks_at.Kinds as compute-blocks-at-kinds
 use Rattle.block.proofs.+compute_blocks_at.Lts-compute_blocks_at as compute-blocks-at-lts
 use Rattle.block.proofs.keeps_first.Reads as keeps-first-reads
 use Rattle.block.proofs.least_byte.Reads as least-byte-reads
 use Rattle.block.proofs.set_ones.Reads as set-ones-reads
-use Rattle.block.proofs.shrink.Reads as shrink-reads
+use Rattle.shrink.proofs.shrink.Reads as shrink-reads
 use Rattle.region.proofs.memory_region.Reads as memory-region-reads
 use Rattle.block.proofs.+compute_blocks_at.{statement}
 use Rattle.block.proofs.+compute_blocks_at.Tie.{close}

@@ -10,12 +10,12 @@ use Rattle.strided.specs.Region.{cache, region}
 use Rattle.strided.specs.Cut.{greatestScore, cells, lessened}
 use Rattle.laws.specs.Cut.Picks.{Pickable, pick-is, above-there}
 use Rattle.laws.specs.Cut.Steps.{ScoresFit, scores-le, cells-set, set-le, lessened-fits, lessened-nothing, lessened-at}
-use Rattle.block.specs.Picked.{picked}
-use Rattle.block.proofs.lessen.Statement.{statement}
-use Rattle.block.proofs.lessen.Tie as tie
-use Rattle.block.proofs.lessen.Reads as reads
-use Rattle.block.proofs.lessen.Lts as lts
-use Rattle.block.proofs.last_argmax_weighted.Reads as last-argmax-weighted-reads
+use Rattle.shrink.specs.Picked.{picked}
+use Rattle.shrink.proofs.lessen.Statement.{statement}
+use Rattle.shrink.proofs.lessen.Tie as tie
+use Rattle.shrink.proofs.lessen.Reads as reads
+use Rattle.shrink.proofs.lessen.Lts as lts
+use Rattle.shrink.proofs.last_argmax_weighted.Reads as last-argmax-weighted-reads
 use Rattle.region.proofs.memory_region.Reads as memory-region-reads
 
 abbrev Inv-loop : tie.InvT-loop

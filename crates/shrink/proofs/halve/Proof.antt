@@ -13,12 +13,12 @@ use Rattle.strided.specs.Region.{cache, region}
 use Rattle.strided.specs.Cut.{greatestScore, cells, halved}
 use Rattle.laws.specs.Cut.Picks.{Pickable, pick-is, above-there}
 use Rattle.laws.specs.Cut.Steps.{ScoresFit, scores-le, cells-set, set-le, halved-small, halved-nothing, halved-at}
-use Rattle.block.specs.Picked.{picked}
-use Rattle.block.proofs.halve.Statement.{statement}
-use Rattle.block.proofs.halve.Tie as tie
-use Rattle.block.proofs.halve.Reads as reads
-use Rattle.block.proofs.halve.Lts as lts
-use Rattle.block.proofs.last_argmax_weighted.Reads as last-argmax-weighted-reads
+use Rattle.shrink.specs.Picked.{picked}
+use Rattle.shrink.proofs.halve.Statement.{statement}
+use Rattle.shrink.proofs.halve.Tie as tie
+use Rattle.shrink.proofs.halve.Reads as reads
+use Rattle.shrink.proofs.halve.Lts as lts
+use Rattle.shrink.proofs.last_argmax_weighted.Reads as last-argmax-weighted-reads
 use Rattle.region.proofs.memory_region.Reads as memory-region-reads
 
 abbrev Inv-loop : tie.InvT-loop

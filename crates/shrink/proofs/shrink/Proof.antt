@@ -4,12 +4,12 @@ use Prim.Native.Nat.{ℕ, _-_}
 use Rattle.strided.specs.Cut.{halved, lessened, shrunk}
 use Rattle.laws.specs.Cut.Steps.{ScoresFit, scores-le, halved-le}
 use borrow.Author.Needs.{needs}
-use Rattle.block.proofs.shrink.Statement.{statement}
-use Rattle.block.proofs.shrink.Tie as tie
-use Rattle.block.proofs.shrink.Reads as reads
-use Rattle.block.proofs.shrink.Lts as lts
-use Rattle.block.proofs.halve.Reads as halve-reads
-use Rattle.block.proofs.lessen_far.Reads as lessen-far-reads
+use Rattle.shrink.proofs.shrink.Statement.{statement}
+use Rattle.shrink.proofs.shrink.Tie as tie
+use Rattle.shrink.proofs.shrink.Reads as reads
+use Rattle.shrink.proofs.shrink.Lts as lts
+use Rattle.shrink.proofs.halve.Reads as halve-reads
+use Rattle.shrink.proofs.lessen_far.Reads as lessen-far-reads
 
 halve-requires : tie.Need-halve-requires
 halve-requires c κs = search needs

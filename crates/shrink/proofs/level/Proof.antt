@@ -1,11 +1,11 @@
 -- A search between two bounds ends; which score it finds does not matter.
 use native.Mathlib.Omega.{arith}
 use Prim.Native.Nat.{ℕ, _-_, _≤_, _<_, _^_}
-use Rattle.block.proofs.level.Statement.{statement}
-use Rattle.block.proofs.level.Tie as tie
-use Rattle.block.proofs.level.Reads as reads
-use Rattle.block.proofs.level.Lts as lts
-use Rattle.block.proofs.clip.Reads as clip-reads
+use Rattle.shrink.proofs.level.Statement.{statement}
+use Rattle.shrink.proofs.level.Tie as tie
+use Rattle.shrink.proofs.level.Reads as reads
+use Rattle.shrink.proofs.level.Lts as lts
+use Rattle.shrink.proofs.clip.Reads as clip-reads
 use Rattle.region.proofs.memory_region.Reads as memory-region-reads
 
 abbrev Inv-loop : tie.InvT-loop

@@ -8,13 +8,13 @@ use Rattle.strided.specs.Cut.{lessened}
 use Rattle.laws.specs.Cut.Steps.{ScoresFit}
 use Rattle.laws.specs.Cut.Jump.{clipped, jump, clipped-scores}
 use borrow.Author.Needs.{needs}
-use Rattle.block.proofs.lessen_far.Statement.{statement}
-use Rattle.block.proofs.lessen_far.Tie as tie
-use Rattle.block.proofs.lessen_far.Reads as reads
-use Rattle.block.proofs.lessen_far.Lts as lts
-use Rattle.block.proofs.clip.Reads as clip-reads
-use Rattle.block.proofs.lessen.Reads as lessen-reads
-use Rattle.block.proofs.level.Reads as level-reads
+use Rattle.shrink.proofs.lessen_far.Statement.{statement}
+use Rattle.shrink.proofs.lessen_far.Tie as tie
+use Rattle.shrink.proofs.lessen_far.Reads as reads
+use Rattle.shrink.proofs.lessen_far.Lts as lts
+use Rattle.shrink.proofs.clip.Reads as clip-reads
+use Rattle.shrink.proofs.lessen.Reads as lessen-reads
+use Rattle.shrink.proofs.level.Reads as level-reads
 use Rattle.region.proofs.memory_region.Reads as memory-region-reads
 
 level-requires : tie.Need-level-requires

@@ -9,10 +9,10 @@ use lib.ListN.{getD, set}
 use Rattle.strided.specs.Cut.{score}
 use Rattle.laws.specs.Cut.Ranges.{cond-lt, cond-le}
 use Rattle.laws.specs.Cut.Jump.{pos-right, clipped, clipped-start, clipped-step}
-use Rattle.block.proofs.clip.Statement.{statement}
-use Rattle.block.proofs.clip.Tie as tie
-use Rattle.block.proofs.clip.Reads as reads
-use Rattle.block.proofs.clip.Lts as lts
+use Rattle.shrink.proofs.clip.Statement.{statement}
+use Rattle.shrink.proofs.clip.Tie as tie
+use Rattle.shrink.proofs.clip.Reads as reads
+use Rattle.shrink.proofs.clip.Lts as lts
 use Rattle.region.proofs.less_one.Reads as less-one-reads
 
 abbrev Inv-loop : tie.InvT-loop

@@ -9,12 +9,12 @@ use lib.ListN.{getD}
 use Rattle.strided.specs.Cut.{score, later, greatestScore}
 use Rattle.laws.specs.Cut.Ranges.{cond-lt, cond-le}
 use Rattle.laws.specs.Cut.Picks.{topOf, later-wins, later-loses, pick-start, pick-step}
-use Rattle.block.specs.Picked.{picked}
-use Rattle.block.specs.declared.Pick.{Pick}
-use Rattle.block.proofs.last_argmax_weighted.Statement.{statement}
-use Rattle.block.proofs.last_argmax_weighted.Tie as tie
-use Rattle.block.proofs.last_argmax_weighted.Reads as reads
-use Rattle.block.proofs.last_argmax_weighted.Lts as lts
+use Rattle.shrink.specs.Picked.{picked}
+use Rattle.shrink.specs.declared.Pick.{Pick}
+use Rattle.shrink.proofs.last_argmax_weighted.Statement.{statement}
+use Rattle.shrink.proofs.last_argmax_weighted.Tie as tie
+use Rattle.shrink.proofs.last_argmax_weighted.Reads as reads
+use Rattle.shrink.proofs.last_argmax_weighted.Lts as lts
 
 abbrev Inv-loop : tie.InvT-loop
 Inv-loop blocks costs offset rank best₀ top₀ i₀ best top i = (offset ≤ i) × (i ≤ rank) × (picked best ≡ greatestScore blocks costs offset (i - offset)) × (top ≡ topOf (score blocks costs) (picked best))

@@ -1,0 +1,180 @@
+// The blocks of a tail shortened until their region fits the cache: halving, then single steps of 1, most of which are one jump. The block
+// to shorten is the one with the greatest score.
+use region::less_one;
+use region::memory_region;
+ghost use mathlib.Core.Path.{_≡_};
+ghost use Prim.Native.Nat.{ℕ, _-_, _≤_};
+ghost use Rattle.strided.specs.Cut.{greatestScore, halved, lessened, shrunk};
+ghost use Rattle.laws.specs.Cut.Steps.{ScoresFit};
+ghost use Rattle.laws.specs.Cut.Jump.{clipped};
+ghost use Rattle.shrink.specs.Picked.{picked};
+
+// Half of a typical L1 data cache: a tile of this size leaves room for what else is live.
+pub const BLOCK_MEMORY_SIZE: u64 = 32768;
+
+// Blocks are halved while the region is at least this; the rest is taken off one by one.
+const HALVING_SIZE: u64 = 65536;
+
+// Which block is to be shortened.
+pub enum Pick {
+    At(usize),
+    Nothing,
+}
+
+// The greatest (block - 1) * cost over the blocks above 1 from offset to rank; the last wins ties.
+fn last_argmax_weighted<'a>(
+    blocks: &'a [u64; 64],
+    costs: &'a [u64; 64],
+    offset: usize,
+    rank: usize,
+) -> Pick
+    requires { ⌜ ((offset ≤ rank) × (rank ≤ 64)) × ScoresFit rank (now costs) (now blocks) ⌝ }
+    ensures { λ r. ⌜ picked r ≡ greatestScore (now (blocks .entry)) (now (costs .entry)) offset (rank - offset) ⌝ }
+{
+    let mut best = Pick::Nothing;
+    let mut top: u64 = 0;
+    let mut i = offset;
+    while i < rank {
+        let b = blocks[i];
+        if 1 < b {
+            let s = (b - 1) * costs[i];
+            if s >= top {
+                best = Pick::At(i);
+                top = s;
+            }
+        }
+        i += 1;
+    }
+    best
+}
+
+// While the region is at least 65,536, the picked block is halved, rounding up.
+fn halve<'a>(
+    blocks: [u64; 64],
+    bytes: &'a [u64; 512],
+    costs: &'a [u64; 64],
+    operands: usize,
+    offset: usize,
+    rank: usize,
+) -> [u64; 64]
+    requires { ⌜ ((operands ≤ 8) × ((offset ≤ rank) × (rank ≤ 64))) × ScoresFit rank (now costs) blocks ⌝ }
+    ensures { λ r. ⌜ r ≡ halved (now (bytes .entry)) operands (now (costs .entry)) offset (rank - offset) blocks ⌝ }
+{
+    let mut b = blocks;
+    loop {
+        if memory_region(&b, bytes, operands, offset, rank) < HALVING_SIZE {
+            return b;
+        }
+        let Pick::At(i) = last_argmax_weighted(&b, costs, offset, rank) else {
+            return b;
+        };
+        let x = b[i];
+        b[i] = x / 2 + x % 2;
+    }
+}
+
+// While the region is above 32,768, the picked block loses 1.
+fn lessen<'a>(
+    blocks: [u64; 64],
+    bytes: &'a [u64; 512],
+    costs: &'a [u64; 64],
+    operands: usize,
+    offset: usize,
+    rank: usize,
+) -> [u64; 64]
+    requires { ⌜ ((operands ≤ 8) × ((offset ≤ rank) × (rank ≤ 64))) × ScoresFit rank (now costs) blocks ⌝ }
+    ensures { λ r. ⌜ r ≡ lessened (now (bytes .entry)) operands (now (costs .entry)) offset (rank - offset) blocks ⌝ }
+{
+    let mut b = blocks;
+    loop {
+        if memory_region(&b, bytes, operands, offset, rank) <= BLOCK_MEMORY_SIZE {
+            return b;
+        }
+        let Pick::At(i) = last_argmax_weighted(&b, costs, offset, rank) else {
+            return b;
+        };
+        b[i] -= 1;
+    }
+}
+
+// Every score above s from offset to rank is taken down to s or below, in one step.
+fn clip(blocks: [u64; 64], costs: &[u64; 64], offset: usize, rank: usize, s: u64) -> [u64; 64]
+    requires { ⌜ ((offset ≤ rank) × (rank ≤ 64)) × ScoresFit rank (now costs) blocks ⌝ }
+    ensures { λ r. ⌜ r ≡ clipped s (now (costs .entry)) offset (rank - offset) blocks ⌝ }
+{
+    let mut b = blocks;
+    let mut i = offset;
+    while i < rank {
+        let x = blocks[i];
+        let c = costs[i];
+        if s < less_one(x) * c {
+            b[i] = s / c + 1;
+        } else {
+            b[i] = x;
+        }
+        i += 1;
+    }
+    b
+}
+
+// A score to jump to: the least at which the region is still above 32,768. What follows does not rest on which it is.
+fn level<'a>(
+    blocks: [u64; 64],
+    bytes: &'a [u64; 512],
+    costs: &'a [u64; 64],
+    operands: usize,
+    offset: usize,
+    rank: usize,
+) -> u64
+    requires { ⌜ ((operands ≤ 8) × ((offset ≤ rank) × (rank ≤ 64))) × ScoresFit rank (now costs) blocks ⌝ }
+{
+    let mut lo: u64 = 0;
+    let mut hi: u64 = 18446744073709551615;
+    while lo < hi {
+        let mid = lo + (hi - lo) / 2;
+        let t = clip(blocks, costs, offset, rank, mid);
+        if BLOCK_MEMORY_SIZE < memory_region(&t, bytes, operands, offset, rank) {
+            hi = mid;
+        } else {
+            lo = mid + 1;
+        }
+    }
+    lo
+}
+
+// As `lessen`, with one jump in place of the many single steps before the last few: below the jump's score each axis has at most one more.
+fn lessen_far<'a>(
+    blocks: [u64; 64],
+    bytes: &'a [u64; 512],
+    costs: &'a [u64; 64],
+    operands: usize,
+    offset: usize,
+    rank: usize,
+) -> [u64; 64]
+    requires { ⌜ ((operands ≤ 8) × ((offset ≤ rank) × (rank ≤ 64))) × ScoresFit rank (now costs) blocks ⌝ }
+    ensures { λ r. ⌜ r ≡ lessened (now (bytes .entry)) operands (now (costs .entry)) offset (rank - offset) blocks ⌝ }
+{
+    let s = level(blocks, bytes, costs, operands, offset, rank);
+    let t = clip(blocks, costs, offset, rank, s);
+    if BLOCK_MEMORY_SIZE < memory_region(&t, bytes, operands, offset, rank) {
+        lessen(t, bytes, costs, operands, offset, rank)
+    } else {
+        lessen(blocks, bytes, costs, operands, offset, rank)
+    }
+}
+
+// The blocks from offset to rank, halved and then lessened.
+pub fn shrink<'a>(
+    blocks: [u64; 64],
+    bytes: &'a [u64; 512],
+    costs: &'a [u64; 64],
+    operands: usize,
+    offset: usize,
+    rank: usize,
+) -> [u64; 64]
+    requires { ⌜ ((operands ≤ 8) × ((offset ≤ rank) × (rank ≤ 64))) × ScoresFit rank (now costs) blocks ⌝ }
+    ensures { λ r. ⌜ r ≡ shrunk (now (bytes .entry)) operands (now (costs .entry)) offset (rank - offset) blocks ⌝ }
+{
+    let half = halve(blocks, bytes, costs, operands, offset, rank);
+    lessen_far(half, bytes, costs, operands, offset, rank)
+}
