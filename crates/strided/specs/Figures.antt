@@ -40,6 +40,8 @@ use Rattle.strided.specs.Plan.{grows, cutBlocks, planFrom, planned}
 use Rattle.strided.specs.Begin.{beginRefused, begunAt}
 use Rattle.strided.specs.Step.{stepped}
 use Rattle.strided.specs.Mark.{repeats, markRefused, marked}
+use Rattle.strided.specs.Digits.{digitsOf}
+use Rattle.strided.specs.Text.{OperandLine, Parsed, written, printedPlan, printed, textRefused, listed, printedBy}
 
 -- ---- the rows
 
@@ -60,10 +62,43 @@ pub data Figure : Type 0 where
   walkIs : List ℕ → List ℕ → List ℤ → ℤ → List ℤ → List ℕ → Figure
   -- the repeat mark: extents, strides
   markIs : List ℕ → List ℤ → Bool → Figure
+  -- what a text says, and the room lent: the text, and what is printed
+  textIs : Parsed → ℕ → List ℕ → List ℕ → Figure
 
 -- strides that are not negative
 abbrev pub whole : List ℕ → List ℤ
 whole ns = map pos ns
+
+-- a text whose counts are those of its lines
+abbrev pub saying : Purpose → List ℕ → List OperandLine → Parsed
+saying u es ls = record { purpose = u; rank = length es; operands = length ls; extents = es; lines = ls }
+
+-- the worked example of the text form
+abbrev pub example : Parsed
+example = saying Pointwise (2 ∷ 3 ∷ []) (record { size = 8; strides = whole (1 ∷ 2 ∷ []) } ∷ record { size = 8; strides = whole (3 ∷ 1 ∷ []) } ∷ [])
+
+-- L,P,2,2,-
+-- E,2,3
+-- O,8,1,2
+-- O,8,3,1
+abbrev pub exampleText : List ℕ
+exampleText =
+    76 ∷ 44 ∷ 80 ∷ 44 ∷ 50 ∷ 44 ∷ 50 ∷ 44 ∷ 45 ∷ 10 ∷ 69 ∷ 44 ∷ 50 ∷ 44 ∷ 51 ∷ 10
+    ∷ 79 ∷ 44 ∷ 56 ∷ 44 ∷ 49 ∷ 44 ∷ 50 ∷ 10 ∷ 79 ∷ 44 ∷ 56 ∷ 44 ∷ 51 ∷ 44 ∷ 49 ∷ 10 ∷ []
+
+-- K,2
+-- A,0,2,2,1,3
+-- A,1,3,3,2,1
+-- B,0,2,0,0
+-- B,1,2,2,1
+-- B,2,2,4,2
+-- Z,3,6
+abbrev pub exampleOut : List ℕ
+exampleOut =
+    75 ∷ 44 ∷ 50 ∷ 10
+    ∷ 65 ∷ 44 ∷ 48 ∷ 44 ∷ 50 ∷ 44 ∷ 50 ∷ 44 ∷ 49 ∷ 44 ∷ 51 ∷ 10 ∷ 65 ∷ 44 ∷ 49 ∷ 44 ∷ 51 ∷ 44 ∷ 51 ∷ 44 ∷ 50 ∷ 44 ∷ 49 ∷ 10
+    ∷ 66 ∷ 44 ∷ 48 ∷ 44 ∷ 50 ∷ 44 ∷ 48 ∷ 44 ∷ 48 ∷ 10 ∷ 66 ∷ 44 ∷ 49 ∷ 44 ∷ 50 ∷ 44 ∷ 50 ∷ 44 ∷ 49 ∷ 10 ∷ 66 ∷ 44 ∷ 50 ∷ 44 ∷ 50 ∷ 44 ∷ 52 ∷ 44 ∷ 50 ∷ 10
+    ∷ 90 ∷ 44 ∷ 51 ∷ 44 ∷ 54 ∷ 10 ∷ []
 
 unfoldable pub figures : List Figure
 figures =
@@ -128,6 +163,25 @@ figures =
     ∷ markIs (3 ∷ 2 ∷ []) (whole (1 ∷ 0 ∷ [])) true
     ∷ markIs (3 ∷ 1 ∷ []) (whole (1 ∷ 0 ∷ [])) false
     ∷ markIs (0 ∷ 2 ∷ []) (whole (1 ∷ 0 ∷ [])) false
+    -- 34 and 35: the text's worked example, in a room that is just enough, and in one of a byte less
+    ∷ textIs example 64 exampleText exampleOut
+    ∷ textIs example 63 exampleText (82 ∷ 44 ∷ 49 ∷ 52 ∷ 10 ∷ [])
+    -- 36: rank 0, E and O,8 and nothing else; K,0 B,0,1,0 Z,1,1
+    ∷ textIs (saying Pointwise [] (record { size = 8; strides = [] } ∷ [])) 99
+    (76 ∷ 44 ∷ 80 ∷ 44 ∷ 48 ∷ 44 ∷ 49 ∷ 44 ∷ 45 ∷ 10 ∷ 69 ∷ 10 ∷ 79 ∷ 44 ∷ 56 ∷ 10 ∷ [])
+    (75 ∷ 44 ∷ 48 ∷ 10 ∷ 66 ∷ 44 ∷ 48 ∷ 44 ∷ 49 ∷ 44 ∷ 48 ∷ 10 ∷ 90 ∷ 44 ∷ 49 ∷ 44 ∷ 49 ∷ 10 ∷ [])
+    -- 37: a zero extent and a stride below 0: K,1 A,0,0,0,-3 Z,0,0
+    ∷ textIs (saying (Fold 0) (0 ∷ []) (record { size = 1; strides = negsuc 2 ∷ [] } ∷ [])) 99
+    (76 ∷ 44 ∷ 70 ∷ 44 ∷ 49 ∷ 44 ∷ 49 ∷ 44 ∷ 48 ∷ 10 ∷ 69 ∷ 44 ∷ 48 ∷ 10 ∷ 79 ∷ 44 ∷ 49 ∷ 44 ∷ 45 ∷ 51 ∷ 10 ∷ [])
+    (75 ∷ 44 ∷ 49 ∷ 10 ∷ 65 ∷ 44 ∷ 48 ∷ 44 ∷ 48 ∷ 44 ∷ 48 ∷ 44 ∷ 45 ∷ 51 ∷ 10 ∷ 90 ∷ 44 ∷ 48 ∷ 44 ∷ 48 ∷ 10 ∷ [])
+    -- 38: a total of 1,048,577 is refused with 13, and with 7 where row 7 applies too (39)
+    ∷ textIs (saying Pointwise (1048577 ∷ []) (record { size = 1; strides = pos 1 ∷ [] } ∷ [])) 99
+    (76 ∷ 44 ∷ 80 ∷ 44 ∷ 49 ∷ 44 ∷ 49 ∷ 44 ∷ 45 ∷ 10 ∷ 69 ∷ 44 ∷ 49 ∷ 48 ∷ 52 ∷ 56 ∷ 53 ∷ 55 ∷ 55 ∷ 10 ∷ 79 ∷ 44 ∷ 49 ∷ 44 ∷ 49 ∷ 10 ∷ [])
+    (82 ∷ 44 ∷ 49 ∷ 51 ∷ 10 ∷ [])
+    ∷ textIs (saying Pointwise (2 ^ 62 ∷ []) (record { size = 2; strides = pos 1 ∷ [] } ∷ [])) 99
+    (76 ∷ 44 ∷ 80 ∷ 44 ∷ 49 ∷ 44 ∷ 49 ∷ 44 ∷ 45 ∷ 10
+    ∷ 69 ∷ 44 ∷ 52 ∷ 54 ∷ 49 ∷ 49 ∷ 54 ∷ 56 ∷ 54 ∷ 48 ∷ 49 ∷ 56 ∷ 52 ∷ 50 ∷ 55 ∷ 51 ∷ 56 ∷ 55 ∷ 57 ∷ 48 ∷ 52 ∷ 10 ∷ 79 ∷ 44 ∷ 50 ∷ 44 ∷ 49 ∷ 10 ∷ [])
+    (82 ∷ 44 ∷ 55 ∷ 10 ∷ [])
     ∷ []
 
 -- ---- what the definitions give
@@ -193,6 +247,7 @@ right (walkIs es bs ts z zs ns) =
     let s : Seen = seen 100 (planOf es bs ts) (a .walk) in
     eqb (numberOf (a .answer)) 0 && (sameZ (s .offsets) zs && (same (s .lengths) ns && eqb (s .fault) 0))
 right (markIs es ts b) = let a : Marked = marked es ts in eqb (numberOf (a .answer)) 0 && sameBool (a .repeats) b
+right (textIs p room t out) = same (written p) t && same (printedBy (listed p (replicate room 0))) out
 
 -- the numbers of the rows that are not right, from row n on
 unfoldable pub wrong : ℕ → List Figure → List ℕ
@@ -201,5 +256,5 @@ wrong n (f ∷ fs) = unless (right f) n (wrong (suc n) fs)
 
 -- ALL ROWS ARE RIGHT
 pub figures-right : wrong 0 figures ≡ []
-unfolding figures planOf seen right wrong until sum product least every some-of seek greatest layoutRefused smaller rankOf ranks rankTable leadingZeros packingWidth shiftOf termOf sizeAt rankIn addend weightAt termFits sumFits axisFits try capTries widthTries weights loopOrder fusingOrder planAxes originalIndex indexInPlan toldOriginal toldPlan regionOf region costOf costs greatestScore halving lessening halved lessened shrunk leastRank leastByte keepsFirst ones cutting firstCut insertRising rising apart widthOf passes declined reuse counts loadOf load entersOf enters shortens mostOf fitFrom fitted grows cutBlocks planFrom planned beginRefused begunAt stepped repeats markRefused marked
+unfolding figures planOf seen right wrong until sum product least every some-of seek greatest layoutRefused smaller rankOf ranks rankTable leadingZeros packingWidth shiftOf termOf sizeAt rankIn addend weightAt termFits sumFits axisFits try capTries widthTries weights loopOrder fusingOrder planAxes originalIndex indexInPlan toldOriginal toldPlan regionOf region costOf costs greatestScore halving lessening halved lessened shrunk leastRank leastByte keepsFirst ones cutting firstCut insertRising rising apart widthOf passes declined reuse counts loadOf load entersOf enters shortens mostOf fitFrom fitted grows cutBlocks planFrom planned beginRefused begunAt stepped repeats markRefused marked digitsOf printedPlan printed textRefused listed
 figures-right = refl

@@ -18,5 +18,7 @@ pub mod Walk
 pub mod Begin
 pub mod Step
 pub mod Mark
+pub mod Digits
+pub mod Text
 pub mod Demand3
 pub mod Figures

@@ -14,6 +14,7 @@ use Rattle.strided.specs.Base.{run}
 use Rattle.strided.specs.Layout.{extents, total}
 use Rattle.strided.specs.Fuse.{planAxes}
 use Rattle.strided.specs.Walk.{CutAxis, ax, cut, cutAxes, startsOf, lenAt, tiles, inner, inTile, counters, lengthAt, Block, block, blockAt, blocksOf}
+use Rattle.strided.specs.Text.{cellsIn}
 use Rattle.strided.specs.declared.Purpose.{Purpose}
 use Rattle.laws.specs.Base.Lists.{length-run, nth-none}
 use Rattle.laws.specs.Base.Sums.{sum, sum-ones, sum-cong, sum-scale, sum-over, sum-map}
@@ -22,9 +23,6 @@ use Rattle.laws.specs.Walk.States.{Wide, stateAfter}
 use Rattle.laws.specs.Walk.Cuts.{axes-wide}
 use Rattle.laws.specs.Walk.Cover.{tiles-run, tile-sum}
 use Rattle.laws.specs.Walk.Reach.{state-nth}
-
-abbrev pub lengthOf : Block → ℕ
-lengthOf (block c n) = n
 
 -- the total of cut axes, and how many blocks they have
 abbrev pub cellCount : List CutAxis → ℕ
@@ -58,8 +56,8 @@ inner-total (ax e w ∷ axs) hw =
     ∙ ap₂ (λ a b. a * b) (lens e w (hw .0)) (inner-total axs (hw .1))
 
 -- the lengths of all blocks together
-cells-of : (axs : List CutAxis) → Wide axs → sum (blocksOf axs) lengthOf ≡ cellCount axs
-cells-of axs hw = sum-map (counters axs) (blockAt axs) lengthOf ∙ sum-over (tiles axs) (inTile axs) (lengthAt axs) ∙ go axs hw
+cells-of : (axs : List CutAxis) → Wide axs → sum (blocksOf axs) cellsIn ≡ cellCount axs
+cells-of axs hw = sum-map (counters axs) (blockAt axs) cellsIn ∙ sum-over (tiles axs) (inTile axs) (lengthAt axs) ∙ go axs hw
   where
     go : (axs : List CutAxis) → Wide axs → sum (tiles axs) (λ t. sum (inTile axs t) (lengthAt axs)) ≡ cellCount axs
     go [] hw = refl
@@ -86,12 +84,12 @@ cut-total (e ∷ es) [] = ap (λ n. e * n) (cut-total es [])
 cut-total (e ∷ es) (b ∷ bs) = ap (λ n. e * n) (cut-total es bs)
 
 -- Z: the blocks' lengths add up to the product of the extents
-pub cells-total : (es bs : List ℕ) → sum (blocksOf (cutAxes es bs)) lengthOf ≡ total es
+pub cells-total : (es bs : List ℕ) → sum (blocksOf (cutAxes es bs)) cellsIn ≡ total es
 cells-total es bs = cells-of (cutAxes es bs) (axes-wide es bs) ∙ cut-total es _
 
 -- and to the layout's total, for a layout's plan with any block sizes
 pub plan-cells : (es : List ℕ) (m : ℕ) (ss : List ℤ) (u : Purpose) (bs : List ℕ)
-    → sum (blocksOf (cutAxes (extents (planAxes es m ss u)) bs)) lengthOf ≡ total es
+    → sum (blocksOf (cutAxes (extents (planAxes es m ss u)) bs)) cellsIn ≡ total es
 plan-cells es m ss u bs = cells-total (extents (planAxes es m ss u)) bs ∙ plan-total es m ss u
 
 -- Z: a walk hands out as many blocks as the list has
