@@ -1,3 +1,5 @@
--- Laws of whole plans: what cutting may lean on, and how the plans of the two purposes compare.
+-- Laws of whole plans: planning's two answers, what cutting may lean on, and how the plans of the two purposes compare.
+pub mod Answers
 pub mod Bounds
+pub mod Ranks
 pub mod Purposes

@@ -15,9 +15,14 @@ module _ {A : Type 0} where
   pub length-rows : (f : ℕ → A) (s n : ℕ) → length (map f (run s n)) ≡ n
   length-rows f s n = length-map (run s n) f ∙ length-run s n
 
-  rows-later : (f : ℕ → A) (n s : ℕ) → map f (run (suc s) n) ≡ map (λ i. f (suc i)) (run s n)
+  pub rows-later : (f : ℕ → A) (n s : ℕ) → map f (run (suc s) n) ≡ map (λ i. f (suc i)) (run s n)
   rows-later f zero s = refl
   rows-later f (suc n) s = ap (λ r. f (suc s) ∷ r) (rows-later f n (suc s))
+
+  -- the same for each number
+  pub rows-alike : (a : A) (s n : ℕ) → map (λ (i : ℕ). a) (run s n) ≡ replicate n a
+  rows-alike a s zero = refl
+  rows-alike a s (suc n) = ap (λ r. a ∷ r) (rows-alike a (suc s) n)
 
 module _ {A B : Type 0} where
   -- one rule after the other

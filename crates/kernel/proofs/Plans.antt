@@ -1,0 +1,82 @@
+-- The plan put together from its arrays, and what its arrays have for cutting. Assumes nothing.
+use mathlib.Core.Path.{_≡_, sym, _∙_, subst}
+use mathlib.Core.Bool.{true, false}
+use mathlib.Core.List.{List}
+use mathlib.Core.Option.{none}
+use Prim.Native.Nat.{ℕ, _<_}
+use native.Mathlib.Omega.{arith}
+use lib.Dec.{leb}
+use lib.IntN.{ℤ, pos}
+use lib.ListN.{length}
+use Rattle.strided.specs.Base.{padded, over, run}
+use Rattle.strided.specs.Layout.{Axis, extents, row, total, hasZero}
+use Rattle.strided.specs.Refusals.{layoutRefused}
+use Rattle.strided.specs.Fuse.{planAxes}
+use Rattle.strided.specs.Plan.{strideTable, cutBlocks, planFrom, planned}
+use Rattle.strided.specs.declared.Purpose.{Purpose}
+use Rattle.strided.specs.declared.Answer.{Answer}
+use Rattle.strided.specs.declared.Answer.the-variants.{Served}
+use Rattle.strided.specs.declared.Planned.{Planned}
+use Rattle.laws.specs.Base.Arrays.{length-padded}
+use Rattle.laws.specs.Base.Layouts.{total-nozero}
+use Rattle.laws.specs.Refusals.Accepted.{Accepted}
+use Rattle.laws.specs.Refusals.Zeros.{no-zero-test}
+use Rattle.laws.specs.Plan.Answers.{planned-served}
+use Rattle.laws.specs.Plan.Bounds.{plan-few, array-wide, array-near, array-narrow}
+use Rattle.model.specs.Plannable.{Plannable}
+use Rattle.kernel.specs.Made.{Made}
+
+-- the arrays have the plan's axes
+module _ (es sizes : List ℕ) (ss : List ℤ) (u : Purpose) (a : Accepted es sizes ss u) (rank : ℕ) (E : List ℕ) (S : List ℤ)
+    (count : rank ≡ length (planAxes es (length sizes) ss u)) (wide : E ≡ padded 64 0 (extents (planAxes es (length sizes) ss u)))
+    (long : S ≡ strideTable (planAxes es (length sizes) ss u) (length sizes)) where
+  abbrev axs : List Axis
+  axs = planAxes es (length sizes) ss u
+
+  pub plannable : 1024 < total es → Plannable sizes E S rank u
+  plannable h =
+      let z : hasZero es ≡ false = no-zero-test es (total-nozero es (omega arith)) in
+      subst (λ (n : ℕ). Plannable sizes E S n u) (sym count)
+      (subst (λ (e : List ℕ). Plannable sizes e S (length axs) u) (sym wide)
+      (subst (λ (s : List ℤ). Plannable sizes (padded 64 0 (extents axs)) s (length axs) u) (sym long)
+      (record {
+        axes = plan-few es sizes ss u a;
+        one = a .one;
+        few = a .few;
+        places = length-padded 0 64 (extents axs);
+        table = length-padded (pos 0) 512 (over (run 0 (length sizes)) (λ k. padded 64 (pos 0) (row k axs)));
+        wide = array-wide es sizes ss u a (omega arith);
+        there = a .there;
+        near = array-near es sizes ss u a z;
+        narrow = array-narrow es sizes ss u a z;
+      })))
+
+  -- "Total at most 1,024: .. blocks are the full extents. Otherwise .. cut."
+  pub made-small : leb (total es) 1024 ≡ true → Made es sizes ss u rank E E S
+  unfolding planFrom
+  made-small h =
+      record { is = (λ i. record { rank = count i; operands = length sizes; extents = wide i; blocks = wide i; strides = long i }) ∙ rw h }
+
+  pub made-cut : leb (total es) 1024 ≡ false → (B : List ℕ) → B ≡ cutBlocks sizes E S rank u → Made es sizes ss u rank E B S
+  unfolding planFrom
+  made-cut h B e =
+      record {
+        is =
+            (λ i. record { rank = rank; operands = length sizes; extents = E; blocks = e i; strides = S })
+            ∙ (λ i. record { rank = count i; operands = length sizes; extents = wide i; blocks = cutBlocks sizes (wide i) (long i) (count i) u; strides = long i })
+            ∙ rw h;
+      }
+
+-- what is known of a purpose, for one that it is
+module _ {es sizes : List ℕ} {ss : List ℤ} {u v : Purpose} (e : u ≡ v) where
+  pub accepted-as : Accepted es sizes ss u → Accepted es sizes ss v
+  accepted-as a = subst (λ (w : Purpose). Accepted es sizes ss w) e a
+
+  pub made-as : {rank : ℕ} {E B : List ℕ} {S : List ℤ} → Made es sizes ss u rank E B S → Made es sizes ss v rank E B S
+  made-as {rank} {E} {B} {S} m = subst (λ (w : Purpose). Made es sizes ss w rank E B S) e m
+
+-- what is made is handed out
+pub serves : (es sizes : List ℕ) (ss : List ℤ) (u : Purpose) → layoutRefused es sizes ss u ≡ none
+    → (rank : ℕ) (E B : List ℕ) (S : List ℤ) → Made es sizes ss u rank E B S → (a : Answer) → a ≡ Served
+    → _≡_ {A = Planned} (record { answer = a; plan = record { rank = rank; operands = length sizes; extents = E; blocks = B; strides = S } }) (planned es sizes ss u)
+serves es sizes ss u h rank E B S m a s = (λ i. record { answer = s i; plan = m .is i }) ∙ sym (planned-served es sizes ss u h)

@@ -1,0 +1,303 @@
+// Planning: the plan of a layout for a purpose, as pointwise_plan and fold_plan of the Rust make it, and the public entry, which first
+// refuses what cannot be planned. A plan is 5 KB: it is made in arrays that the entry lends, and put together once, at the end.
+use auxiliary::index_order_into;
+use fuse::compute_costs;
+use layout::check_layout;
+use layout::total_at_most;
+use model::cut_blocks;
+use order::SMALL_TENSOR_THRESHOLD;
+use order::fusing_order;
+use strided::Answer;
+use strided::Plan;
+use strided::Planned;
+use strided::Purpose;
+ghost use mathlib.Core.Path.{_≡_};
+ghost use mathlib.Core.Bool.{cond};
+ghost use mathlib.Core.List.{map};
+ghost use Prim.Native.Nat.{_≤_};
+ghost use lib.Dec.{eqb};
+ghost use lib.IntN.{pos};
+ghost use lib.ListN.{length, replicate};
+ghost use Rattle.strided.specs.Base.{padded};
+ghost use Rattle.strided.specs.Layout.{extents as extentsOf};
+ghost use Rattle.strided.specs.Ranks.{ranks};
+ghost use Rattle.strided.specs.Fuse.{planAxes};
+ghost use Rattle.strided.specs.Cut.{planRanks};
+ghost use Rattle.strided.specs.Plan.{strideTable, cutBlocks, planned};
+ghost use Rattle.laws.specs.Refusals.Accepted.{Accepted};
+ghost use Rattle.auxiliary.specs.Fitting.{Fitting};
+ghost use Rattle.model.specs.Plannable.{Plannable};
+ghost use Rattle.kernel.specs.Made.{pointwiseFor, foldBy, Zeros, Made};
+
+// What a pointwise plan writes into: the operand that is chosen, if one is.
+enum Destination {
+    Unchosen,
+    Chosen(u64),
+}
+
+// ---- the plan's axes
+
+// The axes of the plan, their extents and strides written into arrays of zeros. Their number is answered.
+fn axes_into(
+    extents: &[u64],
+    strides: &[i64],
+    operands: usize,
+    purpose: Purpose,
+    es: &mut [u64; 64],
+    table: &mut [i64; 512],
+) -> usize
+    requires { ⌜ Fitting (now strides) (length (now extents)) operands ⌝ }
+    requires { ⌜ Zeros (now es) (now table) ⌝ }
+    ensures rank { λ r. ⌜ r ≡ length (planAxes (now (extents .entry)) operands (now (strides .entry)) purpose) ⌝ }
+    ensures extents { λ _. ⌜ now (es .exit) ≡ padded 64 0 (extentsOf (planAxes (now (extents .entry)) operands (now (strides .entry)) purpose)) ⌝ }
+    ensures strides { λ _. ⌜ now (table .exit) ≡ strideTable (planAxes (now (extents .entry)) operands (now (strides .entry)) purpose) operands ⌝ }
+{
+    let order = fusing_order(extents, strides, operands, purpose);
+    let axes = fuse::plan_axes(extents, strides, operands, &order);
+    let e = axes.extents;
+    let s = axes.strides;
+    *es = e;
+    *table = s;
+    axes.rank
+}
+
+// ---- the ranks of the plan's axes
+
+// Ranks of 1, written into a row of zeros.
+fn ones_into(rank: usize, row: &mut [u64; 64])
+    requires { ⌜ rank ≤ 64 ⌝ }
+    requires { ⌜ now row ≡ replicate 64 0 ⌝ }
+    ensures { λ _. ⌜ now (row .exit) ≡ padded 64 0 (replicate rank 1) ⌝ }
+{
+    let mut i: usize = 0;
+    while i < rank {
+        row[i] = 1;
+        i += 1;
+    }
+}
+
+// The ranks of an operand's strides, written into a row of zeros. At size 0 every byte stride is 0, so every rank is 1.
+fn ranks_into(size: u64, strides: &[i64], row: &mut [u64; 64])
+    requires { ⌜ length (now strides) ≤ 64 ⌝ }
+    requires { ⌜ now row ≡ replicate 64 0 ⌝ }
+    ensures { λ _. ⌜ now (row .exit) ≡ padded 64 0 (cond (eqb size 0) (replicate (length (now (strides .entry))) 1) (ranks (now (strides .entry)))) ⌝ }
+{
+    if size == 0 {
+        ones_into(strides.len(), row);
+    } else {
+        index_order_into(strides, row);
+    }
+}
+
+// The ranks of the plan's axes within each operand, written into a table of zeros. `strides` is the plan's table.
+fn plan_ranks_into(sizes: &[u64], strides: &[i64], rank: usize, table: &mut [[u64; 64]; 8])
+    requires { ⌜ (length (now sizes) ≤ 8) × ((length (now strides) ≡ 512) × (rank ≤ 64)) ⌝ }
+    requires { ⌜ now table ≡ replicate 8 (replicate 64 0) ⌝ }
+    ensures { λ _. ⌜ now (table .exit) ≡ padded 8 (replicate 64 0) (map (padded 64 0) (planRanks (now (sizes .entry)) (now (strides .entry)) rank)) ⌝ }
+{
+    let operands = sizes.len();
+    let mut k: usize = 0;
+    while k < operands {
+        let start = k * 64;
+        let end = start + rank;
+        ranks_into(sizes[k], &strides[start..end], &mut table[k]);
+        k += 1;
+    }
+}
+
+// ---- the plan
+
+// The blocks of a plan whose total is above 1,024, from its arrays.
+fn block_sizes<'a>(
+    sizes: &'a [u64],
+    es: &'a [u64; 64],
+    table: &'a [i64; 512],
+    rank: usize,
+    purpose: Purpose,
+) -> [u64; 64]
+    requires { ⌜ Plannable (now sizes) (now es) (now table) rank purpose ⌝ }
+    ensures { λ r. ⌜ r ≡ cutBlocks (now (sizes .entry)) (now (es .entry)) (now (table .entry)) rank purpose ⌝ }
+{
+    let costs = compute_costs(table, sizes.len(), rank);
+    let mut ranks = [[0u64; 64]; 8];
+    plan_ranks_into(sizes, table, rank, &mut ranks);
+    let whole = *es;
+    cut_blocks(whole, sizes, table, &costs, ranks, rank, purpose)
+}
+
+// The plan of a layout that is not refused, made in arrays of zeros: its axes are fused, and cut if there are more than 1,024 cells. So few
+// lie in the cache anyway, and cutting them gains nothing.
+fn plan_fused<'a>(
+    extents: &'a [u64],
+    sizes: &'a [u64],
+    strides: &'a [i64],
+    purpose: Purpose,
+    es: &mut [u64; 64],
+    blocks: &mut [u64; 64],
+    table: &mut [i64; 512],
+) -> usize
+    requires { ⌜ Accepted (now extents) (now sizes) (now strides) purpose ⌝ }
+    requires { ⌜ Zeros (now es) (now table) ⌝ }
+    ensures { λ r. ⌜ Made (now (extents .entry)) (now (sizes .entry)) (now (strides .entry)) purpose r (now (es .exit)) (now (blocks .exit)) (now (table .exit)) ⌝ }
+{
+    let rank = axes_into(
+        extents,
+        strides,
+        sizes.len(),
+        purpose,
+        &mut *es,
+        &mut *table,
+    );
+    if total_at_most(extents, SMALL_TENSOR_THRESHOLD) {
+        *blocks = *es;
+        return rank;
+    }
+    let cut = block_sizes(sizes, es, table, rank, purpose);
+    *blocks = cut;
+    rank
+}
+
+// The plan of a pointwise operation. With a destination the axes are ordered for it, and blocks may be fitted to it.
+fn pointwise_plan<'a>(
+    extents: &'a [u64],
+    sizes: &'a [u64],
+    strides: &'a [i64],
+    destination: Destination,
+    es: &mut [u64; 64],
+    blocks: &mut [u64; 64],
+    table: &mut [i64; 512],
+) -> usize
+    requires { ⌜ Accepted (now extents) (now sizes) (now strides) (pointwiseFor destination) ⌝ }
+    requires { ⌜ Zeros (now es) (now table) ⌝ }
+    ensures { λ r. ⌜ Made (now (extents .entry)) (now (sizes .entry)) (now (strides .entry)) (pointwiseFor destination) r (now (es .exit)) (now (blocks .exit)) (now (table .exit)) ⌝ }
+{
+    match destination {
+        Destination::Unchosen => plan_fused(
+            extents,
+            sizes,
+            strides,
+            Purpose::Pointwise,
+            es,
+            blocks,
+            table,
+        ),
+        Destination::Chosen(k) => plan_fused(
+            extents,
+            sizes,
+            strides,
+            Purpose::PointwiseInto(k),
+            es,
+            blocks,
+            table,
+        ),
+    }
+}
+
+// The plan of a fold into one number, ordered as if the chosen operand were a destination. Its blocks order the sum, so they are never
+// fitted to a cache.
+fn fold_plan<'a>(
+    extents: &'a [u64],
+    sizes: &'a [u64],
+    strides: &'a [i64],
+    chosen: u64,
+    es: &mut [u64; 64],
+    blocks: &mut [u64; 64],
+    table: &mut [i64; 512],
+) -> usize
+    requires { ⌜ Accepted (now extents) (now sizes) (now strides) (foldBy chosen) ⌝ }
+    requires { ⌜ Zeros (now es) (now table) ⌝ }
+    ensures { λ r. ⌜ Made (now (extents .entry)) (now (sizes .entry)) (now (strides .entry)) (foldBy chosen) r (now (es .exit)) (now (blocks .exit)) (now (table .exit)) ⌝ }
+{
+    plan_fused(
+        extents,
+        sizes,
+        strides,
+        Purpose::Fold(chosen),
+        es,
+        blocks,
+        table,
+    )
+}
+
+// Either, by the purpose.
+fn plan_into<'a>(
+    extents: &'a [u64],
+    sizes: &'a [u64],
+    strides: &'a [i64],
+    purpose: Purpose,
+    es: &mut [u64; 64],
+    blocks: &mut [u64; 64],
+    table: &mut [i64; 512],
+) -> usize
+    requires { ⌜ Accepted (now extents) (now sizes) (now strides) purpose ⌝ }
+    requires { ⌜ Zeros (now es) (now table) ⌝ }
+    ensures { λ r. ⌜ Made (now (extents .entry)) (now (sizes .entry)) (now (strides .entry)) purpose r (now (es .exit)) (now (blocks .exit)) (now (table .exit)) ⌝ }
+{
+    match purpose {
+        Purpose::Pointwise => pointwise_plan(
+            extents,
+            sizes,
+            strides,
+            Destination::Unchosen,
+            es,
+            blocks,
+            table,
+        ),
+        Purpose::PointwiseInto(k) => pointwise_plan(
+            extents,
+            sizes,
+            strides,
+            Destination::Chosen(k),
+            es,
+            blocks,
+            table,
+        ),
+        Purpose::Fold(k) => fold_plan(extents, sizes, strides, k, es, blocks, table),
+    }
+}
+
+// THE PLAN of a layout for a purpose: rows 1 to 7, then the plan. A refusal has a plan of zeros beside it.
+pub fn plan<'a>(
+    extents: &'a [u64],
+    sizes: &'a [u64],
+    strides: &'a [i64],
+    purpose: Purpose,
+) -> Planned
+    ensures { λ r. ⌜ r ≡ planned (now (extents .entry)) (now (sizes .entry)) (now (strides .entry)) purpose ⌝ }
+{
+    let mut es = [0u64; 64];
+    let mut blocks = [0u64; 64];
+    let mut table = [0i64; 512];
+    let answer = check_layout(extents, sizes, strides, purpose);
+    match answer {
+        Answer::Served => {
+            let rank = plan_into(
+                extents,
+                sizes,
+                strides,
+                purpose,
+                &mut es,
+                &mut blocks,
+                &mut table,
+            );
+            let made = Plan {
+                rank,
+                operands: sizes.len(),
+                extents: es,
+                blocks,
+                strides: table,
+            };
+            Planned { answer, plan: made }
+        }
+        Answer::Refused(refusal) => {
+            let none = Plan {
+                rank: 0,
+                operands: 0,
+                extents: es,
+                blocks,
+                strides: table,
+            };
+            Planned { answer, plan: none }
+        }
+    }
+}

@@ -1,0 +1,34 @@
+-- PLANNING'S TWO ANSWERS: the plan of the layout if rows 1 to 7 pass, and else the refusal beside a plan of zeros. Assumes nothing.
+use mathlib.Core.Path.{_≡_, refl, ap}
+use mathlib.Core.List.{List}
+use mathlib.Core.Option.{Option, none, some}
+use Prim.Native.Nat.{ℕ}
+use native.Mathlib.Omega.{arith}
+use lib.IntN.{ℤ}
+use lib.ListN.{length}
+use Rattle.strided.specs.Refusals.{layoutRefused}
+use Rattle.strided.specs.Fuse.{planAxes}
+use Rattle.strided.specs.Plan.{planFrom, noPlan, plannedOr, planned}
+use Rattle.strided.specs.declared.Purpose.{Purpose}
+use Rattle.strided.specs.declared.Refusal.{Refusal}
+use Rattle.strided.specs.declared.Answer.the-variants.{Served, Refused}
+use Rattle.strided.specs.declared.Plan.{Plan}
+use Rattle.strided.specs.declared.Planned.{Planned}
+
+served-plan : (o : Option Refusal) (q : Plan) → plannedOr o q .answer ≡ Served → o ≡ none
+served-plan none q h = refl
+served-plan (some r) q h = let z : _≡_ {A = ℕ} 0 1 = cc h in absurd (omega arith)
+
+module _ (es sizes : List ℕ) (ss : List ℤ) (u : Purpose) where
+  pub planned-served : layoutRefused es sizes ss u ≡ none
+      → _≡_ {A = Planned} (planned es sizes ss u) (record { answer = Served; plan = planFrom es sizes (planAxes es (length sizes) ss u) u })
+  unfolding planned
+  planned-served h = ap (λ (o : Option Refusal). plannedOr o (planFrom es sizes (planAxes es (length sizes) ss u) u)) h
+
+  pub planned-refused : (r : Refusal) → layoutRefused es sizes ss u ≡ some r → _≡_ {A = Planned} (planned es sizes ss u) (record { answer = Refused r; plan = noPlan })
+  unfolding planned
+  planned-refused r h = ap (λ (o : Option Refusal). plannedOr o (planFrom es sizes (planAxes es (length sizes) ss u) u)) h
+
+  pub not-refused : planned es sizes ss u .answer ≡ Served → layoutRefused es sizes ss u ≡ none
+  unfolding planned
+  not-refused h = served-plan (layoutRefused es sizes ss u) _ h
