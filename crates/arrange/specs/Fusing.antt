@@ -1,20 +1,32 @@
--- The order in which a plan's axes are fused, in an array: it is an order of the layout's axes, and in it they make the plan's axes.
--- Assumes nothing.
+-- Orders of a layout's axes in an array: the places that count; and the order in which a plan's axes are fused is one, in which they make
+-- the plan's axes. Assumes nothing.
 use mathlib.Core.Path.{_≡_, sym, ap, _∙_, subst}
 use mathlib.Core.List.{List}
 use Prim.Native.Nat.{ℕ, _*_, _≤_, _<_}
 use native.Mathlib.Omega.{arith}
 use lib.IntN.{ℤ}
 use lib.ListN.{length, getD, take}
+use lib.Seq.{getD-take, length-take-le}
 use Rattle.strided.specs.Base.{padded}
 use Rattle.strided.specs.Layout.{noAxis, axesOf}
 use Rattle.strided.specs.Order.{pick, fusingOrder}
 use Rattle.strided.specs.Fuse.{fusedAxes, planAxes}
 use Rattle.strided.specs.declared.Purpose.{Purpose}
 use Rattle.laws.specs.Base.Arrays.{length-padded, getD-padded, take-counted}
-use Rattle.laws.specs.Fuse.Arrays.{below-at}
+use Rattle.laws.specs.Fuse.Arrays.{Below, at-below, below-at}
 use Rattle.laws.specs.Fuse.Finding.{fusing-length, fusing-below}
 use Rattle.arrange.specs.Axes.{InOrder}
+
+module _ {es : List ℕ} {m : ℕ} {ss : List ℤ} {order : List ℕ} (t : InOrder es m ss order) where
+  pub whole-order : length (take (length es) order) ≡ length es
+  whole-order = length-take-le (length es) order (omega (arith, t .places, t .few-axes))
+
+  pub order-below : Below (length es) (take (length es) order)
+  order-below =
+      at-below (length es) (take (length es) order)
+      (λ j q. let w : j < length es = omega (arith, whole-order) in let v : getD order j 0 < length es = t .inside j w in rw (getD-take (length es) order j 0 w) v)
+
+-- ---- the order of fusing
 
 module _ (es : List ℕ) (m : ℕ) (ss : List ℤ) (u : Purpose) (few : length es ≤ 64)
     {order : List ℕ} (is : order ≡ padded 64 0 (fusingOrder es m ss u)) where

@@ -24,9 +24,8 @@ use Rattle.laws.specs.Base.Refusals.{layout-counts}
 use Rattle.laws.specs.Refusals.Accepted.{accepted}
 use Rattle.laws.specs.Fuse.Maps.{plan-short, plan-in, orig-in}
 use Rattle.laws.specs.Fuse.Finding.{fusing-total}
-use Rattle.arrange.specs.Axes.{axesArrays, InOrder}
+use Rattle.arrange.specs.Axes.{InOrder}
 use Rattle.arrange.specs.Fusing.{take-order, axes-in-order, in-order}
-use Rattle.arrange.specs.declared.Axes.{Axes}
 use Rattle.auxiliary.specs.Fitting.{Fitting}
 
 -- ---- row 11
@@ -66,20 +65,16 @@ module _ (es : List ℕ) (m : ℕ) (ss : List ℤ) (u : Purpose) (fit : Fitting 
 
 -- ---- the plan's arrays
 
-module _ (es : List ℕ) (m : ℕ) (ss : List ℤ) (u : Purpose) (few : length es ≤ 64) (axs : Axes) (is : axs ≡ axesArrays (planAxes es m ss u) m) where
+module _ (es : List ℕ) (m : ℕ) (ss : List ℤ) (u : Purpose) (few : length es ≤ 64) {rank : ℕ} (is : rank ≡ length (planAxes es m ss u)) where
+  pub plan-rank : rank ≤ 64
+  plan-rank = omega (arith, is, plan-short es m ss u)
+
   -- the extents that row 11 is judged on
-  pub plan-extents : take (axs .rank) (axs .extents) ≡ extents (planAxes es m ss u)
-  plan-extents =
-      ap (λ (a : Axes). take (a .rank) (a .extents)) is
-      ∙ take-counted 0 64 (length (planAxes es m ss u)) (extents (planAxes es m ss u)) (length-extents (planAxes es m ss u)) (omega (arith, plan-short es m ss u))
+  pub plan-extents : {E : List ℕ} → E ≡ padded 64 0 (extents (planAxes es m ss u)) → take rank E ≡ extents (planAxes es m ss u)
+  plan-extents e = ap (take rank) e ∙ take-counted 0 64 rank (extents (planAxes es m ss u)) (length-extents (planAxes es m ss u) ∙ sym is) plan-rank
 
-  pub plan-rank : axs .rank ≤ 64
-  plan-rank = omega (arith, ap (λ (a : Axes). a .rank) is, plan-short es m ss u)
-
-  pub plan-count : (x : List ℕ) → Within es x → axs .rank ≡ length (indexInPlan es m ss u x)
-  plan-count x r =
-      ap (λ (a : Axes). a .rank) is
-      ∙ sym (within-length (extents (planAxes es m ss u)) (indexInPlan es m ss u x) (plan-in es m ss u x r) ∙ length-extents (planAxes es m ss u))
+  pub plan-count : (x : List ℕ) → Within es x → rank ≡ length (indexInPlan es m ss u x)
+  plan-count x r = is ∙ sym (within-length (extents (planAxes es m ss u)) (indexInPlan es m ss u x) (plan-in es m ss u x r) ∙ length-extents (planAxes es m ss u))
 
 pub original-count : (es : List ℕ) (m : ℕ) (ss : List ℤ) (u : Purpose) (cs : List ℕ) → Within (extents (planAxes es m ss u)) cs
     → length es ≡ length (originalIndex es m ss u cs)

@@ -38,9 +38,9 @@ fn told_original(
     ensures { λ r. ⌜ r ≡ toldOr (refusedBy (row11 (extentsOf (planAxes (now (extents .entry)) operands (now (strides .entry)) purpose)) (now (counters .entry)) ∷ [])) (originalIndex (now (extents .entry)) operands (now (strides .entry)) purpose (now (counters .entry))) ⌝ }
 {
     let order = order::fusing_order(extents, strides, operands, purpose);
-    let axes = fuse::plan_axes(extents, strides, operands, &order);
-    let rank = axes.rank;
-    let fused = axes.extents;
+    let mut fused = [0u64; 64];
+    let mut table = [0i64; 512];
+    let rank = fuse::plan_axes(extents, strides, operands, &order, &mut fused, &mut table);
     let judged = &fused[..rank];
     if index::within(judged, counters) {
         let found = index::unravel_by(extents, strides, operands, &order, counters);
@@ -67,11 +67,13 @@ fn told_plan(
 {
     if index::within(extents, index) {
         let order = order::fusing_order(extents, strides, operands, purpose);
-        let axes = fuse::plan_axes(extents, strides, operands, &order);
+        let mut fused = [0u64; 64];
+        let mut table = [0i64; 512];
+        let rank = fuse::plan_axes(extents, strides, operands, &order, &mut fused, &mut table);
         let found = index::index_by(extents, strides, operands, &order, index);
         return Told {
             answer: Answer::Served,
-            count: axes.rank,
+            count: rank,
             index: found,
         };
     }

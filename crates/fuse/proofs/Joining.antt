@@ -99,13 +99,13 @@ joins-within e a b f h k = joins-other e a b f ∙ rw (lt-ltb e (2 ^ 63) h, lt-l
 -- ---- operand by operand
 
 -- one operand more: what is left of the whole is the test at this operand and the rest
-pub join-turn : (e m i h k : ℕ) (s : List ℤ) (v : Bool) → k < m → v ≡ joins e (getD s (k * 64 + h) (pos 0)) (getD s (k * 64 + i) (pos 0))
-    → allJoin e (strideColumn s 64 h k (m - k)) (strideColumn s 64 i k (m - k)) ≡ (v && allJoin e (strideColumn s 64 h (k + 1) (m - (k + 1))) (strideColumn s 64 i (k + 1) (m - (k + 1))))
-join-turn e m i h k s v l q =
+pub join-turn : (e p m i h k : ℕ) (s : List ℤ) (v : Bool) → k < m → v ≡ joins e (getD s (k * p + h) (pos 0)) (getD s (k * p + i) (pos 0))
+    → allJoin e (strideColumn s p h k (m - k)) (strideColumn s p i k (m - k)) ≡ (v && allJoin e (strideColumn s p h (k + 1) (m - (k + 1))) (strideColumn s p i (k + 1) (m - (k + 1))))
+join-turn e p m i h k s v l q =
     let g : m - k ≡ suc (m - (k + 1)) = omega arith in
     rw (g, add-one k, q)
 
-pub join-end : (e m i h k : ℕ) (s : List ℤ) → m ≤ k → allJoin e (strideColumn s 64 h k (m - k)) (strideColumn s 64 i k (m - k)) ≡ true
-join-end e m i h k s l =
+pub join-end : (e p m i h k : ℕ) (s : List ℤ) → m ≤ k → allJoin e (strideColumn s p h k (m - k)) (strideColumn s p i k (m - k)) ≡ true
+join-end e p m i h k s l =
     let g : m - k ≡ 0 = omega arith in
     rw g

@@ -3,3 +3,4 @@ pub mod Joining
 pub mod Fusing
 pub mod Keeping
 pub mod Costing
+pub mod Planning

@@ -1,12 +1,10 @@
--- The axes that stay when those of extent 1 go, as the order that picks them. Assumes nothing.
+-- The places that stay when those of extent 1 go. Assumes nothing.
 use mathlib.Core.List.{List, [], _∷_}
 use Prim.Native.Nat.{ℕ, suc}
 use lib.Dec.{eqb}
-use lib.ListN.{length}
-use Rattle.strided.specs.Base.{padded, unless}
-use Rattle.fuse.specs.declared.Kept.{Kept}
+use Rattle.strided.specs.Base.{unless}
 
--- those whose extent is not 1, of the axes from i on
+-- those whose extent is not 1, of the places from i on
 abbrev pub keptFrom : ℕ → List ℕ → List ℕ
 keptFrom i [] = []
 keptFrom i (f ∷ fs) = unless (eqb f 1) i (keptFrom (suc i) fs)
@@ -19,6 +17,3 @@ orZero (k ∷ ks) fs = k ∷ ks
 
 abbrev pub stays : List ℕ → List ℕ
 stays fs = orZero (keptFrom 0 fs) fs
-
-abbrev pub keptOf : List ℕ → Kept
-keptOf o = record { count = length o; axes = padded 64 0 o }

@@ -1,20 +1,24 @@
 // Fusing axes, dropping those of extent 1, and the costs of the axes that are left: fuse_dims, compress_dims and compute_costs of the Rust.
-// Axes stand in arrays of 64 places, operand k's stride on axis i at k * 64 + i.
+// Axes are named by an order, and operand k's stride on axis a stands at k * pitch + a: the pitch is the rank for a layout's own strides, 64
+// for a plan's. So a layout's axes are fused where they stand, and only the plan's strides are written.
 use layout::magnitude;
 ghost use mathlib.Core.Path.{_≡_};
 ghost use mathlib.Core.Bool.{_&&_};
-ghost use Prim.Native.Nat.{_+_, _-_, _*_, _^_, _<_, _≤_, min};
-ghost use lib.Dec.{ltb};
+ghost use Prim.Native.Nat.{ℕ, _+_, _-_, _*_, _/_, _^_, _<_, _≤_, min};
+ghost use lib.Dec.{ltb, leb};
 ghost use lib.IntN.{pos, natAbs};
-ghost use lib.ListN.{length, getD, take};
+ghost use lib.ListN.{length, getD, take, replicate};
 ghost use Rattle.strided.specs.Base.{padded, least as leastOf};
-ghost use Rattle.strided.specs.Layout.{strideColumn, axesFrom, axesOf, noAxis, extents as extentsOf};
+ghost use Rattle.strided.specs.Layout.{strideColumn, axesOf, noAxis, extents as extentsOf};
 ghost use Rattle.strided.specs.Order.{pick};
 ghost use Rattle.strided.specs.Fuse.{joins as joinsAt, allJoin, fuse as fuseAxes, compress, fusedAxes};
+ghost use Rattle.strided.specs.Plan.{strideTable};
 ghost use Rattle.strided.specs.Costs.{costOf, costs};
-ghost use Rattle.arrange.specs.Axes.{axesArrays, InOrder};
+ghost use Rattle.laws.specs.Fuse.Places.{axesBy};
+ghost use Rattle.arrange.specs.Axes.{InOrder};
 ghost use Rattle.fuse.specs.Room.{roomOf};
-ghost use Rattle.fuse.specs.Kept.{stays, keptOf};
+ghost use Rattle.fuse.specs.Kept.{stays};
+ghost use Rattle.fuse.specs.Named.{Named};
 
 // ---- which axes join
 
@@ -27,6 +31,20 @@ fn room(a: i64) -> u64
     } else {
         9223372036854775807
     }
+}
+
+// Whether the product of an extent and a stride is a signed 64-bit number. Most are small, and those are not divided.
+fn product_in_range(e: u64, a: i64) -> bool
+    requires { ⌜ 0 < e ⌝ }
+    ensures { λ r. ⌜ r ≡ leb (natAbs a) (roomOf a / e) ⌝ }
+{
+    let size = magnitude(a);
+    if e < 2147483648 {
+        if size < 4294967296 {
+            return true;
+        }
+    }
+    size <= room(a) / e
 }
 
 // Whether an axis of stride b joins one of extent e and stride a, at one operand. The product is formed only where it is known to fit.
@@ -42,22 +60,22 @@ fn joins(e: u64, a: i64, b: i64) -> bool
     if e == 0 {
         return b == 0;
     }
-    if room(a) / e < magnitude(a) {
-        return false;
+    if product_in_range(e, a) {
+        let s = e as i64;
+        return s * a == b;
     }
-    let s = e as i64;
-    s * a == b
+    false
 }
 
-// Whether axis i, which is not the first, joins the one before it, of extent e, at every operand.
-fn all_join(e: u64, strides: &[i64; 512], operands: usize, i: usize) -> bool
-    requires { ⌜ (operands ≤ 8) × ((0 < i) × (i < 64)) ⌝ }
-    ensures { λ r. ⌜ r ≡ allJoin e (strideColumn (now (strides .entry)) 64 (i - 1) 0 operands) (strideColumn (now (strides .entry)) 64 i 0 operands) ⌝ }
+// Whether axis i joins axis h, of extent e, at every operand.
+fn all_join(e: u64, strides: &[i64], pitch: usize, operands: usize, h: usize, i: usize) -> bool
+    requires operands { ⌜ operands * pitch ≤ length (now strides) ⌝ }
+    requires axes { ⌜ (h < pitch) × (i < pitch) ⌝ }
+    ensures { λ r. ⌜ r ≡ allJoin e (strideColumn (now (strides .entry)) pitch h 0 operands) (strideColumn (now (strides .entry)) pitch i 0 operands) ⌝ }
 {
-    let h = i - 1;
     let mut k: usize = 0;
     while k < operands {
-        let p = k * 64;
+        let p = k * pitch;
         let a = strides[p + h];
         let b = strides[p + i];
         if !joins(e, a, b) {
@@ -80,12 +98,21 @@ fn product_fits(a: u64, b: u64) -> bool
     b < beyond
 }
 
-// Whether axis i, of extent b, joins the one before it, of extent a.
-fn can_fuse(a: u64, b: u64, strides: &[i64; 512], operands: usize, i: usize) -> bool
-    requires { ⌜ (operands ≤ 8) × ((0 < i) × (i < 64)) ⌝ }
-    ensures { λ r. ⌜ r ≡ (allJoin a (strideColumn (now (strides .entry)) 64 (i - 1) 0 operands) (strideColumn (now (strides .entry)) 64 i 0 operands) && ltb (a * b) (2 ^ 64)) ⌝ }
+// Whether axis i, of extent b, joins axis h, of extent a.
+fn can_fuse(
+    a: u64,
+    b: u64,
+    strides: &[i64],
+    pitch: usize,
+    operands: usize,
+    h: usize,
+    i: usize,
+) -> bool
+    requires operands { ⌜ operands * pitch ≤ length (now strides) ⌝ }
+    requires axes { ⌜ (h < pitch) × (i < pitch) ⌝ }
+    ensures { λ r. ⌜ r ≡ (allJoin a (strideColumn (now (strides .entry)) pitch h 0 operands) (strideColumn (now (strides .entry)) pitch i 0 operands) && ltb (a * b) (2 ^ 64)) ⌝ }
 {
-    if all_join(a, strides, operands, i) {
+    if all_join(a, strides, pitch, operands, h, i) {
         product_fits(a, b)
     } else {
         false
@@ -94,122 +121,123 @@ fn can_fuse(a: u64, b: u64, strides: &[i64; 512], operands: usize, i: usize) -> 
 
 // ---- fusing
 
-// The extents of the axes, 0 behind them.
-fn counted(extents: &[u64; 64], rank: usize) -> [u64; 64]
-    requires { ⌜ (length (now extents) ≡ 64) × (rank ≤ 64) ⌝ }
-    ensures { λ r. ⌜ r ≡ padded 64 0 (take rank (now (extents .entry))) ⌝ }
-{
-    let mut out = [0u64; 64];
-    let mut i: usize = 0;
-    while i < rank {
-        out[i] = extents[i];
-        i += 1;
-    }
-    out
-}
-
-// The extents after fusing. From the last axis down an axis that joins the one before it becomes one of extent 1. The strides stay.
-pub fn fuse_dims<'a>(
-    extents: &'a [u64; 64],
-    strides: &'a [i64; 512],
-    rank: usize,
+// The extents of the axes that the order names, after fusing. From the last one down, an axis that joins the one before it becomes one of
+// extent 1. The strides stay.
+pub fn fuse_dims(
+    extents: &mut [u64; 64],
+    strides: &[i64],
+    pitch: usize,
     operands: usize,
-) -> [u64; 64]
-    requires { ⌜ (length (now extents) ≡ 64) × ((rank ≤ 64) × (operands ≤ 8)) ⌝ }
-    ensures { λ r. ⌜ r ≡ padded 64 0 (extentsOf (fuseAxes (axesFrom (now (strides .entry)) 64 operands 0 (take rank (now (extents .entry)))))) ⌝ }
+    order: &[usize; 64],
+    rank: usize,
+)
+    requires layout { ⌜ Named (now strides) pitch operands (now order) rank ⌝ }
+    requires extents { ⌜ (length (now extents) ≡ 64) × (now extents ≡ padded 64 0 (take rank (now extents))) ⌝ }
+    ensures { λ _. ⌜ now (extents .exit) ≡ padded 64 0 (extentsOf (fuseAxes (axesBy (now (strides .entry)) pitch operands (now (order .entry)) (take rank (now (extents .entry)))))) ⌝ }
 {
-    let mut out = counted(extents, rank);
     let mut k: usize = 1;
     while k < rank {
         let i = rank - k;
         let h = i - 1;
-        let a = out[h];
-        let b = out[i];
-        if can_fuse(a, b, strides, operands, i) {
-            out[h] = a * b;
-            out[i] = 1;
+        let a = extents[h];
+        let b = extents[i];
+        let outer = order[i];
+        let inner = order[h];
+        if can_fuse(a, b, strides, pitch, operands, inner, outer) {
+            extents[h] = a * b;
+            extents[i] = 1;
         }
         k += 1;
     }
-    out
 }
 
 // ---- dropping
 
-// The axes that stay: the first `count` places.
-struct Kept {
-    count: usize,
-    axes: [usize; 64],
-}
-
-// The axes whose extent is not 1. If there is none the first axis stays, so that a walk has an axis to step on.
-fn kept_axes(fused: &[u64; 64], rank: usize) -> Kept
-    requires { ⌜ (length (now fused) ≡ 64) × (rank ≤ 64) ⌝ }
-    ensures { λ r. ⌜ r ≡ keptOf (stays (take rank (now (fused .entry)))) ⌝ }
+// The axes whose extent is not 1, with their extents, written into arrays of zeros. If there is none the first axis stays, so that a walk has
+// an axis to step on.
+fn kept_axes<'a>(
+    fused: &'a [u64; 64],
+    order: &'a [usize; 64],
+    rank: usize,
+    extents: &mut [u64; 64],
+    axes: &mut [usize; 64],
+) -> usize
+    requires arrays { ⌜ (length (now fused) ≡ 64) × ((length (now order) ≡ 64) × (rank ≤ 64)) ⌝ }
+    requires zeros { ⌜ (now extents ≡ replicate 64 0) × (now axes ≡ replicate 64 0) ⌝ }
+    ensures count { λ r. ⌜ r ≡ length (stays (take rank (now (fused .entry)))) ⌝ }
+    ensures extents { λ _. ⌜ now (extents .exit) ≡ padded 64 0 (pick 0 (now (fused .entry)) (stays (take rank (now (fused .entry))))) ⌝ }
+    ensures axes { λ _. ⌜ now (axes .exit) ≡ padded 64 0 (pick 0 (now (order .entry)) (stays (take rank (now (fused .entry))))) ⌝ }
 {
-    let mut axes = [0usize; 64];
     let mut count: usize = 0;
     let mut i: usize = 0;
     while i < rank {
-        if fused[i] != 1 {
-            axes[count] = i;
+        let f = fused[i];
+        if f != 1 {
+            let a = order[i];
+            extents[count] = f;
+            axes[count] = a;
             count += 1;
         }
         i += 1;
     }
     if count == 0 {
         if rank > 0 {
-            axes[0] = 0;
-            count = 1;
+            let f = fused[0];
+            let a = order[0];
+            extents[0] = f;
+            axes[0] = a;
+            return 1;
         }
     }
-    Kept { count, axes }
+    count
 }
 
-// The axes without those of extent 1.
-pub fn compress_dims(
-    fused: &[u64; 64],
-    strides: &[i64; 512],
-    rank: usize,
+// The axes without those of extent 1, written into arrays of zeros: their extents, and operand k's stride on axis i at k * 64 + i. Answers how
+// many there are.
+pub fn compress_dims<'a>(
+    fused: &'a [u64; 64],
+    strides: &[i64],
+    pitch: usize,
     operands: usize,
-) -> arrange::Axes
-    requires arrays { ⌜ (length (now fused) ≡ 64) × (length (now strides) ≡ 512) ⌝ }
-    requires counts { ⌜ (rank ≤ 64) × (operands ≤ 8) ⌝ }
-    ensures { λ r. ⌜ r ≡ axesArrays (compress (axesFrom (now (strides .entry)) 64 operands 0 (take rank (now (fused .entry))))) operands ⌝ }
-{
-    let kept = kept_axes(fused, rank);
-    let count = kept.count;
-    arrange::arrange(fused, strides, 64, operands, &kept.axes, count)
-}
-
-// The axes of a plan: fused, and those of extent 1 dropped.
-pub fn fused_axes<'a>(
-    extents: &'a [u64; 64],
-    strides: &'a [i64; 512],
+    order: &'a [usize; 64],
     rank: usize,
-    operands: usize,
-) -> arrange::Axes
-    requires arrays { ⌜ (length (now extents) ≡ 64) × (length (now strides) ≡ 512) ⌝ }
-    requires counts { ⌜ (rank ≤ 64) × (operands ≤ 8) ⌝ }
-    ensures { λ r. ⌜ r ≡ axesArrays (fusedAxes (axesFrom (now (strides .entry)) 64 operands 0 (take rank (now (extents .entry))))) operands ⌝ }
+    extents: &mut [u64; 64],
+    table: &mut [i64; 512],
+) -> usize
+    requires layout { ⌜ Named (now strides) pitch operands (now order) rank ⌝ }
+    requires fused { ⌜ length (now fused) ≡ 64 ⌝ }
+    requires zeros { ⌜ (now extents ≡ replicate 64 0) × (now table ≡ replicate 512 (pos 0)) ⌝ }
+    ensures rank { λ r. ⌜ r ≡ length (compress (axesBy (now (strides .entry)) pitch operands (now (order .entry)) (take rank (now (fused .entry))))) ⌝ }
+    ensures extents { λ _. ⌜ now (extents .exit) ≡ padded 64 0 (extentsOf (compress (axesBy (now (strides .entry)) pitch operands (now (order .entry)) (take rank (now (fused .entry)))))) ⌝ }
+    ensures strides { λ _. ⌜ now (table .exit) ≡ strideTable (compress (axesBy (now (strides .entry)) pitch operands (now (order .entry)) (take rank (now (fused .entry))))) operands ⌝ }
 {
-    let fused = fuse_dims(extents, strides, rank, operands);
-    compress_dims(&fused, strides, rank, operands)
+    let mut axes = [0usize; 64];
+    let count = kept_axes(fused, order, rank, extents, &mut axes);
+    arrange::pick_strides_into(strides, pitch, operands, &axes, count, table);
+    count
 }
 
-// The axes of a layout's plan: put into the order, fused, those of extent 1 dropped. `strides` has one for each axis, operand by operand.
+// The axes of a layout's plan, written into arrays of zeros: put into the order, fused, those of extent 1 dropped. `strides` has one for each
+// axis, operand by operand. Answers how many axes there are.
 pub fn plan_axes(
     extents: &[u64],
     strides: &[i64],
     operands: usize,
     order: &[usize; 64],
-) -> arrange::Axes
+    es: &mut [u64; 64],
+    table: &mut [i64; 512],
+) -> usize
     requires layout { ⌜ InOrder (now extents) operands (now strides) (now order) ⌝ }
-    ensures { λ r. ⌜ r ≡ axesArrays (fusedAxes (pick noAxis (axesOf (now (extents .entry)) operands (now (strides .entry))) (take (length (now (extents .entry))) (now (order .entry))))) operands ⌝ }
+    requires zeros { ⌜ (now es ≡ replicate 64 0) × (now table ≡ replicate 512 (pos 0)) ⌝ }
+    ensures rank { λ r. ⌜ r ≡ length (fusedAxes (pick noAxis (axesOf (now (extents .entry)) operands (now (strides .entry))) (take (length (now (extents .entry))) (now (order .entry))))) ⌝ }
+    ensures extents { λ _. ⌜ now (es .exit) ≡ padded 64 0 (extentsOf (fusedAxes (pick noAxis (axesOf (now (extents .entry)) operands (now (strides .entry))) (take (length (now (extents .entry))) (now (order .entry)))))) ⌝ }
+    ensures strides { λ _. ⌜ now (table .exit) ≡ strideTable (fusedAxes (pick noAxis (axesOf (now (extents .entry)) operands (now (strides .entry))) (take (length (now (extents .entry))) (now (order .entry))))) operands ⌝ }
 {
     let rank = extents.len();
-    let a = arrange::arrange(extents, strides, rank, operands, order, rank);
-    fused_axes(&a.extents, &a.strides, rank, operands)
+    let mut fused = [0u64; 64];
+    arrange::pick_into(extents, order, rank, &mut fused);
+    fuse_dims(&mut fused, strides, rank, operands, order, rank);
+    compress_dims(&fused, strides, rank, operands, order, rank, es, table)
 }
 
 // ---- costs

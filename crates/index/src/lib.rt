@@ -125,9 +125,11 @@ pub fn unravel_by(
     ensures { λ r. ⌜ r ≡ padded 64 0 (unravelBy (take (length (now (extents .entry))) (now (order .entry))) (axesOf (now (extents .entry)) operands (now (strides .entry))) (now (counters .entry))) ⌝ }
 {
     let rank = extents.len();
-    let a = arrange::arrange(extents, strides, rank, operands, order, rank);
-    let fused = fuse::fuse_dims(&a.extents, &a.strides, rank, operands);
-    let told = unravel_index(&a.extents, &fused, counters, rank);
+    let mut put = [0u64; 64];
+    arrange::pick_into(extents, order, rank, &mut put);
+    let mut fused = put;
+    fuse::fuse_dims(&mut fused, strides, rank, operands, order, rank);
+    let told = unravel_index(&put, &fused, counters, rank);
     arrange::placed(&told, order, rank)
 }
 
@@ -145,8 +147,11 @@ pub fn index_by(
     ensures { λ r. ⌜ r ≡ padded 64 0 (indexBy (take (length (now (extents .entry))) (now (order .entry))) (axesOf (now (extents .entry)) operands (now (strides .entry))) (now (index .entry))) ⌝ }
 {
     let rank = extents.len();
-    let a = arrange::arrange(extents, strides, rank, operands, order, rank);
-    let fused = fuse::fuse_dims(&a.extents, &a.strides, rank, operands);
-    let put = arrange::picked(index, order, rank);
-    ravel_index(&a.extents, &fused, &put, rank)
+    let mut put = [0u64; 64];
+    arrange::pick_into(extents, order, rank, &mut put);
+    let mut fused = put;
+    fuse::fuse_dims(&mut fused, strides, rank, operands, order, rank);
+    let mut at = [0u64; 64];
+    arrange::pick_into(index, order, rank, &mut at);
+    ravel_index(&put, &fused, &at, rank)
 }

@@ -53,12 +53,7 @@ fn axes_into(
     ensures strides { λ _. ⌜ now (table .exit) ≡ strideTable (planAxes (now (extents .entry)) operands (now (strides .entry)) purpose) operands ⌝ }
 {
     let order = fusing_order(extents, strides, operands, purpose);
-    let axes = fuse::plan_axes(extents, strides, operands, &order);
-    let e = axes.extents;
-    let s = axes.strides;
-    *es = e;
-    *table = s;
-    axes.rank
+    fuse::plan_axes(extents, strides, operands, &order, es, table)
 }
 
 // ---- the ranks of the plan's axes

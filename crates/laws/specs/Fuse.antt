@@ -8,4 +8,5 @@ pub mod Maps
 pub mod Reach
 pub mod Entries
 pub mod Arrays
+pub mod Places
 pub mod Finding

@@ -4,6 +4,7 @@
 ghost use mathlib.Core.Path.{_≡_};
 ghost use mathlib.Core.List.{map, [], _∷_};
 ghost use Prim.Native.Nat.{_<_};
+ghost use lib.IntN.{pos};
 ghost use lib.ListN.{length, replicate};
 ghost use Rattle.strided.specs.Base.{padded};
 ghost use Rattle.strided.specs.Layout.{lead, extents as extentsOf};
@@ -14,10 +15,8 @@ ghost use Rattle.strided.specs.Order.{loopOrder};
 ghost use Rattle.strided.specs.Fuse.{planAxes};
 ghost use Rattle.strided.specs.Plan.{strideTable};
 ghost use Rattle.auxiliary.specs.Fitting.{Fitting};
-ghost use Rattle.arrange.specs.Axes.{axesArrays};
 ghost use Rattle.parts.specs.Answers.{purposeOf, shapeRefused, told, Part, fusedExtents, planCosts};
-use arrange::Axes;
-use arrange::arrange;
+use arrange::pick_into;
 use auxiliary::rank_table_into;
 use fuse::compute_costs;
 use fuse::fuse_dims;
@@ -165,24 +164,41 @@ pub extern "C" fn parts_order<'a>(
 
 // ---- fused axes
 
-// The extents after fusing, in the order of fusing.
-fn fused_extents(extents: &[u64], strides: &[i64], operands: usize, purpose: Purpose) -> [u64; 64]
-    requires { ⌜ Fitting (now strides) (length (now extents)) operands ⌝ }
-    ensures { λ r. ⌜ r ≡ padded 64 0 (fusedExtents (now (extents .entry)) operands (now (strides .entry)) purpose) ⌝ }
+// The extents after fusing, in the order of fusing, written into an array of zeros.
+fn fused_extents(
+    extents: &[u64],
+    strides: &[i64],
+    operands: usize,
+    purpose: Purpose,
+    fused: &mut [u64; 64],
+)
+    requires layout { ⌜ Fitting (now strides) (length (now extents)) operands ⌝ }
+    requires zeros { ⌜ now fused ≡ replicate 64 0 ⌝ }
+    ensures { λ _. ⌜ now (fused .exit) ≡ padded 64 0 (fusedExtents (now (extents .entry)) operands (now (strides .entry)) purpose) ⌝ }
 {
     let rank = extents.len();
     let order = fusing_order(extents, strides, operands, purpose);
-    let a = arrange(extents, strides, rank, operands, &order, rank);
-    fuse_dims(&a.extents, &a.strides, rank, operands)
+    pick_into(extents, &order, rank, fused);
+    fuse_dims(fused, strides, rank, operands, &order, rank);
 }
 
-// The axes of the plan.
-fn axes_of(extents: &[u64], strides: &[i64], operands: usize, purpose: Purpose) -> Axes
-    requires { ⌜ Fitting (now strides) (length (now extents)) operands ⌝ }
-    ensures { λ r. ⌜ r ≡ axesArrays (planAxes (now (extents .entry)) operands (now (strides .entry)) purpose) operands ⌝ }
+// The axes of the plan, written into arrays of zeros. Answers how many there are.
+fn axes_of(
+    extents: &[u64],
+    strides: &[i64],
+    operands: usize,
+    purpose: Purpose,
+    es: &mut [u64; 64],
+    table: &mut [i64; 512],
+) -> usize
+    requires layout { ⌜ Fitting (now strides) (length (now extents)) operands ⌝ }
+    requires zeros { ⌜ (now es ≡ replicate 64 0) × (now table ≡ replicate 512 (pos 0)) ⌝ }
+    ensures rank { λ r. ⌜ r ≡ length (planAxes (now (extents .entry)) operands (now (strides .entry)) purpose) ⌝ }
+    ensures extents { λ _. ⌜ now (es .exit) ≡ padded 64 0 (extentsOf (planAxes (now (extents .entry)) operands (now (strides .entry)) purpose)) ⌝ }
+    ensures strides { λ _. ⌜ now (table .exit) ≡ strideTable (planAxes (now (extents .entry)) operands (now (strides .entry)) purpose) operands ⌝ }
 {
     let order = fusing_order(extents, strides, operands, purpose);
-    plan_axes(extents, strides, operands, &order)
+    plan_axes(extents, strides, operands, &order, es, table)
 }
 
 // The costs of the plan's axes.
@@ -191,8 +207,10 @@ fn costs_of(extents: &[u64], strides: &[i64], operands: usize, purpose: Purpose)
     requires operands { ⌜ 0 < operands ⌝ }
     ensures { λ r. ⌜ r ≡ padded 64 0 (planCosts (now (extents .entry)) operands (now (strides .entry)) purpose) ⌝ }
 {
-    let a = axes_of(extents, strides, operands, purpose);
-    compute_costs(&a.strides, operands, a.rank)
+    let mut es = [0u64; 64];
+    let mut table = [0i64; 512];
+    let rank = axes_of(extents, strides, operands, purpose, &mut es, &mut table);
+    compute_costs(&table, operands, rank)
 }
 
 // The extents after fusing, one for each axis in the order of fusing: one that has joined the axis before it is 1.
@@ -212,8 +230,8 @@ pub extern "C" fn parts_fused<'a>(
     match checked {
         Answer::Refused(refusal) => number(refusal),
         Answer::Served => {
-            let found = fused_extents(extents, strides, sizes.len(), purpose);
-            *fused = found;
+            *fused = [0u64; 64];
+            fused_extents(extents, strides, sizes.len(), purpose, fused);
             0
         }
     }
@@ -240,13 +258,10 @@ pub extern "C" fn parts_axes<'a>(
     match checked {
         Answer::Refused(refusal) => number(refusal),
         Answer::Served => {
-            let found = axes_of(extents, strides, sizes.len(), purpose);
-            let rank = found.rank;
-            let es = found.extents;
-            let ss = found.strides;
+            *kept = [0u64; 64];
+            *table = [0i64; 512];
+            let rank = axes_of(extents, strides, sizes.len(), purpose, kept, table);
             *count = [rank];
-            *kept = es;
-            *table = ss;
             0
         }
     }

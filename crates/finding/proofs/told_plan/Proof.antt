@@ -1,13 +1,13 @@
 -- `finding::told_plan` meets its contract: row 11 is judged on the layout's extents, then the index is told. Assumes nothing.
-use mathlib.Core.Path.{_≡_, sym, ap, _∙_, subst}
+use mathlib.Core.Path.{_≡_, refl, sym, ap, _∙_, subst}
 use mathlib.Core.List.{List}
 use Prim.Native.Nat.{ℕ, _<_, _^_}
+use lib.ListN.{length}
 use borrow.Author.Needs.{needs}
-use Rattle.strided.specs.Layout.{Axis, Within}
+use Rattle.strided.specs.Layout.{Within}
 use Rattle.strided.specs.Fuse.{planAxes}
 use Rattle.strided.specs.Index.{indexInPlan}
 use Rattle.laws.specs.Base.Layouts.{true-within}
-use Rattle.arrange.specs.Axes.{axesArrays}
 use Rattle.finding.proofs.Answers.{tells, tells-none, fits-order, axes-by, total-by, plan-by, plan-count}
 use Rattle.finding.proofs.told_plan.Statement.{statement}
 use Rattle.finding.proofs.told_plan.Tie as tie
@@ -28,13 +28,14 @@ fusing-order-requires c κs = search needs
 
 plan-axes-requires : tie.Need-plan-axes-requires
 plan-axes-requires c κs =
-    let s = c .before .before .before .before .before .before in
+    let o = c .before .before .before in
+    let s = o .before .before .before .before .before in
     let a = s .args in
-    fits-order (a .extents .now) (a .operands) (a .strides .now) (a .purpose) (s .pre .0) (c .before .fusing-order .ensures)
+    (fits-order (a .extents .now) (a .operands) (a .strides .now) (a .purpose) (s .pre .0) (o .fusing-order .ensures), (refl, refl))
 
 index-by-requires : tie.Need-index-by-requires
 index-by-requires c κs =
-    let o = c .before .before .before in
+    let o = c .before .before .before .before .before in
     let s = o .before .before .before .before .before in
     let a = s .args in (
       fits-order (a .extents .now) (a .operands) (a .strides .now) (a .purpose) (s .pre .0) (o .fusing-order .ensures),
@@ -47,15 +48,15 @@ index-by-requires c κs =
 returns : tie.Need-returns
 returns c =
     let x = c .before .before in
-    let o = x .before .before in
+    let o = x .before .before .before .before in
     let t = o .before in
     let s = t .before .before .before .before in
     let a = s .args in
     let es = a .extents .now in
-    let axes : x .plan-axes .result ≡ axesArrays (planAxes es (a .operands) (a .strides .now) (a .purpose)) (a .operands) =
-    x .plan-axes .ensures ∙ ap (λ (l : List Axis). axesArrays l (a .operands)) (axes-by es (a .operands) (a .strides .now) (a .purpose) (s .pre .0) (o .fusing-order .ensures)) in
-    tells es (a .index .now) (X s) (t .before .within .ensures) (t .if1 .taken) (x .plan-axes .result .rank) (c .index-by .result)
-    (plan-count es (a .operands) (a .strides .now) (a .purpose) (s .pre .0 .rank-few) (x .plan-axes .result) axes (a .index .now) (inside t))
+    let rank : x .plan-axes .result ≡ length (planAxes es (a .operands) (a .strides .now) (a .purpose)) =
+    x .plan-axes .ensures .0 ∙ ap length (axes-by es (a .operands) (a .strides .now) (a .purpose) (s .pre .0) (o .fusing-order .ensures)) in
+    tells es (a .index .now) (X s) (t .before .within .ensures) (t .if1 .taken) (x .plan-axes .result) (c .index-by .result)
+    (plan-count es (a .operands) (a .strides .now) (a .purpose) (s .pre .0 .rank-few) rank (a .index .now) (inside t))
     (c .index-by .ensures ∙ plan-by es (a .operands) (a .strides .now) (a .purpose) (s .pre .0) (o .fusing-order .ensures) (a .index .now))
 
 refused-requires : tie.Need-refused-requires

@@ -1,36 +1,36 @@
--- `fuse::fuse_dims` meets its contract. The invariant: the axes from rank - k on are fused. Assumes nothing.
-use mathlib.Core.Path.{_≡_, sym, _∙_, subst}
+-- `fuse::fuse_dims` meets its contract. The invariant: the places from rank - k on are fused. Assumes nothing.
+use mathlib.Core.Path.{_≡_, _∙_, subst}
 use mathlib.Core.Logic.{⊎-elim}
 use mathlib.Core.List.{List}
-use Prim.Native.Nat.{ℕ, _-_, _*_, _^_, _<_}
+use Prim.Native.Nat.{ℕ, _-_, _<_}
 use native.Mathlib.Omega.{arith}
-use lib.Dec.{ltb}
+use lib.IntN.{ℤ}
 use lib.ListN.{length, getD, take}
 use lib.Seq.{length-take-le}
-use borrow.Author.Needs.{needs}
-use borrow.Author.Tests.{ltb-true}
-use Rattle.strided.specs.Layout.{strideColumn}
-use Rattle.strided.specs.Fuse.{allJoin}
-use Rattle.laws.specs.Base.Tests.{and-both}
-use Rattle.fuse.proofs.Fusing.{Done, done-first, turn-left, turn-taken}
+use Rattle.strided.specs.Layout.{Axis}
+use Rattle.laws.specs.Fuse.Places.{axisAt, columnBy}
+use Rattle.fuse.proofs.Fusing.{Done, done-first, turn-left, turn-taken, joined-fits}
 use Rattle.fuse.proofs.fuse_dims.Statement.{statement}
 use Rattle.fuse.proofs.fuse_dims.Tie as tie
 
 abbrev Inv-loop : tie.InvT-loop
-Inv-loop extents strides rank operands out₀ k₀ out k = (0 < k) × Done strides operands (take rank extents) (rank - k) out
+Inv-loop extents₀ strides pitch operands order rank k₀ extents k = (0 < k) × Done (columnBy strides pitch operands order) (take rank extents₀) (rank - k) extents
 
 abbrev μ-loop : tie.MeasureT-loop
-μ-loop extents strides rank operands out₀ k₀ out k = rank - k
+μ-loop extents₀ strides pitch operands order rank k₀ extents k = rank - k
 
-counted-requires : tie.Need-counted-requires Inv-loop μ-loop
-counted-requires c κs = search needs
+-- the strides at each place, the extents at first, and how many there are
+abbrev col : tie.Start Inv-loop μ-loop → ℕ → List ℤ
+col s = columnBy (s .args .strides .now) (s .args .pitch) (s .args .operands) (s .args .order .now)
+
+abbrev E : tie.Start Inv-loop μ-loop → List ℕ
+E s = take (s .args .rank) (s .args .extents .now)
+
+long : (s : tie.Start Inv-loop μ-loop) → length (E s) ≡ s .args .rank
+long s = length-take-le (s .args .rank) (s .args .extents .now) (omega (arith, s .pre .0 .few-axes, s .pre .1 .0))
 
 loop-holds : tie.Need-loop-holds Inv-loop μ-loop
-loop-holds c =
-    let s = c .before in
-    let E : List ℕ = take (s .args .rank) (s .args .extents .now) in
-    let long : length (take (s .args .rank) (s .args .extents .now)) ≡ s .args .rank = length-take-le (s .args .rank) (s .args .extents .now) (omega (arith, s .pre)) in
-    (omega arith, c .counted .ensures ∙ done-first (s .args .strides .now) (s .args .operands) E (s .args .rank - 1) (omega (arith, long)))
+loop-holds c = (omega arith, c .pre .1 .1 ∙ done-first (col c) (E c) (c .args .rank - 1) (omega (arith, long c)))
 
 sub-i : tie.Need-sub-i Inv-loop μ-loop
 sub-i c = omega arith
@@ -41,43 +41,57 @@ sub-h c = omega arith
 mul-a : tie.Need-mul-a Inv-loop μ-loop
 mul-a c = omega arith
 
-array-read-a : tie.Need-array-read-a Inv-loop μ-loop
-array-read-a c = omega arith
+element-copy-out-a : tie.Need-element-copy-out-a Inv-loop μ-loop
+element-copy-out-a c = omega arith
 
 mul-b : tie.Need-mul-b Inv-loop μ-loop
 mul-b c = omega arith
 
-array-read-b : tie.Need-array-read-b Inv-loop μ-loop
-array-read-b c = omega arith
+element-copy-out-b : tie.Need-element-copy-out-b Inv-loop μ-loop
+element-copy-out-b c = omega arith
+
+mul-outer : tie.Need-mul-outer Inv-loop μ-loop
+mul-outer c = omega arith
+
+element-copy-out-outer : tie.Need-element-copy-out-outer Inv-loop μ-loop
+element-copy-out-outer c = omega arith
+
+mul-inner : tie.Need-mul-inner Inv-loop μ-loop
+mul-inner c = omega arith
+
+element-copy-out-inner : tie.Need-element-copy-out-inner Inv-loop μ-loop
+element-copy-out-inner c = omega arith
 
 can-fuse-requires : tie.Need-can-fuse-requires Inv-loop μ-loop
-can-fuse-requires c κs = omega arith
-
-mul-out : tie.Need-mul-out Inv-loop μ-loop
-mul-out c =
-    let l = c .before .before .before in
-    let s = l .before .before in
+can-fuse-requires c κs =
+    let l = c .before .before .before .before .before in
+    let s = l .before in
+    let t = c .before .before .before .before .loop-test in
     let i : ℕ = s .args .rank - l .loop .k in
-    let a : ℕ = getD (l .loop .out) (i - 1) 0 in
-    let b : ℕ = getD (l .loop .out) i 0 in
-    record {
-      fits =
-          ltb-true (a * b) (2 ^ 64)
-          (and-both (allJoin a (strideColumn (s .args .strides .now) 64 (i - 1) 0 (s .args .operands)) (strideColumn (s .args .strides .now) 64 i 0 (s .args .operands))) (ltb (a * b) (2 ^ 64))
-          (sym (c .before .can-fuse .ensures) ∙ c .if1 .taken) .1);
-    }
+    (s .pre .0 .rows, (s .pre .0 .inside (i - 1) (omega (arith, t)), s .pre .0 .inside i (omega (arith, t, l .loop .inv .0))))
 
-mul-out-2 : tie.Need-mul-out-2 Inv-loop μ-loop
-mul-out-2 c = omega arith
+-- the extent at a place, with the strides there
+abbrev at : (s : tie.Start Inv-loop μ-loop) → List ℕ → ℕ → Axis
+at s out i = axisAt (col s) i (getD out i 0)
 
-array-write-out : tie.Need-array-write-out Inv-loop μ-loop
-array-write-out c = omega arith
+mul-extents : tie.Need-mul-extents Inv-loop μ-loop
+mul-extents c =
+    let l = c .before .before .before .before .before .before .before in
+    let s = l .before in
+    let i : ℕ = s .args .rank - l .loop .k in
+    record { fits = joined-fits (at s (l .loop .extents) (i - 1)) (at s (l .loop .extents) i) (c .before .can-fuse .result) (c .before .can-fuse .ensures) (c .if1 .taken) }
 
-mul-out-3 : tie.Need-mul-out-3 Inv-loop μ-loop
-mul-out-3 c = omega arith
+mul-extents-2 : tie.Need-mul-extents-2 Inv-loop μ-loop
+mul-extents-2 c = omega arith
 
-array-write-out-2 : tie.Need-array-write-out-2 Inv-loop μ-loop
-array-write-out-2 c = omega arith
+element-write-extents : tie.Need-element-write-extents Inv-loop μ-loop
+element-write-extents c = omega arith
+
+mul-extents-3 : tie.Need-mul-extents-3 Inv-loop μ-loop
+mul-extents-3 c = omega arith
+
+element-write-extents-2 : tie.Need-element-write-extents-2 Inv-loop μ-loop
+element-write-extents-2 c = omega arith
 
 add-k : tie.Need-add-k Inv-loop μ-loop
 add-k c = omega arith
@@ -88,26 +102,25 @@ loop-less c = omega arith
 loop-again : tie.Need-loop-again Inv-loop μ-loop
 loop-again c =
     let f = c .before in
-    let t = f .before in
+    let t = f .before .before .before .before .before in
     let l = t .before in
-    let s = l .before .before in
-    let E : List ℕ = take (s .args .rank) (s .args .extents .now) in
-    let long : length (take (s .args .rank) (s .args .extents .now)) ≡ s .args .rank = length-take-le (s .args .rank) (s .args .extents .now) (omega (arith, s .pre)) in (
+    let s = l .before in
+    let few = s .pre .0 .few-axes in (
       omega arith,
       ⊎-elim
-          (λ w. turn-taken (s .args .strides .now) (s .args .operands) E (s .args .rank) (l .loop .k) (l .loop .inv .0) (t .loop-test .taken) long (s .pre .1 .0) (l .loop .out) (c .if1 .out) (l .loop .inv .1)
-          (sym (f .can-fuse .ensures) ∙ w .0 .taken) (w .1))
-          (λ w. turn-left (s .args .strides .now) (s .args .operands) E (s .args .rank) (l .loop .k) (l .loop .inv .0) (t .loop-test .taken) long (s .pre .1 .0) (l .loop .out) (c .if1 .out) (l .loop .inv .1)
-          (sym (f .can-fuse .ensures) ∙ w .0 .left) (w .1))
+          (λ w. turn-taken (col s) (E s) (s .args .rank) (l .loop .k) (l .loop .inv .0) (t .loop-test .taken) (long s) few (l .loop .extents) (c .if1 .extents) (l .loop .inv .1)
+          (f .can-fuse .result) (f .can-fuse .ensures) (w .0 .taken) (w .1))
+          (λ w. turn-left (col s) (E s) (s .args .rank) (l .loop .k) (l .loop .inv .0) (t .loop-test .taken) (long s) few (l .loop .extents) (c .if1 .extents) (l .loop .inv .1)
+          (f .can-fuse .result) (f .can-fuse .ensures) (w .0 .left) (w .1))
           (c .if1 .came),
     )
 
 returns : tie.Need-returns Inv-loop μ-loop
 returns c =
     let l = c .before in
-    let s = l .before .before in
+    let s = l .before in
     let z : s .args .rank - l .loop .k ≡ 0 = omega (arith, c .loop-test) in
-    subst (λ (i : ℕ). Done (s .args .strides .now) (s .args .operands) (take (s .args .rank) (s .args .extents .now)) i (l .loop .out)) z (l .loop .inv .1)
+    subst (λ (i : ℕ). Done (col s) (E s) i (l .loop .extents)) z (l .loop .inv .1)
 
 pub fuse-dims-spec : {M : Type 1} → statement M
 fuse-dims-spec =
@@ -115,20 +128,23 @@ fuse-dims-spec =
     (tie.spec
     Inv-loop
     μ-loop
-    counted-requires
     loop-holds
     sub-i
     sub-h
     mul-a
-    array-read-a
+    element-copy-out-a
     mul-b
-    array-read-b
+    element-copy-out-b
+    mul-outer
+    element-copy-out-outer
+    mul-inner
+    element-copy-out-inner
     can-fuse-requires
-    mul-out
-    mul-out-2
-    array-write-out
-    mul-out-3
-    array-write-out-2
+    mul-extents
+    mul-extents-2
+    element-write-extents
+    mul-extents-3
+    element-write-extents-2
     add-k
     loop-less
     loop-again

@@ -1,12 +1,15 @@
 -- `fuse::joins` meets its contract: a law for each way out. Assumes nothing.
 use mathlib.Core.Path.{_≡_, sym, ap, _∙_}
+use mathlib.Core.Bool.{true, false}
 use Prim.Native.Nat.{_*_, _/_, _^_, _≤_, _<_}
+use lib.Dec.{leb}
 use lib.IntN.{ℤ, pos, natAbs, _*ℤ_}
 use mir.Syntax.{w64}
 use mir.Val.{SFits, ofZ}
 use mir.Facts.{toZ-pos}
 use native.Mathlib.Omega.{arith}
 use borrow.Author.Needs.{needs}
+use borrow.Author.Tests.{leb-true, leb-false}
 use Rattle.fuse.proofs.Signs.{back}
 use Rattle.fuse.specs.Room.{roomOf}
 use Rattle.fuse.proofs.Joining.{bits-inj, eqb-bits, eqb-bits-zero, eqZ-comm, joins-zero, joins-far, joins-none, joins-long, within, joins-within}
@@ -38,56 +41,49 @@ returns-3 c =
     eqb-bits-zero (s .args .b) (s .fits .b)
     ∙ sym (joins-none (s .args .e) (s .args .a) (s .args .b) (not-zero (s .args .a) (c .before .before .if1 .left)) (c .if3 .taken))
 
-room-requires : tie.Need-room-requires
-room-requires c κs = search needs
-
-div-if4 : tie.Need-div-if4
-div-if4 c = search needs
-
-magnitude-requires : tie.Need-magnitude-requires
-magnitude-requires c κs = search needs
-
-returns-4 : tie.Need-returns-4
-returns-4 c =
-    let s = c .before .before .before .before .before .before in
-    let a = s .args .a in
-    let e = s .args .e in
-    let p : 0 < e = omega (arith, c .before .before .before .if3 .left) in
-    let r : c .before .before .room .result ≡ roomOf a = rw (back a (s .fits .a)) at (c .before .before .room .ensures) in
-    let z : c .before .magnitude .result ≡ natAbs a = rw (back a (s .fits .a)) at (c .before .magnitude .ensures) in
-    let h : c .before .before .room .result / e < c .before .magnitude .result = c .if4 .taken in
-    sym (joins-long e a (s .args .b) (not-zero a (c .before .before .before .before .before .if1 .left)) p (rw (r, z) at h))
+product-in-range-requires : tie.Need-product-in-range-requires
+product-in-range-requires c κs = search needs
 
 cast-s : tie.Need-cast-s
 cast-s c = search needs
 
--- what both needs behind the last test lean on
-product : (c : tie.Else4) → SFits w64 (pos (c .before .before .before .before .before .before .args .e) *ℤ c .before .before .before .before .before .before .args .a)
+-- what the test of the product says
+tested : (c : tie.After-product-in-range) → let s = c .before .before .before .before in c .product-in-range .result ≡ leb (natAbs (s .args .a)) (roomOf (s .args .a) / s .args .e)
+tested c =
+    let s = c .before .before .before .before in
+    rw (back (s .args .a) (s .fits .a)) at (c .product-in-range .ensures)
+
+-- what both needs behind it lean on
+product : (c : tie.Then4) → let s = c .before .before .before .before .before in SFits w64 (pos (s .args .e) *ℤ s .args .a)
 product c =
-    let s = c .before .before .before .before .before .before in
+    let s = c .before .before .before .before .before in
     let a = s .args .a in
     let e = s .args .e in
-    let p : 0 < e = omega (arith, c .before .before .before .if3 .left) in
-    let r : c .before .before .room .result ≡ roomOf a = rw (back a (s .fits .a)) at (c .before .before .room .ensures) in
-    let z : c .before .magnitude .result ≡ natAbs a = rw (back a (s .fits .a)) at (c .before .magnitude .ensures) in
-    let h : c .before .magnitude .result ≤ c .before .before .room .result / e = c .if4 .left in
-    within e a p (rw (r, z) at h)
+    within e a (omega (arith, c .before .before .if3 .left)) (leb-true (natAbs a) (roomOf a / e) (sym (tested (c .before)) ∙ c .if4 .taken))
 
 mul-result : tie.Need-mul-result
 mul-result c =
-    let s = c .before .before .before .before .before .before in
-    rw (back (s .args .a) (s .fits .a), toZ-pos w64 (c .before .before .before .before .if2 .left)) (product c)
+    let s = c .before .before .before .before .before in
+    rw (back (s .args .a) (s .fits .a), toZ-pos w64 (c .before .before .before .if2 .left)) (product c)
 
-returns-5 : tie.Need-returns-5
-returns-5 c =
-    let s = c .before .before .before .before .before .before in
+returns-4 : tie.Need-returns-4
+returns-4 c =
+    let s = c .before .before .before .before .before in
     let a = s .args .a in
     let e = s .args .e in
     let b = s .args .b in
-    let h : e < 2 ^ 63 = c .before .before .before .before .if2 .left in
+    let h : e < 2 ^ 63 = c .before .before .before .if2 .left in
     rw (back a (s .fits .a), toZ-pos w64 h)
     (eqb-bits (pos e *ℤ a) b (product c) (s .fits .b) ∙ eqZ-comm (pos e *ℤ a) b
-    ∙ sym (joins-within e a b (not-zero a (c .before .before .before .before .before .if1 .left)) h (product c)))
+    ∙ sym (joins-within e a b (not-zero a (c .before .before .before .before .if1 .left)) h (product c)))
+
+returns-5 : tie.Need-returns-5
+returns-5 c =
+    let s = c .before .before .before .before .before in
+    let a = s .args .a in
+    let e = s .args .e in
+    sym (joins-long e a (s .args .b) (not-zero a (c .before .before .before .before .if1 .left)) (omega (arith, c .before .before .if3 .left))
+    (leb-false (natAbs a) (roomOf a / e) (sym (tested (c .before)) ∙ c .if4 .left)))
 
 pub joins-spec : {M : Type 1} → statement M
 joins-spec =
@@ -96,10 +92,8 @@ joins-spec =
     returns
     returns-2
     returns-3
-    room-requires
-    div-if4
-    magnitude-requires
-    returns-4
+    product-in-range-requires
     cast-s
     mul-result
+    returns-4
     returns-5)

@@ -1,7 +1,8 @@
--- `fuse::kept_axes` meets its contract. The invariant: those kept of the first i axes are found. Assumes nothing.
-use mathlib.Core.Path.{refl}
+-- `fuse::kept_axes` meets its contract. The invariant: those kept of the first i places are found. Assumes nothing.
+use mathlib.Core.Path.{_≡_, refl, _∙_}
 use mathlib.Core.Logic.{⊎-elim}
-use Prim.Native.Nat.{_-_, _≤_}
+use Prim.Native.Nat.{ℕ, _-_, _≤_, _<_}
+use lib.ListN.{length}
 use native.Mathlib.Omega.{arith}
 use Rattle.laws.specs.Base.Filling.{fill-none}
 use Rattle.fuse.proofs.Keeping.{Found, found-one, found-other, out-some, out-none, out-first}
@@ -9,25 +10,37 @@ use Rattle.fuse.proofs.kept_axes.Statement.{statement}
 use Rattle.fuse.proofs.kept_axes.Tie as tie
 
 abbrev Inv-loop : tie.InvT-loop
-Inv-loop fused rank axes₀ count₀ i₀ axes count i = (i ≤ rank) × Found fused i axes count
+Inv-loop fused order rank extents₀ axes₀ count₀ i₀ extents axes count i = (i ≤ rank) × Found fused order i extents axes count
 
 abbrev μ-loop : tie.MeasureT-loop
-μ-loop fused rank axes₀ count₀ i₀ axes count i = rank - i
+μ-loop fused order rank extents₀ axes₀ count₀ i₀ extents axes count i = rank - i
 
 loop-holds : tie.Need-loop-holds Inv-loop μ-loop
-loop-holds c = (omega arith, record { few = omega arith; stored = fill-none 64 0; number = refl })
+loop-holds c = (omega arith, record { few = omega arith; lengths = c .pre .1 .0 ∙ fill-none 64 0; names = c .pre .1 .1 ∙ fill-none 64 0; number = refl })
 
-mul-if1 : tie.Need-mul-if1 Inv-loop μ-loop
-mul-if1 c = omega arith
+mul-f : tie.Need-mul-f Inv-loop μ-loop
+mul-f c = omega arith
 
-element-copy-out-if1 : tie.Need-element-copy-out-if1 Inv-loop μ-loop
-element-copy-out-if1 c = omega arith
+element-copy-out-f : tie.Need-element-copy-out-f Inv-loop μ-loop
+element-copy-out-f c = omega arith
+
+mul-a : tie.Need-mul-a Inv-loop μ-loop
+mul-a c = omega arith
+
+element-copy-out-a : tie.Need-element-copy-out-a Inv-loop μ-loop
+element-copy-out-a c = omega arith
+
+mul-extents : tie.Need-mul-extents Inv-loop μ-loop
+mul-extents c = omega arith
+
+element-write-extents : tie.Need-element-write-extents Inv-loop μ-loop
+element-write-extents c = omega arith
 
 mul-axes : tie.Need-mul-axes Inv-loop μ-loop
 mul-axes c = omega arith
 
-array-write-axes : tie.Need-array-write-axes Inv-loop μ-loop
-array-write-axes c = omega arith
+element-write-axes : tie.Need-element-write-axes Inv-loop μ-loop
+element-write-axes c = omega arith
 
 add-count : tie.Need-add-count Inv-loop μ-loop
 add-count c = omega arith
@@ -42,41 +55,53 @@ loop-again : tie.Need-loop-again Inv-loop μ-loop
 loop-again c =
     let l = c .before .before .before in
     let s = l .before in
-    let k = c .if1 in
     let t = c .before .before .loop-test in
-    let F = s .args .fused .now in (
+    let k = c .if1 in
+    let F = s .args .fused .now in
+    let O = s .args .order .now in
+    let h : l .loop .i < length (s .args .fused .now) = omega (arith, t, s .pre .0) in
+    let g : l .loop .i < 64 = omega (arith, t, s .pre .0) in (
       omega (arith, t),
       ⊎-elim
-          (λ w. found-other F (l .loop .axes) (l .loop .i) (l .loop .count) (omega (arith, t, s .pre)) (omega (arith, t, s .pre)) (l .loop .inv .1) (k .axes) (k .count) (w .0 .taken) (w .1) (w .2))
-          (λ w. found-one F (l .loop .axes) (l .loop .i) (l .loop .count) (omega (arith, t, s .pre)) (omega (arith, t, s .pre)) (l .loop .inv .1) (k .axes) (k .count) (w .0 .left) (w .1) (w .2))
+          (λ w. found-other F O (l .loop .extents) (l .loop .axes) (l .loop .i) (l .loop .count) h g (l .loop .inv .1) (k .extents) (k .axes) (k .count) (w .0 .taken) (w .2) (w .3) (w .4))
+          (λ w. found-one F O (l .loop .extents) (l .loop .axes) (l .loop .i) (l .loop .count) h g (l .loop .inv .1) (k .extents) (k .axes) (k .count) (w .0 .left) (w .1) (w .2) (w .3))
           (k .came),
     )
 
-array-write-axes-2 : tie.Need-array-write-axes-2 Inv-loop μ-loop
-array-write-axes-2 c = omega arith
+element-copy-out-f-2 : tie.Need-element-copy-out-f-2 Inv-loop μ-loop
+element-copy-out-f-2 c = omega arith
+
+element-copy-out-a-2 : tie.Need-element-copy-out-a-2 Inv-loop μ-loop
+element-copy-out-a-2 c = omega arith
+
+element-write-extents-2 : tie.Need-element-write-extents-2 Inv-loop μ-loop
+element-write-extents-2 c = omega arith
+
+element-write-axes-2 : tie.Need-element-write-axes-2 Inv-loop μ-loop
+element-write-axes-2 c = omega arith
 
 returns : tie.Need-returns Inv-loop μ-loop
 returns c =
-    let a = c .before .before in
-    let l = a .before in
+    let e = c .before .before .before .before in
+    let l = e .before in
     let s = l .before in
-    out-first (s .args .fused .now) (l .loop .axes) (l .loop .i) (s .args .rank) (l .loop .count) (l .loop .inv .1) (omega (arith, a .loop-test, l .loop .inv .0))
-    (c .before .if2 .taken) (c .if3 .taken) (omega (arith, s .pre))
+    out-first (s .args .fused .now) (s .args .order .now) (l .loop .extents) (l .loop .axes) (l .loop .i) (s .args .rank) (l .loop .count) (l .loop .inv .1) (omega (arith, e .loop-test, l .loop .inv .0))
+    (c .before .before .before .if2 .taken) (c .before .before .if3 .taken) (omega (arith, s .pre .0))
 
 returns-2 : tie.Need-returns-2 Inv-loop μ-loop
 returns-2 c =
-    let a = c .before .before in
-    let l = a .before in
+    let e = c .before .before in
+    let l = e .before in
     let s = l .before in
-    out-none (s .args .fused .now) (l .loop .axes) (l .loop .i) (s .args .rank) (l .loop .count) (l .loop .inv .1) (omega (arith, a .loop-test, l .loop .inv .0))
+    out-none (s .args .fused .now) (s .args .order .now) (l .loop .extents) (l .loop .axes) (l .loop .i) (s .args .rank) (l .loop .count) (l .loop .inv .1) (omega (arith, e .loop-test, l .loop .inv .0))
     (c .before .if2 .taken) (omega (arith, c .if3 .left))
 
 returns-3 : tie.Need-returns-3 Inv-loop μ-loop
 returns-3 c =
-    let a = c .before in
-    let l = a .before in
+    let e = c .before in
+    let l = e .before in
     let s = l .before in
-    out-some (s .args .fused .now) (l .loop .axes) (l .loop .i) (s .args .rank) (l .loop .count) (l .loop .inv .1) (omega (arith, a .loop-test, l .loop .inv .0)) (c .if2 .left)
+    out-some (s .args .fused .now) (s .args .order .now) (l .loop .extents) (l .loop .axes) (l .loop .i) (s .args .rank) (l .loop .count) (l .loop .inv .1) (omega (arith, e .loop-test, l .loop .inv .0)) (c .if2 .left)
 
 pub kept-axes-spec : {M : Type 1} → statement M
 kept-axes-spec =
@@ -85,15 +110,22 @@ kept-axes-spec =
     Inv-loop
     μ-loop
     loop-holds
-    mul-if1
-    element-copy-out-if1
+    mul-f
+    element-copy-out-f
+    mul-a
+    element-copy-out-a
+    mul-extents
+    element-write-extents
     mul-axes
-    array-write-axes
+    element-write-axes
     add-count
     add-i
     loop-less
     loop-again
-    array-write-axes-2
+    element-copy-out-f-2
+    element-copy-out-a-2
+    element-write-extents-2
+    element-write-axes-2
     returns
     returns-2
     returns-3)

@@ -1,34 +1,43 @@
 -- `fuse::plan_axes` meets its contract: what is fused are the layout's axes in the order. Assumes nothing.
-use mathlib.Core.Path.{ap, _∙_}
-use mathlib.Core.List.{List}
-use native.Mathlib.Nat.{mul-comm}
-use native.Mathlib.Omega.{arith}
 use lib.ListN.{length}
 use borrow.Author.Needs.{needs}
-use Rattle.strided.specs.Layout.{Axis}
-use Rattle.strided.specs.Fuse.{fusedAxes}
-use Rattle.arrange.specs.Axes.{axesArrays}
-use Rattle.arrange.proofs.Reading.{in-order}
+use Rattle.strided.specs.Base.{padded}
+use Rattle.strided.specs.Layout.{extents}
+use Rattle.strided.specs.Plan.{strideTable}
+use Rattle.fuse.proofs.Planning.{named, put-long, put-padded, made-long, as-planned}
 use Rattle.fuse.proofs.plan_axes.Statement.{statement}
 use Rattle.fuse.proofs.plan_axes.Tie as tie
 
-arrange-requires : tie.Need-arrange-requires
-arrange-requires c κs =
-    let s = c .before in
-    let t = s .pre in
-    let rows = mul-comm (s .args .operands) (length (s .args .extents .now)) in
-    (omega arith, ((t .few-operands, omega (arith, t .rows, rows)), ((t .places, t .few-axes), t .inside)))
+pick-into-requires : tie.Need-pick-into-requires
+pick-into-requires c κs = search needs
 
-fused-axes-requires : tie.Need-fused-axes-requires
-fused-axes-requires c κs = search needs
+fuse-dims-requires : tie.Need-fuse-dims-requires
+fuse-dims-requires c κs =
+    let p = c .before in
+    let t = p .before .before .before .pre .0 in
+    (named t, (put-long t (p .pick-into .ensures), put-padded t (p .pick-into .ensures)))
+
+compress-dims-requires : tie.Need-compress-dims-requires
+compress-dims-requires c κs =
+    let f = c .before .before .before in
+    let p = f .before .before in
+    let s = p .before .before .before in
+    (named (s .pre .0), (made-long (s .pre .0) (p .pick-into .ensures) (f .fuse-dims .ensures), s .pre .1))
 
 returns : tie.Need-returns
 returns c =
-    let a = c .before .before .before .before in
-    let s = a .before .before in
-    c .fused-axes .ensures
-    ∙ ap (λ (xs : List Axis). axesArrays (fusedAxes xs) (s .args .operands))
-    (in-order (s .pre) (a .arrange .result) (a .arrange .ensures))
+    let f = c .before .before .before .before in
+    let p = f .before .before in
+    let s = p .before .before .before in
+    let m = s .args .operands in
+    let t = s .pre .0 in
+    let put = p .pick-into .ensures in
+    let made = f .fuse-dims .ensures in
+    let found = c .compress-dims .ensures in (
+      as-planned t put made length (found .0),
+      (as-planned t put made (λ xs. padded 64 0 (extents xs)) (found .1 .0), as-planned t put made (λ xs. strideTable xs m) (found .1 .1)),
+    )
 
 pub plan-axes-spec : {M : Type 1} → statement M
-plan-axes-spec = tie.close (tie.spec arrange-requires fused-axes-requires returns)
+plan-axes-spec =
+    tie.close (tie.spec pick-into-requires fuse-dims-requires compress-dims-requires returns)

@@ -1,52 +1,53 @@
 -- `index::index_by` meets its contract. Assumes nothing.
-use mathlib.Core.Path.{_≡_, ap, _∙_}
-use native.Mathlib.Nat.{mul-comm}
+use mathlib.Core.Path.{_≡_, refl, ap, _∙_}
 use native.Mathlib.Omega.{arith}
 use lib.ListN.{length, take}
+use borrow.Author.Needs.{needs}
 use Rattle.strided.specs.Order.{pick}
 use Rattle.laws.specs.Base.Arrays.{length-padded}
-use borrow.Author.Needs.{needs}
 use Rattle.laws.specs.Base.Layouts.{within-length}
+use Rattle.fuse.proofs.Planning.{named, put-long, put-padded}
 use Rattle.index.proofs.Whole.{ready, put-in-order, put-within, put-total}
 use Rattle.index.proofs.index_by.Statement.{statement}
 use Rattle.index.proofs.index_by.Tie as tie
 
-arrange-requires : tie.Need-arrange-requires
-arrange-requires c κs =
-    let s = c .before .before in
-    let t = s .pre .0 in
-    let rows = mul-comm (s .args .operands) (length (s .args .extents .now)) in
-    (omega arith, ((t .few-operands, omega (arith, t .rows, rows)), ((t .places, t .few-axes), t .inside)))
+pick-into-requires : tie.Need-pick-into-requires
+pick-into-requires c κs = search needs
 
 fuse-dims-requires : tie.Need-fuse-dims-requires
-fuse-dims-requires c κs = search needs
+fuse-dims-requires c κs =
+    let p = c .before in
+    let t = p .before .before .before .before .pre .0 in
+    (named t, (put-long t (p .pick-into .ensures), put-padded t (p .pick-into .ensures)))
 
-picked-requires : tie.Need-picked-requires
-picked-requires c κs =
+pick-into-requires-2 : tie.Need-pick-into-requires-2
+pick-into-requires-2 c κs =
     let s = c .before .before .before .before .before .before .before in
     let long : length (s .args .index .now) ≡ length (s .args .extents .now) = within-length (s .args .extents .now) (s .args .index .now) (s .pre .1 .0) in
-    ((s .pre .0 .places, s .pre .0 .few-axes), λ j h. omega (arith, s .pre .0 .inside j h, long))
+    ((s .pre .0 .places, s .pre .0 .few-axes), (λ j h. omega (arith, s .pre .0 .inside j h, long), refl))
 
 ravel-index-requires : tie.Need-ravel-index-requires
 ravel-index-requires c κs =
-    let p = c .before .before .before .before in
-    let f = p .before in
-    let a = f .before .before .before .before in
-    let s = a .before .before .before in
-    let w = ready (s .pre .0) (a .arrange .result) (a .arrange .ensures) (f .fuse-dims .result) (f .fuse-dims .ensures) in
-    let long : length (p .picked .result) ≡ 64 = ap length (p .picked .ensures) ∙ length-padded 0 64 (pick 0 (s .args .index .now) (take (length (s .args .extents .now)) (s .args .order .now))) in
-    ((w .made-long, (w .fused-long, (long, s .pre .0 .few-axes))), (put-within w (s .args .index .now) (p .picked .result) (s .pre .1 .0) (p .picked .ensures), put-total w (s .pre .1 .1)))
+    let q = c .before .before .before in
+    let f = q .before .before in
+    let p = f .before .before in
+    let s = p .before .before .before .before in
+    let w = ready (s .pre .0) (p .pick-into .ensures) (f .fuse-dims .ensures) in
+    let at = q .pick-into2 .ensures in
+    let long = ap length at ∙ length-padded 0 64 (pick 0 (s .args .index .now) (take (length (s .args .extents .now)) (s .args .order .now))) in
+    ((w .made-long, (w .fused-long, (long, s .pre .0 .few-axes))), (put-within w (s .args .index .now) _ (s .pre .1 .0) at, put-total w (s .pre .1 .1)))
 
 returns : tie.Need-returns
 returns c =
-    let p = c .before .before .before .before .before in
-    let f = p .before in
-    let a = f .before .before .before .before in
-    let s = a .before .before .before in
-    let w = ready (s .pre .0) (a .arrange .result) (a .arrange .ensures) (f .fuse-dims .result) (f .fuse-dims .ensures) in
-    c .ravel-index .ensures ∙ w .planned (s .args .index .now) (p .picked .result) (put-in-order w (s .args .index .now) (p .picked .result) (s .pre .1 .0) (p .picked .ensures)) (p .picked .ensures)
+    let q = c .before .before .before .before in
+    let f = q .before .before in
+    let p = f .before .before in
+    let s = p .before .before .before .before in
+    let w = ready (s .pre .0) (p .pick-into .ensures) (f .fuse-dims .ensures) in
+    let at = q .pick-into2 .ensures in
+    w .planned (s .args .index .now) _ (c .ravel-index .result) (put-in-order w (s .args .index .now) _ (s .pre .1 .0) at) at (c .ravel-index .ensures)
 
 pub index-by-spec : {M : Type 1} → statement M
 index-by-spec =
     tie.close
-    (tie.spec arrange-requires fuse-dims-requires picked-requires ravel-index-requires returns)
+    (tie.spec pick-into-requires fuse-dims-requires pick-into-requires-2 ravel-index-requires returns)

@@ -9,17 +9,17 @@ axes-of-requires c κs = search needs
 
 compute-costs-requires : tie.Need-compute-costs-requires
 compute-costs-requires c κs =
-    let f = c .before .before in
-    let s = f .before .before in
+    let f = c .before in
+    let s = f .before .before .before .before in
     let a = s .args in
-    (s .pre .1, (s .pre .0 .operands-few, few-made (a .extents .now) (a .operands) (a .strides .now) (a .purpose) (s .pre .0) (f .axes-of .result) (f .axes-of .ensures)))
+    (s .pre .1, (s .pre .0 .operands-few, few-made (a .extents .now) (a .operands) (a .strides .now) (a .purpose) (s .pre .0) (f .axes-of .ensures .0)))
 
 returns : tie.Need-returns
 returns c =
-    let f = c .before .before .before in
-    let s = f .before .before in
+    let f = c .before .before in
+    let s = f .before .before .before .before in
     let a = s .args in
-    costs-made (a .extents .now) (a .operands) (a .strides .now) (a .purpose) (s .pre .0) (f .axes-of .result) (f .axes-of .ensures) (c .compute-costs .result) (c .compute-costs .ensures)
+    costs-made (a .extents .now) (a .operands) (a .strides .now) (a .purpose) (s .pre .0) (f .axes-of .ensures .0) (f .axes-of .ensures .1 .1) (c .compute-costs .ensures)
 
 pub costs-of-spec : {M : Type 1} → statement M
 costs-of-spec = tie.close (tie.spec axes-of-requires compute-costs-requires returns)

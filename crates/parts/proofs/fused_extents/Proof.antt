@@ -1,8 +1,6 @@
 -- `parts::fused_extents` meets its contract. Assumes nothing.
-use native.Mathlib.Nat.{mul-comm}
-use native.Mathlib.Omega.{arith}
-use lib.ListN.{length}
 use borrow.Author.Needs.{needs}
+use Rattle.fuse.proofs.Planning.{named, put-long, put-padded}
 use Rattle.parts.proofs.Fusing.{ordered, fused-made}
 use Rattle.parts.proofs.fused_extents.Statement.{statement}
 use Rattle.parts.proofs.fused_extents.Tie as tie
@@ -10,27 +8,31 @@ use Rattle.parts.proofs.fused_extents.Tie as tie
 fusing-order-requires : tie.Need-fusing-order-requires
 fusing-order-requires c κs = search needs
 
-arrange-requires : tie.Need-arrange-requires
-arrange-requires c κs =
-    let f = c .before in
+pick-into-requires : tie.Need-pick-into-requires
+pick-into-requires c κs =
+    let f = c .before .before in
     let s = f .before .before in
     let a = s .args in
-    let t = ordered (a .extents .now) (a .operands) (a .strides .now) (a .purpose) (s .pre) (f .fusing-order .result) (f .fusing-order .ensures) in
-    let rows = mul-comm (a .operands) (length (a .extents .now)) in
-    (omega arith, ((t .few-operands, omega (arith, t .rows, rows)), ((t .places, t .few-axes), t .inside)))
+    let t = ordered (a .extents .now) (a .operands) (a .strides .now) (a .purpose) (s .pre .0) (f .fusing-order .ensures) in
+    ((t .places, t .few-axes), (t .inside, s .pre .1))
 
 fuse-dims-requires : tie.Need-fuse-dims-requires
-fuse-dims-requires c κs = search needs
+fuse-dims-requires c κs =
+    let p = c .before .before in
+    let f = p .before .before .before in
+    let s = f .before .before in
+    let a = s .args in
+    let t = ordered (a .extents .now) (a .operands) (a .strides .now) (a .purpose) (s .pre .0) (f .fusing-order .ensures) in
+    (named t, (put-long t (p .pick-into .ensures), put-padded t (p .pick-into .ensures)))
 
 returns : tie.Need-returns
 returns c =
-    let d = c .before .before .before .before in
-    let f = d .before .before in
+    let p = c .before .before .before in
+    let f = p .before .before .before in
     let s = f .before .before in
     let a = s .args in
-    fused-made (a .extents .now) (a .operands) (a .strides .now) (a .purpose) (s .pre) (f .fusing-order .result) (f .fusing-order .ensures) (d .arrange .result) (c .fuse-dims .result) (d .arrange .ensures) (c .fuse-dims .ensures)
+    fused-made (a .extents .now) (a .operands) (a .strides .now) (a .purpose) (s .pre .0) (f .fusing-order .ensures) (p .pick-into .ensures) (c .fuse-dims .ensures)
 
 pub fused-extents-spec : {M : Type 1} → statement M
 fused-extents-spec =
-    tie.close
-    (tie.spec fusing-order-requires arrange-requires fuse-dims-requires returns)
+    tie.close (tie.spec fusing-order-requires pick-into-requires fuse-dims-requires returns)

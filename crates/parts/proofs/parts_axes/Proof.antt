@@ -1,13 +1,14 @@
 -- `parts::parts_axes` meets its contract. Assumes nothing.
 use borrow.Author.Needs.{needs}
-use mathlib.Core.Path.{_≡_, ap, _∙_}
+use mathlib.Core.Path.{_≡_, refl, ap, _∙_}
 use mathlib.Core.List.{[], _∷_}
 use lib.ListN.{length}
+use Rattle.strided.specs.Base.{padded}
+use Rattle.strided.specs.Layout.{extents}
 use Rattle.strided.specs.Fuse.{planAxes}
+use Rattle.strided.specs.Plan.{strideTable}
 use Rattle.strided.specs.Refusals.{answered}
 use Rattle.strided.specs.declared.Answer.the-variants.{Served}
-use Rattle.arrange.specs.Axes.{axesArrays}
-use Rattle.arrange.specs.declared.Axes.{Axes}
 use Rattle.parts.specs.Answers.{purposeOf, shapeRefused}
 use Rattle.parts.proofs.Laws.{answer-of, part-refused, part-served, shape-fits}
 use Rattle.parts.proofs.parts_axes.Statement.{statement}
@@ -38,8 +39,9 @@ enum-told c = search needs
 
 axes-of-requires : tie.Need-axes-of-requires
 axes-of-requires c κs =
-    let a = c .before .before .before .before .before .before .args in
-    shape-fits (a .extents .now) (a .sizes .now) (a .strides .now) (purposeOf (a .kind) (a .chosen)) (served c)
+    let t = c .before .before .before .before in
+    let a = t .before .before .before .before .before .before .args in
+    (shape-fits (a .extents .now) (a .sizes .now) (a .strides .now) (purposeOf (a .kind) (a .chosen)) (served t), (refl, refl))
 
 returns : tie.Need-returns
 returns c =
@@ -52,16 +54,17 @@ returns c =
 
 returns-2 : tie.Need-returns-2
 returns-2 c =
-    let f = c .before .before .before in
-    let t = f .before in
+    let f = c .before in
+    let t = f .before .before .before .before .before in
     let a = t .before .before .before .before .before .before .args in
-    let u = purposeOf (a .kind) (a .chosen) in
-    let o = shapeRefused (a .extents .now) (a .sizes .now) (a .strides .now) u in
-    let made : f .axes-of .result ≡ axesArrays (planAxes (a .extents .now) (length (a .sizes .now)) (a .strides .now) u) (length (a .sizes .now)) =
-    f .axes-of .ensures
-    ∙ ap (λ u. axesArrays (planAxes (a .extents .now) (length (a .sizes .now)) (a .strides .now) u) (length (a .sizes .now))) (t .before .before .before .purpose-of .ensures) in (
-      part-served o (served t) (ap (λ (x : Axes). x .rank ∷ []) made),
-      (part-served o (served t) (ap (λ (x : Axes). x .extents) made), part-served o (served t) (ap (λ (x : Axes). x .strides) made)),
+    let es = a .extents .now in
+    let m = length (a .sizes .now) in
+    let ss = a .strides .now in
+    let o = shapeRefused es (a .sizes .now) ss (purposeOf (a .kind) (a .chosen)) in
+    let e = t .before .before .before .purpose-of .ensures in
+    let found = f .axes-of .ensures in (
+      part-served o (served t) (ap (λ n. n ∷ []) (found .0 ∙ ap (λ u. length (planAxes es m ss u)) e)),
+      (part-served o (served t) (found .1 .0 ∙ ap (λ u. padded 64 0 (extents (planAxes es m ss u))) e), part-served o (served t) (found .1 .1 ∙ ap (λ u. strideTable (planAxes es m ss u) m) e)),
     )
 
 pub parts-axes-spec : {M : Type 1} → statement M

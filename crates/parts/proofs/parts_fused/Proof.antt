@@ -1,6 +1,6 @@
 -- `parts::parts_fused` meets its contract. Assumes nothing.
 use borrow.Author.Needs.{needs}
-use mathlib.Core.Path.{_≡_, ap, _∙_}
+use mathlib.Core.Path.{_≡_, refl, ap, _∙_}
 use lib.ListN.{length}
 use Rattle.strided.specs.Base.{padded}
 use Rattle.strided.specs.Refusals.{answered}
@@ -35,8 +35,9 @@ enum-told c = search needs
 
 fused-extents-requires : tie.Need-fused-extents-requires
 fused-extents-requires c κs =
-    let a = c .before .before .before .before .before .before .args in
-    shape-fits (a .extents .now) (a .sizes .now) (a .strides .now) (purposeOf (a .kind) (a .chosen)) (served c)
+    let t = c .before .before in
+    let a = t .before .before .before .before .before .before .args in
+    (shape-fits (a .extents .now) (a .sizes .now) (a .strides .now) (purposeOf (a .kind) (a .chosen)) (served t), refl)
 
 returns : tie.Need-returns
 returns c =
@@ -48,7 +49,7 @@ returns c =
 
 returns-2 : tie.Need-returns-2
 returns-2 c =
-    let t = c .before in
+    let t = c .before .before .before in
     let a = t .before .before .before .before .before .before .args in
     part-served (shapeRefused (a .extents .now) (a .sizes .now) (a .strides .now) (purposeOf (a .kind) (a .chosen))) (served t)
     (c .fused-extents .ensures ∙ ap (λ u. padded 64 0 (fusedExtents (a .extents .now) (length (a .sizes .now)) (a .strides .now) u)) (t .before .before .before .purpose-of .ensures))

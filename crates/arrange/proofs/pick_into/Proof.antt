@@ -1,4 +1,4 @@
--- `arrange::picked` meets its contract. The invariant: the first j elements are picked. Assumes nothing.
+-- `arrange::pick_into` meets its contract. The invariant: the first j elements are picked. Assumes nothing.
 use mathlib.Core.Path.{_≡_, ap, _∙_}
 use mathlib.Core.List.{List}
 use Prim.Native.Nat.{ℕ, _-_, _≤_}
@@ -8,8 +8,8 @@ use Rattle.strided.specs.Base.{padded}
 use Rattle.strided.specs.Order.{pick}
 use Rattle.laws.specs.Base.Filling.{fill-none}
 use Rattle.arrange.proofs.Turns.{picked-turn, picked-all}
-use Rattle.arrange.proofs.picked.Statement.{statement}
-use Rattle.arrange.proofs.picked.Tie as tie
+use Rattle.arrange.proofs.pick_into.Statement.{statement}
+use Rattle.arrange.proofs.pick_into.Tie as tie
 
 abbrev Inv-loop : tie.InvT-loop
 Inv-loop xs order count out₀ j₀ out j = (j ≤ count) × (out ≡ padded 64 0 (take j (pick 0 xs (take count order))))
@@ -18,7 +18,7 @@ abbrev μ-loop : tie.MeasureT-loop
 μ-loop xs order count out₀ j₀ out j = count - j
 
 loop-holds : tie.Need-loop-holds Inv-loop μ-loop
-loop-holds c = (omega arith, fill-none 64 0)
+loop-holds c = (omega arith, c .pre .1 .1 ∙ fill-none 64 0)
 
 mul-a : tie.Need-mul-a Inv-loop μ-loop
 mul-a c = omega arith
@@ -29,16 +29,16 @@ element-copy-out-a c = omega arith
 mul-out : tie.Need-mul-out Inv-loop μ-loop
 mul-out c =
     let s = c .before .before .before in
-    omega (arith, s .pre .1 (c .before .before .loop .j) (c .before .loop-test .taken))
+    omega (arith, s .pre .1 .0 (c .before .before .loop .j) (c .before .loop-test .taken))
 
 shared-slice-read-out : tie.Need-shared-slice-read-out Inv-loop μ-loop
-shared-slice-read-out c = c .before .before .before .before .pre .1 (c .before .before .before .loop .j) (c .before .before .loop-test .taken)
+shared-slice-read-out c = c .before .before .before .before .pre .1 .0 (c .before .before .before .loop .j) (c .before .before .loop-test .taken)
 
 mul-out-2 : tie.Need-mul-out-2 Inv-loop μ-loop
 mul-out-2 c = omega arith
 
-array-write-out : tie.Need-array-write-out Inv-loop μ-loop
-array-write-out c = omega arith
+element-write-out : tie.Need-element-write-out Inv-loop μ-loop
+element-write-out c = omega arith
 
 add-j : tie.Need-add-j Inv-loop μ-loop
 add-j c = omega arith
@@ -62,8 +62,8 @@ returns c =
     let s = l .before in
     l .loop .inv .1 ∙ ap (padded 64 0) (picked-all (s .args .order .now) (s .args .count) (s .pre .0 .0) (s .pre .0 .1) 0 (s .args .xs .now) (l .loop .j) (c .loop-test .left))
 
-pub picked-spec : {M : Type 1} → statement M
-picked-spec =
+pub pick-into-spec : {M : Type 1} → statement M
+pick-into-spec =
     tie.close
     (tie.spec
     Inv-loop
@@ -74,7 +74,7 @@ picked-spec =
     mul-out
     shared-slice-read-out
     mul-out-2
-    array-write-out
+    element-write-out
     add-j
     loop-less
     loop-again

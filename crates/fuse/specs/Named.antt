@@ -1,0 +1,13 @@
+-- Axes named by an order, operand k's stride on axis a at k * pitch + a of a flat list. Assumes nothing.
+use mathlib.Core.Path.{_≡_}
+use mathlib.Core.List.{List}
+use Prim.Native.Nat.{ℕ, _*_, _≤_, _<_}
+use lib.IntN.{ℤ}
+use lib.ListN.{length, getD}
+
+pub record Named (ss : List ℤ) (pitch operands : ℕ) (order : List ℕ) (rank : ℕ) : Type 0 where
+  pub few-axes : rank ≤ 64
+  pub few-operands : operands ≤ 8
+  pub rows : operands * pitch ≤ length ss
+  pub places : length order ≡ 64
+  pub inside : (j : ℕ) → j < rank → getD order j 0 < pitch
