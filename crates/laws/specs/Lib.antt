@@ -17,6 +17,8 @@
 --   row 9, exact                                                       Walk/Row9          row9-exact
 --   row 10, exact                                                      Walk/Row10         row10-exact
 --   demand 3                                                           Demand3/Whole      demand3, exactly-one
+--   the text's figures: the cells are the layout's total               Text/Totals        walk-cells, planned-cells, walk-blocks
+--   a planned plan's walk begins at the starts 0                       Text/Begins        planned-begins
 pub mod Base
 pub mod Refusals
 pub mod Order
@@ -25,3 +27,4 @@ pub mod Cut
 pub mod Walk
 pub mod Demand3
 pub mod Plan
+pub mod Text

@@ -92,7 +92,7 @@ fn check_begin<'a, 'b>(
 }
 
 // "Zero extent: no block."
-fn no_block(rank: usize, e: &[u64]) -> bool
+pub fn no_block(rank: usize, e: &[u64]) -> bool
     requires { ⌜ rank ≤ length (now e) ⌝ }
     ensures { λ r. ⌜ r ≡ hasZero (take rank (now (e .entry))) ⌝ }
 {

@@ -78,7 +78,7 @@ blocks-of axs hw = length-map (counters axs) (blockAt axs) ∙ sym (sum-ones (co
         (λ s t. sum-map (inner axs t) (λ v. s ∷ v) (λ c. 1) ∙ omega arith)
         ∙ ap₂ (λ a b. a * b) (sum-ones (startsOf e w)) (inner-total axs (hw .1))
 
-cut-total : (es bs : List ℕ) → cellCount (cut es bs) ≡ total es
+pub cut-total : (es bs : List ℕ) → cellCount (cut es bs) ≡ total es
 cut-total [] bs = refl
 cut-total (e ∷ es) [] = ap (λ n. e * n) (cut-total es [])
 cut-total (e ∷ es) (b ∷ bs) = ap (λ n. e * n) (cut-total es bs)

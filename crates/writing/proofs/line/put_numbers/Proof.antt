@@ -1,0 +1,64 @@
+use borrow.Author.Needs.{needs}
+use Prim.Native.Nat.{_+_, _-_}
+use lib.ListN.{length, getD, drop}
+use Rattle.strided.specs.Base.{over}
+use Rattle.strided.specs.Text.{field}
+use Rattle.writing.proofs.Lines.{over-at, over-out}
+use Rattle.writing.proofs.Putting.{Doing, doing-start, doing-room, doing-next, doing-end, doing-is, doing-length}
+use Rattle.writing.proofs.line.put_numbers.Statement.{statement}
+use Rattle.writing.proofs.line.put_numbers.Tie as tie
+
+abbrev Inv-loop : tie.InvT-loop
+Inv-loop out₀ at numbers next₀ i₀ out next i = Doing out₀ at (over numbers field) out next (over (drop i numbers) field)
+
+abbrev μ-loop : tie.MeasureT-loop
+μ-loop out₀ at numbers next₀ i₀ out next i = length numbers - i
+
+loop-holds : tie.Need-loop-holds Inv-loop μ-loop
+loop-holds c = doing-start _ _ _ (c .before .before .pre)
+
+mul-put-field : tie.Need-mul-put-field Inv-loop μ-loop
+mul-put-field c = search needs
+
+shared-slice-read-put-field : tie.Need-shared-slice-read-put-field Inv-loop μ-loop
+shared-slice-read-put-field c = search needs
+
+put-field-requires : tie.Need-put-field-requires Inv-loop μ-loop
+put-field-requires c κs =
+    let l = c .before .before .before .loop in
+    let ns = c .before .before .before .before .before .before .args .numbers .now in
+    doing-room (field (getD ns (l .i) 0)) (over (drop (l .i + 1) ns) field) (doing-is (l .inv) (over-at 0 field ns (l .i) (c .before .before .loop-test .taken)))
+
+add-i : tie.Need-add-i Inv-loop μ-loop
+add-i c = search needs
+
+loop-less : tie.Need-loop-less Inv-loop μ-loop
+loop-less c = search needs
+
+loop-again : tie.Need-loop-again Inv-loop μ-loop
+loop-again c =
+    let l = c .before .before .before .before .before .before .loop in
+    let ns = c .before .before .before .before .before .before .before .before .before .args .numbers .now in
+    doing-next (field (getD ns (l .i) 0)) _ (doing-is (l .inv) (over-at 0 field ns (l .i) (c .before .before .before .before .before .loop-test .taken))) (c .before .before .put-field .ensures)
+
+same-length : tie.Need-same-length Inv-loop μ-loop
+same-length c = doing-length (c .before .loop .inv)
+
+returns : tie.Need-returns Inv-loop μ-loop
+returns c = doing-end (doing-is (c .before .loop .inv) (over-out 0 field _ _ (c .loop-test .left)))
+
+pub put-numbers-spec : {M : Type 1} → statement M
+put-numbers-spec =
+    tie.close
+    (tie.spec
+    Inv-loop
+    μ-loop
+    loop-holds
+    mul-put-field
+    shared-slice-read-put-field
+    put-field-requires
+    add-i
+    loop-less
+    loop-again
+    same-length
+    returns)

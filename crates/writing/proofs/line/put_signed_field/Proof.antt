@@ -1,0 +1,25 @@
+use native.Mathlib.Omega.{arith}
+use mathlib.Core.Path.{ap}
+use mir.Facts.{toZ-ofZ}
+use Rattle.strided.specs.Text.{signedField}
+use Rattle.writing.proofs.Putting.{wrote-then, wrote-is}
+use borrow.Author.Needs.{needs}
+use Rattle.writing.proofs.line.put_signed_field.Statement.{statement}
+use Rattle.writing.proofs.line.put_signed_field.Tie as tie
+
+put-byte-requires : tie.Need-put-byte-requires
+put-byte-requires c κs = search needs
+
+put-i64-requires : tie.Need-put-i64-requires
+put-i64-requires c κs = rw (toZ-ofZ (c .before .before .before .before .before .before .fits .z)) (omega arith)
+
+same-length : tie.Need-same-length
+same-length c = search needs
+
+returns : tie.Need-returns
+returns c =
+    wrote-is (wrote-then (c .before .before .before .before .before .before .put-byte .ensures) (c .before .before .put-i64 .ensures) (omega arith))
+    (ap signedField (toZ-ofZ (c .before .before .before .before .before .before .before .before .before .fits .z)))
+
+pub put-signed-field-spec : {M : Type 1} → statement M
+put-signed-field-spec = tie.close (tie.spec put-byte-requires put-i64-requires same-length returns)

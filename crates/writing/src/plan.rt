@@ -1,0 +1,231 @@
+// The whole output of a plan: its K, A, B and Z lines. The walk runs on local arrays and checks no block again: the precondition says that
+// a walk of the plan begins at the starts 0. Measuring ends at the first line that passes the limit.
+ghost use mathlib.Core.Path.{_≡_};
+ghost use Prim.Native.Nat.{_+_, _*_, _≤_, _<_};
+ghost use lib.ListN.{length};
+ghost use Rattle.strided.specs.Base.{over, run};
+ghost use Rattle.strided.specs.Text.{printedPlan, filling};
+ghost use Rattle.states.specs.Reaches.{planOf};
+ghost use Rattle.writing.specs.Put.{Wrote};
+ghost use Rattle.writing.specs.Line.{longest};
+ghost use Rattle.writing.specs.Plan.{Printable, measured, columnTo, axisAt, restFrom};
+use super::line::axis_len;
+use super::line::block_len;
+use super::line::end_len;
+use super::line::put_axis;
+use super::line::put_block;
+use super::line::put_end;
+use super::line::put_rank;
+use super::line::rank_len;
+use advance::advance;
+use advance::inner_axes;
+use advance::length_of;
+use advance::tile_starts;
+use advance::widths;
+use states::no_block;
+
+// A text's length, or that it is more than the limit.
+pub enum Measured {
+    Fits(usize),
+    More,
+}
+
+// The strides of an axis, one for each operand.
+fn column(axis: usize, operands: usize, s: &[i64; 512]) -> [i64; 8]
+    requires { ⌜ (axis < 64) × (operands ≤ 8) ⌝ }
+    ensures { λ r. ⌜ r ≡ columnTo axis (now (s .entry)) operands ⌝ }
+{
+    let mut strides = [0i64; 8];
+    let mut k: usize = 0;
+    while k < operands {
+        let x = s[k * 64 + axis];
+        strides[k] = x;
+        k += 1;
+    }
+    strides
+}
+
+// The A line of an axis.
+fn axis_at_len<'a>(
+    axis: usize,
+    operands: usize,
+    e: &'a [u64; 64],
+    b: &'a [u64; 64],
+    s: &'a [i64; 512],
+) -> usize
+    requires { ⌜ (axis < 64) × (operands ≤ 8) ⌝ }
+    ensures { λ r. ⌜ (r ≡ length (axisAt operands (now (e .entry)) (now (b .entry)) (now (s .entry)) axis)) × (r ≤ longest) ⌝ }
+{
+    let strides = column(axis, operands, s);
+    axis_len(axis as u64, e[axis], b[axis], &strides[..operands])
+}
+
+fn put_axis_at<'a>(
+    out: &mut [u8],
+    at: usize,
+    axis: usize,
+    operands: usize,
+    e: &'a [u64; 64],
+    b: &'a [u64; 64],
+    s: &'a [i64; 512],
+) -> usize
+    requires { ⌜ (axis < 64) × (operands ≤ 8) ⌝ }
+    requires { ⌜ at + length (axisAt operands (now e) (now b) (now s) axis) ≤ length (now out) ⌝ }
+    ensures { λ r. ⌜ Wrote (now (out .entry)) at (axisAt operands (now (e .entry)) (now (b .entry)) (now (s .entry)) axis) (now (out .exit)) r ⌝ }
+{
+    let strides = column(axis, operands, s);
+    put_axis(out, at, axis as u64, e[axis], b[axis], &strides[..operands])
+}
+
+// The A lines of all axes.
+fn axes_len<'a>(
+    rank: usize,
+    operands: usize,
+    e: &'a [u64; 64],
+    b: &'a [u64; 64],
+    s: &'a [i64; 512],
+) -> usize
+    requires { ⌜ (rank ≤ 64) × (operands ≤ 8) ⌝ }
+    ensures { λ r. ⌜ (r ≡ length (over (run 0 rank) (axisAt operands (now (e .entry)) (now (b .entry)) (now (s .entry))))) × (r ≤ longest * rank) ⌝ }
+{
+    let mut k: usize = 0;
+    let mut i: usize = 0;
+    while i < rank {
+        k += axis_at_len(i, operands, e, b, s);
+        i += 1;
+    }
+    k
+}
+
+fn put_axes<'a>(
+    out: &mut [u8],
+    at: usize,
+    rank: usize,
+    operands: usize,
+    e: &'a [u64; 64],
+    b: &'a [u64; 64],
+    s: &'a [i64; 512],
+) -> usize
+    requires { ⌜ (rank ≤ 64) × (operands ≤ 8) ⌝ }
+    requires { ⌜ at + length (over (run 0 rank) (axisAt operands (now e) (now b) (now s))) ≤ length (now out) ⌝ }
+    ensures { λ r. ⌜ Wrote (now (out .entry)) at (over (run 0 rank) (axisAt operands (now (e .entry)) (now (b .entry)) (now (s .entry)))) (now (out .exit)) r ⌝ }
+{
+    let mut next = at;
+    let mut i: usize = 0;
+    while i < rank {
+        next = put_axis_at(out, next, i, operands, e, b, s);
+        i += 1;
+    }
+    next
+}
+
+// The B and Z lines behind `used` bytes. The Z figures are what the loop has counted.
+fn walk_len<'a>(
+    rank: usize,
+    operands: usize,
+    e: &'a [u64; 64],
+    b: &'a [u64; 64],
+    s: &'a [i64; 512],
+    used: usize,
+    limit: usize,
+) -> Measured
+    requires { ⌜ Printable (planOf rank operands (now e) (now b) (now s)) ⌝ }
+    requires { ⌜ used ≤ limit ⌝ }
+    ensures { λ r. ⌜ r ≡ measured (used + length (restFrom (planOf rank operands (now (e .entry)) (now (b .entry)) (now (s .entry))) 0)) limit ⌝ }
+{
+    let w = widths(rank, e, b);
+    let inner = inner_axes(rank, &w);
+    let mut c = [0u64; 64];
+    let mut o = [0i64; 8];
+    let mut t = tile_starts(rank, &w, &c);
+    let mut more = !no_block(rank, e);
+    let mut total = used;
+    let mut blocks: u64 = 0;
+    let mut cells: u64 = 0;
+    while more {
+        let size = length_of(rank, e, &w, &c);
+        let line = block_len(blocks, size, &o[..operands]);
+        if limit - total < line {
+            return Measured::More;
+        }
+        total += line;
+        blocks += 1;
+        cells += size;
+        more = advance(rank, inner, operands, e, &w, s, &mut t, &mut c, &mut o);
+    }
+    let line = end_len(blocks, cells);
+    if limit - total < line {
+        return Measured::More;
+    }
+    Measured::Fits(total + line)
+}
+
+fn put_walk<'a>(
+    out: &mut [u8],
+    at: usize,
+    rank: usize,
+    operands: usize,
+    e: &'a [u64; 64],
+    b: &'a [u64; 64],
+    s: &'a [i64; 512],
+) -> usize
+    requires { ⌜ Printable (planOf rank operands (now e) (now b) (now s)) ⌝ }
+    requires { ⌜ at + length (restFrom (planOf rank operands (now e) (now b) (now s)) 0) ≤ length (now out) ⌝ }
+    ensures { λ r. ⌜ Wrote (now (out .entry)) at (restFrom (planOf rank operands (now (e .entry)) (now (b .entry)) (now (s .entry))) 0) (now (out .exit)) r ⌝ }
+{
+    let w = widths(rank, e, b);
+    let inner = inner_axes(rank, &w);
+    let mut c = [0u64; 64];
+    let mut o = [0i64; 8];
+    let mut t = tile_starts(rank, &w, &c);
+    let mut more = !no_block(rank, e);
+    let mut next = at;
+    let mut number: u64 = 0;
+    let mut cells: u64 = 0;
+    while more {
+        let size = length_of(rank, e, &w, &c);
+        next = put_block(out, next, number, size, &o[..operands]);
+        number += 1;
+        cells += size;
+        more = advance(rank, inner, operands, e, &w, s, &mut t, &mut c, &mut o);
+    }
+    put_end(out, next, number, cells)
+}
+
+// THE LENGTH OF A PLAN'S OUTPUT, if it is at most `limit`.
+pub fn measure<'a>(
+    rank: usize,
+    operands: usize,
+    e: &'a [u64; 64],
+    b: &'a [u64; 64],
+    s: &'a [i64; 512],
+    limit: usize,
+) -> Measured
+    requires { ⌜ Printable (planOf rank operands (now e) (now b) (now s)) ⌝ }
+    ensures { λ r. ⌜ r ≡ measured (length (printedPlan (planOf rank operands (now (e .entry)) (now (b .entry)) (now (s .entry))))) limit ⌝ }
+{
+    let head = rank_len(rank as u64) + axes_len(rank, operands, e, b, s);
+    if limit < head {
+        return Measured::More;
+    }
+    walk_len(rank, operands, e, b, s, head, limit)
+}
+
+// THE OUTPUT, in bytes that have room for it; those behind it stay. It answers the output's length.
+pub fn write<'a>(
+    rank: usize,
+    operands: usize,
+    e: &'a [u64; 64],
+    b: &'a [u64; 64],
+    s: &'a [i64; 512],
+    out: &mut [u8],
+) -> usize
+    requires { ⌜ Printable (planOf rank operands (now e) (now b) (now s)) ⌝ }
+    requires { ⌜ length (printedPlan (planOf rank operands (now e) (now b) (now s))) ≤ length (now out) ⌝ }
+    ensures { λ r. ⌜ r ≡ length (printedPlan (planOf rank operands (now (e .entry)) (now (b .entry)) (now (s .entry)))) ⌝ }
+    ensures { λ r. ⌜ now (out .exit) ≡ filling (printedPlan (planOf rank operands (now (e .entry)) (now (b .entry)) (now (s .entry)))) (now (out .entry)) .room ⌝ }
+{
+    let first = put_rank(out, 0, rank as u64);
+    let then = put_axes(out, first, rank, operands, e, b, s);
+    put_walk(out, then, rank, operands, e, b, s)
+}
