@@ -1,0 +1,134 @@
+-- What a C entry answers and what it leaves in lent memory: 0 or more where the call is served, the refusal's number negated where it is
+-- refused, and then every lent byte as it was.
+-- Assumes nothing.
+use mathlib.Core.Path.{_≡_}
+use mathlib.Core.Bool.{Bool, cond, not}
+use mathlib.Core.List.{List, [], _∷_}
+use Prim.Native.Nat.{ℕ}
+use lib.Dec.{eqb}
+use lib.IntN.{ℤ, pos, negℤ}
+use lib.ListN.{getD}
+use Rattle.strided.specs.Refusals.{number}
+use Rattle.strided.specs.declared.Purpose.{Purpose}
+use Rattle.strided.specs.declared.Purpose.the-variants.{Pointwise, PointwiseInto, Fold}
+use Rattle.strided.specs.declared.Refusal.{Refusal}
+use Rattle.strided.specs.declared.Answer.{Answer}
+use Rattle.strided.specs.declared.Answer.the-variants.{Served, Refused}
+use Rattle.strided.specs.declared.Outcome.{Outcome}
+use Rattle.strided.specs.declared.Outcome.the-variants.{Block, Ended, Rejected}
+use Rattle.strided.specs.declared.Plan.{Plan}
+use Rattle.strided.specs.declared.Planned.{Planned}
+use Rattle.strided.specs.declared.Told.{Told}
+use Rattle.strided.specs.declared.Walk.{Walk}
+use Rattle.strided.specs.declared.Begun.{Begun}
+use Rattle.strided.specs.declared.Stepped.{Stepped}
+use Rattle.strided.specs.declared.Marked.{Marked}
+
+-- ---- numbers for what C has no word for
+
+-- a purpose is two numbers: 0 is pointwise with no chosen operand, 1 pointwise into the chosen one, and any other number a fold
+abbrev pub purposeOf : ℕ → ℕ → Purpose
+purposeOf kind chosen = cond (eqb kind 0) Pointwise (cond (eqb kind 1) (PointwiseInto chosen) (Fold chosen))
+
+-- a flag is 1 for yes and 0 for no; read back, any number but 0 is yes
+abbrev pub flag : Bool → ℕ
+flag b = cond b 1 0
+
+abbrev pub isSet : ℕ → Bool
+isSet n = not (eqb n 0)
+
+-- "the refusal's number negated"
+abbrev pub negated : Refusal → ℤ
+negated r = negℤ (pos (number r))
+
+-- ---- an answer and its lent memory
+
+-- `served` where the call is served
+abbrev pub codeOr : Answer → ℤ → ℤ
+codeOr Served served = served
+codeOr (Refused r) served = negated r
+
+-- memory that held `old`: the value handed out, or what it held
+abbrev pub kept : {A : Type 0} → Answer → A → A → A
+kept Served value old = value
+kept (Refused r) value old = old
+
+-- the entry answers r, and lent memory that held `old` holds `new`
+pub record Handed {A : Type 0} (answer : Answer) (value old new : A) (r : ℤ) : Type 0 where
+  pub code : r ≡ codeOr answer (pos 0)
+  pub memory : new ≡ kept answer value old
+
+-- a plan
+pub record PlanMemory : Type 0 where
+  pub rank : List ℕ
+  pub operands : List ℕ
+  pub extents : List ℕ
+  pub blocks : List ℕ
+  pub strides : List ℤ
+
+abbrev pub planMemory : Plan → PlanMemory
+planMemory p = record { rank = p .rank ∷ []; operands = p .operands ∷ []; extents = p .extents; blocks = p .blocks; strides = p .strides }
+
+abbrev pub Plans : Planned → PlanMemory → PlanMemory → ℤ → Type 0
+Plans p old new r = Handed (p .answer) (planMemory (p .plan)) old new r
+
+-- an index: its count and its places
+pub record IndexMemory : Type 0 where
+  pub count : List ℕ
+  pub index : List ℕ
+
+abbrev pub indexMemory : Told → IndexMemory
+indexMemory t = record { count = t .count ∷ []; index = t .index }
+
+abbrev pub Tells : Told → IndexMemory → IndexMemory → ℤ → Type 0
+Tells t old new r = Handed (t .answer) (indexMemory t) old new r
+
+-- a walk's state
+pub record WalkMemory : Type 0 where
+  pub ended : List ℕ
+  pub counters : List ℕ
+  pub offsets : List ℤ
+
+abbrev pub walkMemory : Walk → WalkMemory
+walkMemory w = record { ended = flag (w .ended) ∷ []; counters = w .counters; offsets = w .offsets }
+
+-- the state that such memory tells
+abbrev pub walkIn : WalkMemory → Walk
+walkIn m = record { ended = isSet (getD (m .ended) 0 0); counters = m .counters; offsets = m .offsets }
+
+abbrev pub Begins : Begun → WalkMemory → WalkMemory → ℤ → Type 0
+Begins b old new r = Handed (b .answer) (walkMemory (b .walk)) old new r
+
+-- the repeat mark is 1 for yes and 0 for no
+abbrev pub markCode : Marked → ℤ
+markCode m = codeOr (m .answer) (pos (flag (m .repeats)))
+
+-- ---- a step
+
+-- 1 for a block and 0 for the end
+abbrev pub stepCode : Outcome → ℤ
+stepCode Block = pos 1
+stepCode Ended = pos 0
+stepCode (Rejected r) = negated r
+
+-- at the end, as on a refusal, memory stays as it was
+abbrev pub keptStep : {A : Type 0} → Outcome → A → A → A
+keptStep Block value old = value
+keptStep Ended value old = old
+keptStep (Rejected r) value old = old
+
+-- the state, and the block: the plan index of its first cell, its length, and for each operand the first offset and the stride of axis 0
+pub record StepMemory : Type 0 where
+  pub walk : WalkMemory
+  pub counters : List ℕ
+  pub length : List ℕ
+  pub offsets : List ℤ
+  pub strides : List ℤ
+
+abbrev pub stepMemory : Stepped → StepMemory
+stepMemory s =
+    record { walk = walkMemory (s .walk); counters = s .counters; length = s .length ∷ []; offsets = s .offsets; strides = s .strides }
+
+pub record Steps (s : Stepped) (old new : StepMemory) (r : ℤ) : Type 0 where
+  pub code : r ≡ stepCode (s .answer)
+  pub memory : new ≡ keptStep (s .answer) (stepMemory s) old

@@ -1,0 +1,76 @@
+// Index finding from C.
+ghost use Rattle.strided.specs.Index.{toldOriginal, toldPlan};
+ghost use Rattle.gougelily.specs.Handed.{purposeOf, Tells};
+use crate::negated;
+use crate::purpose_of;
+use finding::original_index;
+use finding::plan_index;
+use strided::Answer;
+
+// The original index of a plan index.
+#[no_mangle]
+pub extern "C" fn gougelily_original_index<'a>(
+    extents: &'a [u64],
+    sizes: &'a [u64],
+    strides: &'a [i64],
+    purpose: u64,
+    chosen: u64,
+    counters: &'a [u64],
+    count: &mut [usize; 1],
+    index: &mut [u64; 64],
+) -> i64
+    ensures { λ r. ⌜ Tells (toldOriginal (now (extents .entry)) (now (sizes .entry)) (now (strides .entry)) (purposeOf purpose chosen) (now (counters .entry))) (record { count = now (count .entry); index = now (index .entry) }) (record { count = now (count .exit); index = now (index .exit) }) r ⌝ }
+{
+    let told = original_index(
+        extents,
+        sizes,
+        strides,
+        purpose_of(purpose, chosen),
+        counters,
+    );
+    let answer = told.answer;
+    match answer {
+        Answer::Refused(refusal) => negated(refusal),
+        Answer::Served => {
+            let places = told.count;
+            let found = told.index;
+            *count = [places];
+            *index = found;
+            0
+        }
+    }
+}
+
+// The plan index of an original index.
+#[no_mangle]
+pub extern "C" fn gougelily_plan_index<'a>(
+    extents: &'a [u64],
+    sizes: &'a [u64],
+    strides: &'a [i64],
+    purpose: u64,
+    chosen: u64,
+    original: &'a [u64],
+    count: &mut [usize; 1],
+    index: &mut [u64; 64],
+) -> i64
+    ensures { λ r. ⌜ Tells (toldPlan (now (extents .entry)) (now (sizes .entry)) (now (strides .entry)) (purposeOf purpose chosen) (now (original .entry))) (record { count = now (count .entry); index = now (index .entry) }) (record { count = now (count .exit); index = now (index .exit) }) r ⌝ }
+{
+    let told = plan_index(
+        extents,
+        sizes,
+        strides,
+        purpose_of(purpose, chosen),
+        original,
+    );
+    let answer = told.answer;
+    match answer {
+        Answer::Refused(refusal) => negated(refusal),
+        Answer::Served => {
+            let places = told.count;
+            let found = told.index;
+            *count = [places];
+            *index = found;
+            0
+        }
+    }
+}

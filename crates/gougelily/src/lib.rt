@@ -1,0 +1,38 @@
+// THE LIBRARY that programs in C and other languages link: every public entry as a C function on numbers and slices. include/gougelily.h
+// declares them. None has a precondition on its numbers. Each answers 0 or more, or the refusal's number negated, and then every lent byte
+// is as it was.
+ghost use mathlib.Core.Path.{_≡_};
+ghost use Rattle.gougelily.specs.Handed.{purposeOf, negated as negatedOf, flag as flagOf};
+use layout::number;
+use strided::Purpose;
+use strided::Refusal;
+
+pub mod indices;
+pub mod marks;
+pub mod plans;
+pub mod walks;
+
+// A purpose is two numbers: 0 for pointwise with no chosen operand, 1 for pointwise into the chosen one, any other for a fold by it.
+fn purpose_of(kind: u64, chosen: u64) -> Purpose
+    ensures { λ r. ⌜ r ≡ purposeOf kind chosen ⌝ }
+{
+    if kind == 0 {
+        return Purpose::Pointwise;
+    }
+    if kind == 1 {
+        return Purpose::PointwiseInto(chosen);
+    }
+    Purpose::Fold(chosen)
+}
+
+fn negated(refusal: Refusal) -> i64
+    ensures { λ r. ⌜ r ≡ negatedOf refusal ⌝ }
+{
+    -(number(refusal) as i64)
+}
+
+fn flag(b: bool) -> u64
+    ensures { λ r. ⌜ r ≡ flagOf b ⌝ }
+{
+    if b { 1 } else { 0 }
+}

@@ -1,0 +1,44 @@
+// Planning from C.
+ghost use Rattle.strided.specs.Plan.{planned};
+ghost use Rattle.gougelily.specs.Handed.{purposeOf, Plans};
+use crate::negated;
+use crate::purpose_of;
+use kernel::plan;
+use strided::Answer;
+
+// The plan of a layout for a purpose.
+#[no_mangle]
+pub extern "C" fn gougelily_plan<'a>(
+    extents: &'a [u64],
+    sizes: &'a [u64],
+    strides: &'a [i64],
+    purpose: u64,
+    chosen: u64,
+    rank: &mut [usize; 1],
+    operands: &mut [usize; 1],
+    plan_extents: &mut [u64; 64],
+    blocks: &mut [u64; 64],
+    plan_strides: &mut [i64; 512],
+) -> i64
+    ensures { λ r. ⌜ Plans (planned (now (extents .entry)) (now (sizes .entry)) (now (strides .entry)) (purposeOf purpose chosen)) (record { rank = now (rank .entry); operands = now (operands .entry); extents = now («plan_extents» .entry); blocks = now (blocks .entry); strides = now («plan_strides» .entry) }) (record { rank = now (rank .exit); operands = now (operands .exit); extents = now («plan_extents» .exit); blocks = now (blocks .exit); strides = now («plan_strides» .exit) }) r ⌝ }
+{
+    let planned = plan(extents, sizes, strides, purpose_of(purpose, chosen));
+    let answer = planned.answer;
+    match answer {
+        Answer::Refused(refusal) => negated(refusal),
+        Answer::Served => {
+            let made = planned.plan;
+            let axes = made.rank;
+            let count = made.operands;
+            let e = made.extents;
+            let b = made.blocks;
+            let s = made.strides;
+            *rank = [axes];
+            *operands = [count];
+            *plan_extents = e;
+            *blocks = b;
+            *plan_strides = s;
+            0
+        }
+    }
+}

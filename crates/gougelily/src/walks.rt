@@ -1,0 +1,120 @@
+// A walk from C: its beginning, and one step of a state that is lent.
+ghost use mathlib.Core.Path.{_≡_};
+ghost use Rattle.strided.specs.Begin.{begunAt};
+ghost use Rattle.strided.specs.Step.{stepped};
+ghost use Rattle.states.specs.Reaches.{planOf};
+ghost use Rattle.gougelily.specs.Handed.{Begins, walkIn, Steps};
+use crate::flag;
+use crate::negated;
+use strided::Answer;
+use strided::Outcome;
+use strided::Plan;
+use strided::Walk;
+use walk::begin;
+use walk::step;
+
+// A plan from its numbers and arrays.
+fn plan_of<'a>(
+    rank: usize,
+    operands: usize,
+    extents: &'a [u64; 64],
+    blocks: &'a [u64; 64],
+    strides: &'a [i64; 512],
+) -> Plan
+    ensures { λ r. ⌜ r ≡ planOf rank operands (now (extents .entry)) (now (blocks .entry)) (now (strides .entry)) ⌝ }
+{
+    let e = *extents;
+    let b = *blocks;
+    let s = *strides;
+    Plan {
+        rank: rank,
+        operands: operands,
+        extents: e,
+        blocks: b,
+        strides: s,
+    }
+}
+
+// A walk's beginning.
+#[no_mangle]
+pub extern "C" fn gougelily_begin<'a>(
+    rank: usize,
+    operands: usize,
+    extents: &'a [u64; 64],
+    blocks: &'a [u64; 64],
+    strides: &'a [i64; 512],
+    starts: &'a [i64],
+    ended: &mut [u64; 1],
+    counters: &mut [u64; 64],
+    offsets: &mut [i64; 8],
+) -> i64
+    ensures { λ r. ⌜ Begins (begunAt (planOf rank operands (now (extents .entry)) (now (blocks .entry)) (now (strides .entry))) (now (starts .entry))) (record { ended = now (ended .entry); counters = now (counters .entry); offsets = now (offsets .entry) }) (record { ended = now (ended .exit); counters = now (counters .exit); offsets = now (offsets .exit) }) r ⌝ }
+{
+    let begun = begin(plan_of(rank, operands, extents, blocks, strides), starts);
+    let answer = begun.answer;
+    match answer {
+        Answer::Refused(refusal) => negated(refusal),
+        Answer::Served => {
+            let walk = begun.walk;
+            let e = flag(walk.ended);
+            let c = walk.counters;
+            let o = walk.offsets;
+            *ended = [e];
+            *counters = c;
+            *offsets = o;
+            0
+        }
+    }
+}
+
+// One step of a lent walk.
+#[no_mangle]
+pub extern "C" fn gougelily_step<'a>(
+    rank: usize,
+    operands: usize,
+    extents: &'a [u64; 64],
+    blocks: &'a [u64; 64],
+    strides: &'a [i64; 512],
+    ended: &mut [u64; 1],
+    counters: &mut [u64; 64],
+    offsets: &mut [i64; 8],
+    block_counters: &mut [u64; 64],
+    length: &mut [u64; 1],
+    block_offsets: &mut [i64; 8],
+    block_strides: &mut [i64; 8],
+) -> i64
+    ensures { λ r. ⌜ Steps (stepped (planOf rank operands (now (extents .entry)) (now (blocks .entry)) (now (strides .entry))) (walkIn (record { ended = now (ended .entry); counters = now (counters .entry); offsets = now (offsets .entry) }))) (record { walk = record { ended = now (ended .entry); counters = now (counters .entry); offsets = now (offsets .entry) }; counters = now («block_counters» .entry); length = now (length .entry); offsets = now («block_offsets» .entry); strides = now («block_strides» .entry) }) (record { walk = record { ended = now (ended .exit); counters = now (counters .exit); offsets = now (offsets .exit) }; counters = now («block_counters» .exit); length = now (length .exit); offsets = now («block_offsets» .exit); strides = now («block_strides» .exit) }) r ⌝ }
+{
+    let over = ended[0] != 0;
+    let c = *counters;
+    let o = *offsets;
+    let walk = Walk {
+        ended: over,
+        counters: c,
+        offsets: o,
+    };
+    let stepped = step(plan_of(rank, operands, extents, blocks, strides), walk);
+    let answer = stepped.answer;
+    match answer {
+        Outcome::Rejected(refusal) => negated(refusal),
+        Outcome::Ended => 0,
+        Outcome::Block => {
+            let next = stepped.walk;
+            let e = flag(next.ended);
+            let nc = next.counters;
+            let no = next.offsets;
+            let bc = stepped.counters;
+            let bl = stepped.length;
+            let bo = stepped.offsets;
+            let bs = stepped.strides;
+            *ended = [e];
+            *counters = nc;
+            *offsets = no;
+            *block_counters = bc;
+            *length = [bl];
+            *block_offsets = bo;
+            *block_strides = bs;
+            1
+        }
+    }
+}

@@ -1,0 +1,525 @@
+/*
+ * The library as a C program meets it, to be run under the sanitizers. Every
+ * argument that is a pointer is lent from memory of its own, with guard bytes on
+ * one side and a page that cannot be touched on the other. Checked are:
+ * - known layouts, and one call for each refusal;
+ * - layouts at random: a walk meets every cell once, at the offsets that its
+ *   original index tells, and the index maps are inverse;
+ * - plans and states at random, whatever they hold: a call ends with an answer.
+ * After every call its inputs are as they were, after a refusal its outputs too.
+ */
+#define _DEFAULT_SOURCE
+#include <inttypes.h>
+#include <stdio.h>
+#include <stdlib.h>
+#include <string.h>
+#include <sys/mman.h>
+#include <unistd.h>
+
+#include "gougelily.h"
+
+static unsigned long long round_number;
+
+static void fail(const char *what)
+{
+    fprintf(stderr, "round %llu: %s\n", round_number, what);
+    exit(1);
+}
+
+#define CHECK(fact) ((fact) ? (void)0 : fail(#fact))
+
+/* ------------------------------------------------------------ lent memory */
+
+enum { ROOM = 8192, GUARD = 0xa5, MOST_AREAS = 12 };
+
+static struct area {
+    unsigned char *bytes; /* ROOM bytes between two pages that cannot be touched */
+    unsigned char *array; /* at the first or at the last of them */
+    size_t size;
+    unsigned char held[ROOM]; /* the bytes before the call */
+} areas[MOST_AREAS];
+
+static size_t lent_now;
+static int at_end;
+
+static void make_areas(void)
+{
+    const size_t page = (size_t)sysconf(_SC_PAGESIZE);
+    for (size_t i = 0; i < MOST_AREAS; i++) {
+        unsigned char *all = mmap(NULL, ROOM + 2 * page, PROT_NONE, MAP_PRIVATE | MAP_ANONYMOUS, -1, 0);
+        if (all == MAP_FAILED || mprotect(all + page, ROOM, PROT_READ | PROT_WRITE) != 0)
+            fail("no memory");
+        areas[i].bytes = all + page;
+    }
+}
+
+static void *lend(const void *value, size_t size)
+{
+    struct area *a = &areas[lent_now++];
+    memset(a->bytes, GUARD, ROOM);
+    a->array = at_end ? a->bytes + ROOM - size : a->bytes;
+    a->size = size;
+    if (size > 0)
+        memcpy(a->array, value, size);
+    memcpy(a->held, a->bytes, ROOM);
+    return a->array;
+}
+
+/* After a call whose areas from `output` on may have been written if `served`. Other bytes are as they were. */
+static void settle(size_t output, int served)
+{
+    for (size_t i = 0; i < lent_now; i++) {
+        struct area *a = &areas[i];
+        if (i >= output && served)
+            memcpy(a->held + (a->array - a->bytes), a->array, a->size);
+        CHECK(memcmp(a->bytes, a->held, ROOM) == 0);
+    }
+    lent_now = 0;
+    at_end = !at_end;
+}
+
+#define LEND(name) lend(&(name), sizeof(name))
+#define TAKE(name, from) memcpy(&(name), from, sizeof(name))
+
+/* ------------------------------------------------------------ the calls */
+
+/* Room for counts that are refused, too. */
+struct layout {
+    uint64_t extents[70], sizes[10], purpose, chosen;
+    int64_t strides[700];
+    size_t rank, operands, stride_count;
+};
+
+static gougelily_layout_t view(const struct layout *l)
+{
+    gougelily_layout_t v = {l->extents, l->rank,         l->sizes,   l->operands,
+                            l->strides, l->stride_count, l->purpose, l->chosen};
+    return v;
+}
+
+static int64_t plan_of(const struct layout *l, gougelily_plan_t *p)
+{
+    const uint64_t *e = lend(l->extents, l->rank * 8), *z = lend(l->sizes, l->operands * 8);
+    const int64_t *s = lend(l->strides, l->stride_count * 8);
+    size_t *rank = LEND(p->rank), *operands = LEND(p->operands);
+    uint64_t *extents = LEND(p->extents), *blocks = LEND(p->blocks);
+    int64_t *strides = LEND(p->strides);
+    int64_t answer = gougelily_plan(e, l->rank, z, l->operands, s, l->stride_count, l->purpose, l->chosen, rank,
+                                    operands, extents, blocks, strides);
+    TAKE(p->rank, rank), TAKE(p->operands, operands), TAKE(p->extents, extents), TAKE(p->blocks, blocks);
+    TAKE(p->strides, strides);
+    CHECK(answer <= 0 && answer >= -7);
+    settle(3, answer == 0);
+    return answer;
+}
+
+static int64_t index_of(const struct layout *l, int original, const uint64_t *counters, size_t count,
+                        gougelily_index_t *x)
+{
+    const uint64_t *e = lend(l->extents, l->rank * 8), *z = lend(l->sizes, l->operands * 8);
+    const int64_t *s = lend(l->strides, l->stride_count * 8);
+    const uint64_t *c = lend(counters, count * 8);
+    size_t *number = LEND(x->count);
+    uint64_t *places = LEND(x->places);
+    int64_t answer = (original ? gougelily_original_index : gougelily_plan_index)(
+        e, l->rank, z, l->operands, s, l->stride_count, l->purpose, l->chosen, c, count, number, places);
+    TAKE(x->count, number), TAKE(x->places, places);
+    CHECK(answer <= 0 && (answer >= -7 || answer == -11));
+    settle(4, answer == 0);
+    return answer;
+}
+
+static int64_t begin_of(const gougelily_plan_t *p, const int64_t *starts, size_t count, gougelily_walk_t *w)
+{
+    const uint64_t *e = LEND(p->extents), *b = LEND(p->blocks);
+    const int64_t *s = LEND(p->strides), *z = lend(starts, count * 8);
+    uint64_t *ended = LEND(w->ended), *counters = LEND(w->counters);
+    int64_t *offsets = LEND(w->offsets);
+    int64_t answer = gougelily_begin(p->rank, p->operands, e, b, s, z, count, ended, counters, offsets);
+    TAKE(w->ended, ended), TAKE(w->counters, counters), TAKE(w->offsets, offsets);
+    CHECK(answer <= 0 && answer >= -9 && answer != -3 && answer != -4 && answer != -7);
+    settle(4, answer == 0);
+    return answer;
+}
+
+static int64_t step_of(const gougelily_plan_t *p, gougelily_walk_t *w, gougelily_block_t *k)
+{
+    const uint64_t *e = LEND(p->extents), *b = LEND(p->blocks);
+    const int64_t *s = LEND(p->strides);
+    uint64_t *ended = LEND(w->ended), *counters = LEND(w->counters);
+    int64_t *offsets = LEND(w->offsets);
+    uint64_t *block_counters = LEND(k->counters), *length = LEND(k->length);
+    int64_t *block_offsets = LEND(k->offsets), *block_strides = LEND(k->strides);
+    int64_t answer = gougelily_step(p->rank, p->operands, e, b, s, ended, counters, offsets, block_counters, length,
+                                    block_offsets, block_strides);
+    TAKE(w->ended, ended), TAKE(w->counters, counters), TAKE(w->offsets, offsets);
+    TAKE(k->counters, block_counters), TAKE(k->length, length);
+    TAKE(k->offsets, block_offsets), TAKE(k->strides, block_strides);
+    CHECK(answer == 1 || answer == 0 || answer == -1 || answer == -2 || answer == -10);
+    settle(3, answer == 1);
+    return answer;
+}
+
+static int64_t mark_of(const struct layout *l, size_t operand)
+{
+    const uint64_t *e = lend(l->extents, l->rank * 8);
+    const int64_t *s = lend(l->strides + operand * l->rank, l->rank * 8);
+    int64_t answer = gougelily_repeat_mark(e, l->rank, s, l->rank);
+    CHECK(answer == 1 || answer == 0 || answer == -1);
+    settle(2, 0);
+    return answer;
+}
+
+/* ------------------------------------------------------------ known answers */
+
+static struct layout two(uint64_t e0, uint64_t e1, int64_t a0, int64_t a1, int64_t b0, int64_t b1, uint64_t purpose)
+{
+    struct layout l = {{e0, e1}, {8, 8}, purpose, 0, {a0, a1, b0, b1}, 2, 2, 4};
+    return l;
+}
+
+static struct layout one(uint64_t extent, int64_t stride, uint64_t size)
+{
+    struct layout l = {{extent}, {size}, GOUGELILY_FOLD, 0, {stride}, 1, 1, 1};
+    return l;
+}
+
+static void known_plans(void)
+{
+    gougelily_plan_t p = {0};
+    struct layout l = two(64, 64, 1, 64, 64, 1, GOUGELILY_POINTWISE_INTO);
+    CHECK(plan_of(&l, &p) == 0 && p.rank == 2 && p.operands == 2 && p.blocks[0] == 64 && p.blocks[1] == 32);
+    l = two(64, 64, 1, 64, 512, 1, GOUGELILY_POINTWISE_INTO);
+    CHECK(plan_of(&l, &p) == 0 && p.blocks[0] == 6 && p.blocks[1] == 32);
+    l.purpose = GOUGELILY_FOLD;
+    CHECK(plan_of(&l, &p) == 0 && p.blocks[0] == 64 && p.blocks[1] == 32);
+    l.rank = 0, l.stride_count = 0;
+    CHECK(plan_of(&l, &p) == 0 && p.rank == 0 && p.operands == 2);
+    CHECK(gougelily_plan(NULL, 0, l.sizes, 2, NULL, 0, 0, 0, &p.rank, &p.operands, p.extents, p.blocks, p.strides) ==
+          0);
+}
+
+static void known_walk(void)
+{
+    gougelily_plan_t p = {0};
+    gougelily_walk_t w = {0};
+    gougelily_block_t k = {0};
+    const int64_t start = 10;
+    p.rank = 1, p.operands = 1, p.extents[0] = 5, p.blocks[0] = 2, p.strides[0] = 3;
+    CHECK(begin_of(&p, &start, 1, &w) == 0 && !w.ended);
+    for (int i = 0; i < 3; i++)
+        CHECK(step_of(&p, &w, &k) == 1 && k.offsets[0] == 10 + 6 * i && k.length == (i < 2 ? 2 : 1) &&
+              k.strides[0] == 3);
+    CHECK(w.ended == 1 && step_of(&p, &w, &k) == 0);
+    w.ended = 7;
+    CHECK(step_of(&p, &w, &k) == 0 && w.ended == 7);
+    w.ended = 0, w.counters[0] = 5;
+    CHECK(step_of(&p, &w, &k) == -GOUGELILY_STATE);
+    p.extents[0] = 0;
+    CHECK(begin_of(&p, &start, 1, &w) == 0 && w.ended == 1);
+}
+
+static void known_refusals(void)
+{
+    const uint64_t five = 5;
+    const int64_t last = INT64_MAX;
+    gougelily_plan_t p = {0};
+    gougelily_walk_t w = {0};
+    gougelily_block_t k = {0};
+    gougelily_index_t x = {0};
+    struct layout l = one(5, 1, 8);
+    l.rank = 65;
+    CHECK(plan_of(&l, &p) == -GOUGELILY_RANK && mark_of(&l, 0) == -GOUGELILY_RANK);
+    l.rank = 1, l.operands = 9;
+    CHECK(plan_of(&l, &p) == -GOUGELILY_OPERANDS);
+    l.operands = 1, l.stride_count = 2;
+    CHECK(plan_of(&l, &p) == -GOUGELILY_STRIDE_COUNT);
+    l.stride_count = 1, l.chosen = 1;
+    CHECK(plan_of(&l, &p) == -GOUGELILY_CHOSEN);
+    l = two((uint64_t)1 << 32, (uint64_t)1 << 32, 1, 1, 1, 1, GOUGELILY_POINTWISE);
+    CHECK(plan_of(&l, &p) == -GOUGELILY_TOTAL);
+    l = one(3, (int64_t)1 << 62, 1);
+    CHECK(plan_of(&l, &p) == -GOUGELILY_REACH);
+    l = one(2, (int64_t)1 << 60, 8);
+    CHECK(plan_of(&l, &p) == -GOUGELILY_BYTES);
+    l = one(5, 1, 8);
+    CHECK(index_of(&l, 1, &five, 1, &x) == -GOUGELILY_INDEX && index_of(&l, 0, &five, 0, &x) == -GOUGELILY_INDEX);
+    CHECK(plan_of(&l, &p) == 0 && begin_of(&p, &last, 0, &w) == -GOUGELILY_START_COUNT);
+    CHECK(begin_of(&p, &last, 1, &w) == -GOUGELILY_OFFSETS);
+    p.operands = 0;
+    CHECK(step_of(&p, &w, &k) == -GOUGELILY_OPERANDS);
+    p.rank = 65;
+    CHECK(step_of(&p, &w, &k) == -GOUGELILY_RANK && begin_of(&p, &last, 1, &w) == -GOUGELILY_RANK);
+}
+
+/* ------------------------------------------------------------ numbers at random */
+
+static uint64_t state = 1;
+
+static uint64_t random64(void) /* splitmix64 */
+{
+    uint64_t z = state += UINT64_C(0x9e3779b97f4a7c15);
+    z = (z ^ (z >> 30)) * UINT64_C(0xbf58476d1ce4e5b9);
+    z = (z ^ (z >> 27)) * UINT64_C(0x94d049bb133111eb);
+    return z ^ (z >> 31);
+}
+
+static uint64_t below(uint64_t n) { return random64() % n; }
+
+/* Small, near a power of 2 or near the ends. */
+static uint64_t wild(void)
+{
+    uint64_t z;
+    switch (below(4)) {
+    case 0:
+        return below(9);
+    case 1:
+        z = (uint64_t)1 << below(64);
+        return z + below(3) - 1;
+    case 2:
+        return below(3) - 2;
+    default:
+        z = random64();
+        return z >> below(64);
+    }
+}
+
+static int64_t signed64(uint64_t bits)
+{
+    int64_t z;
+    memcpy(&z, &bits, sizeof z);
+    return z;
+}
+
+static void make_wild(void *array, size_t places)
+{
+    for (size_t i = 0; i < places; i++) {
+        uint64_t z = wild();
+        memcpy((unsigned char *)array + 8 * i, &z, sizeof z);
+    }
+}
+
+/* ------------------------------------------------------------ layouts at random */
+
+/* Strides of a dense array whose axes lie in some order, some of them run backwards, some doubled or 0. */
+static struct layout tame(void)
+{
+    struct layout l = {0};
+    uint64_t most = below(8) == 0 ? 24 : 5;
+    l.rank = below(5);
+    if (below(8) == 0) /* from rank 9 on the walk has a rule of its own */
+        l.rank = 5 + below(7), most = 3;
+    l.operands = 1 + below(3);
+    l.purpose = below(3);
+    l.chosen = below(l.operands);
+    l.stride_count = l.rank * l.operands;
+    for (size_t i = 0; i < l.rank; i++)
+        l.extents[i] = below(20) == 0 ? 0 : 1 + below(most);
+    for (size_t k = 0; k < l.operands; k++) {
+        int64_t *row = l.strides + k * l.rank, next = 1;
+        size_t turn = below(4);
+        l.sizes[k] = below(10) == 0 ? 0 : (uint64_t)1 << below(5);
+        for (size_t j = 0; j < l.rank; j++) {
+            size_t i = (turn & 1 ? l.rank - 1 - j : j + turn / 2) % l.rank;
+            row[i] = below(8) == 0 ? 0 : below(5) == 0 ? -next : next;
+            next *= (int64_t)l.extents[i] + (below(4) == 0);
+        }
+    }
+    return l;
+}
+
+static struct layout garbage(void)
+{
+    struct layout l = {0};
+    l.rank = below(8) == 0 ? below(70) : below(5);
+    l.operands = below(8) == 0 ? below(10) : below(4);
+    l.purpose = wild();
+    l.chosen = below(4);
+    l.stride_count = below(8) == 0 ? below(5) : l.rank * l.operands;
+    make_wild(l.extents, l.rank);
+    make_wild(l.sizes, l.operands);
+    make_wild(l.strides, l.stride_count);
+    return l;
+}
+
+static uint64_t cells_met, blocks_met, refusals_met;
+
+/* "array places behind the counts are 0" */
+static int blank(const void *array, size_t from, size_t to)
+{
+    static const uint64_t zeros[GOUGELILY_PLAN_STRIDES];
+    return memcmp((const unsigned char *)array + 8 * from, zeros, 8 * (to - from)) == 0;
+}
+
+static int plan_blank(const gougelily_plan_t *p)
+{
+    for (size_t k = 0; k < p->operands; k++)
+        if (!blank(p->strides, 64 * k + p->rank, 64 * k + 64))
+            return 0;
+    return blank(p->extents, p->rank, 64) && blank(p->blocks, p->rank, 64) && blank(p->strides, 64 * p->operands, 512);
+}
+
+/* One cell of a block: the maps are inverse there, and the offsets are those of the original index. */
+static void meet(const struct layout *l, const gougelily_plan_t *p, const gougelily_block_t *b, uint64_t cell,
+                 const int64_t *starts, unsigned char *seen)
+{
+    uint64_t counters[GOUGELILY_MAX_RANK], number = 0;
+    gougelily_index_t original = {1, {2, 3, 4, 5}}, back = original;
+    memcpy(counters, b->counters, sizeof counters);
+    counters[0] += cell;
+    CHECK(index_of(l, 1, counters, p->rank, &original) == 0 && original.count == l->rank);
+    CHECK(index_of(l, 0, original.places, l->rank, &back) == 0 && back.count == p->rank);
+    CHECK(blank(original.places, l->rank, 64) && blank(back.places, p->rank, 64));
+    CHECK(memcmp(back.places, counters, 8 * p->rank) == 0);
+    for (size_t k = 0; k < l->operands; k++) {
+        int64_t offset = starts[k];
+        for (size_t i = 0; i < l->rank; i++)
+            offset += (int64_t)original.places[i] * l->strides[k * l->rank + i];
+        CHECK(offset == b->offsets[k] + (int64_t)cell * b->strides[k]);
+    }
+    for (size_t i = l->rank; i-- > 0;)
+        number = number * l->extents[i] + original.places[i];
+    CHECK(!seen[number]++);
+    cells_met++;
+}
+
+static void walk_layout(const struct layout *l)
+{
+    const gougelily_layout_t v = view(l);
+    gougelily_plan_t p = {0}, again = {0};
+    gougelily_walk_t w = {0};
+    gougelily_block_t b = {0};
+    const int64_t starts[3] = {7, -1000, INT64_C(1) << 40};
+    uint64_t total = 1, cells = 0;
+    for (size_t i = 0; i < l->rank; i++)
+        total *= l->extents[i];
+    if (total > 4096)
+        return;
+    unsigned char *seen = calloc(total + 1, 1);
+    CHECK(seen != NULL);
+    make_wild(&p, sizeof p / 8);
+    make_wild(&w, sizeof w / 8);
+    make_wild(&b, sizeof b / 8);
+    CHECK(plan_of(l, &p) == 0 && p.rank <= l->rank && p.operands == l->operands && plan_blank(&p));
+    CHECK(gougelily_plan_layout(&v, &again) == 0 && memcmp(&p, &again, sizeof p) == 0);
+    if (below(2)) /* any block sizes make a walk */
+        make_wild(p.blocks, GOUGELILY_MAX_RANK);
+    CHECK(begin_of(&p, starts, p.operands, &w) == 0 && w.ended == (total == 0));
+    while (step_of(&p, &w, &b) == 1) {
+        CHECK(b.length > 0 && (p.rank == 0 ? b.length == 1 : b.counters[0] + b.length <= p.extents[0]));
+        CHECK(blank(b.counters, p.rank, 64) && blank(b.offsets, p.operands, 8) && blank(b.strides, p.operands, 8));
+        for (uint64_t cell = 0; cell < b.length; cell++)
+            meet(l, &p, &b, cell, starts, seen);
+        cells += b.length;
+        blocks_met++;
+    }
+    CHECK(cells == total && w.ended == 1);
+    free(seen);
+}
+
+/* ------------------------------------------------------------ plans and states at random */
+
+/* A few steps, whatever plan and state are. */
+static void steps(const gougelily_plan_t *p, gougelily_walk_t *w)
+{
+    gougelily_block_t b = {0};
+    for (int i = 0; i < 4; i++) {
+        int64_t answer = step_of(p, w, &b);
+        refusals_met += answer < 0;
+        CHECK((answer == -GOUGELILY_RANK) == (p->rank > 64));
+        CHECK((answer == -GOUGELILY_OPERANDS) == (p->rank <= 64 && (p->operands == 0 || p->operands > 8)));
+        if (answer != 1)
+            return;
+        CHECK(b.length > 0 && (p->rank == 0 || b.length <= p->extents[0]));
+    }
+}
+
+static void garbage_plan(void)
+{
+    gougelily_plan_t p = {0};
+    gougelily_walk_t w = {0};
+    int64_t starts[9];
+    size_t count;
+    p.rank = below(6) == 0 ? wild() : below(6);
+    p.operands = below(6) == 0 ? wild() : 1 + below(3);
+    count = below(6) == 0 ? below(10) : p.operands < 9 ? p.operands : 9;
+    make_wild(p.extents, GOUGELILY_MAX_RANK);
+    make_wild(p.blocks, GOUGELILY_MAX_RANK);
+    make_wild(p.strides, GOUGELILY_PLAN_STRIDES);
+    if (below(2))
+        for (size_t i = 0; i < GOUGELILY_MAX_RANK; i++)
+            p.extents[i] %= 100;
+    if (below(2))
+        for (size_t i = 0; i < GOUGELILY_PLAN_STRIDES; i++)
+            p.strides[i] %= 1000;
+    make_wild(starts, 9);
+    if (begin_of(&p, starts, count, &w) == 0)
+        steps(&p, &w);
+    else
+        refusals_met++;
+    make_wild(&w.ended, 1);
+    make_wild(w.counters, below(2) || p.rank > 64 ? GOUGELILY_MAX_RANK : p.rank);
+    make_wild(w.offsets, below(2) || p.operands > 8 ? GOUGELILY_MAX_OPERANDS : p.operands);
+    steps(&p, &w);
+}
+
+/* A plan and a state as handed out, with one number changed. */
+static void one_number_changed(const struct layout *l)
+{
+    gougelily_plan_t p = {0};
+    gougelily_walk_t w = {0};
+    gougelily_block_t b = {0};
+    const int64_t starts[3] = {0, 0, 0};
+    CHECK(plan_of(l, &p) == 0 && begin_of(&p, starts, p.operands, &w) == 0);
+    for (uint64_t n = below(3); n > 0; n--)
+        step_of(&p, &w, &b);
+    const uint64_t z = wild();
+    const uint64_t at = below(4) == 0 ? below(GOUGELILY_MAX_RANK) : below(p.rank + 1);
+    switch (below(6)) {
+    case 0:
+        p.extents[at] = z;
+        break;
+    case 1:
+        p.blocks[at] = z;
+        break;
+    case 2:
+        p.strides[64 * below(p.operands) + at] = signed64(z);
+        break;
+    case 3:
+        w.counters[at] = z;
+        break;
+    case 4:
+        w.offsets[at % GOUGELILY_MAX_OPERANDS] = signed64(z);
+        break;
+    default:
+        w.ended = z;
+    }
+    steps(&p, &w);
+}
+
+int main(int argc, char **argv)
+{
+    const unsigned long long rounds = argc > 1 ? strtoull(argv[1], NULL, 10) : 2000;
+    make_areas();
+    known_plans();
+    known_walk();
+    known_refusals();
+    for (round_number = 1; round_number <= rounds; round_number++) {
+        struct layout l = tame(), g = garbage();
+        gougelily_plan_t p = {0};
+        gougelily_index_t x = {0};
+        uint64_t counters[4];
+        walk_layout(&l);
+        one_number_changed(&l);
+        garbage_plan();
+        refusals_met += plan_of(&g, &p) < 0;
+        make_wild(counters, 4);
+        size_t count = below(5);
+        refusals_met += index_of(&g, (int)below(2), counters, count, &x) < 0;
+        if (l.rank > 0)
+            mark_of(&l, below(l.operands));
+    }
+    printf("%llu rounds: %" PRIu64 " blocks, %" PRIu64 " cells, %" PRIu64 " refusals\n", rounds, blocks_met, cells_met,
+           refusals_met);
+    return 0;
+}
