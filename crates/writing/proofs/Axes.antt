@@ -1,23 +1,27 @@
 -- Laws of a plan's output: what its precondition gives, the A lines out of the plan's arrays, and the parts of the whole.
 -- Assumes nothing.
 use mathlib.Core.Path.{_≡_, refl, sym, ap, ap₂, _∙_}
+use mathlib.Core.Bool.{Bool, true, false, cond}
 use mathlib.Core.List.{List, [], _∷_, _++_, map}
 use Prim.Native.Nat.{ℕ, zero, suc, _+_, _-_, _*_, _≤_, _<_}
 use native.Mathlib.Numerals.{add-one}
 use native.Mathlib.Omega.{arith}
+use lib.Dec.{ltb}
 use lib.IntN.{ℤ, pos}
 use lib.ListN.{length, getD, take, drop, replicate, length-append, length-take, length-replicate, length-map}
 use lib.Seq.{ext-getD, getD-take, getD-drop}
-use borrow.Author.Tests.{lt-ltb, le-ltb, ltb-false}
+use borrow.Author.Tests.{lt-ltb, le-ltb, ltb-true, ltb-false}
 use Rattle.strided.specs.Base.{over, run}
 use Rattle.strided.specs.Begin.{planRow, planRows, beginRows, beginRefused}
-use Rattle.strided.specs.Text.{rankLine, axisLine, axisOf, zeroStarts, printedPlan}
+use Rattle.strided.specs.Text.{rankLine, axisLine, axisOf, zeroStarts, printedPlan, refusing, filling}
+use Rattle.strided.specs.declared.Refusal.the-variants.{Room}
 use Rattle.strided.specs.declared.Plan.{Plan}
 use Rattle.laws.specs.Base.Lists.{length-run, getD-run}
 use Rattle.laws.specs.Base.Refusals.{NoneApplies, none-applies}
 use Rattle.laws.specs.Walk.Steps.{Ready, ready}
 use Rattle.advance.specs.Filled.{filled-length, filled-at}
-use Rattle.writing.specs.Plan.{Printable, measured, strideOn, columnTo, axisAt, restFrom}
+use Rattle.writing.specs.Plan.{Printable, measured, strideOn, columnTo, axisAt, restFrom, listedIn}
+use Rattle.writing.specs.declared.plan.Measured.{Measured}
 use Rattle.writing.specs.declared.plan.Measured.the-variants.{Fits, More}
 
 -- ---- what is asked and answered
@@ -35,6 +39,29 @@ measured-more n limit h = rw (lt-ltb limit n h)
 
 pub measured-fits : (n limit : ℕ) → n ≤ limit → Fits n ≡ measured n limit
 measured-fits n limit h = rw (le-ltb limit n h)
+
+-- the answer read back
+pub more-measured : (n limit : ℕ) {m : Measured} → m ≡ measured n limit → m ≡ More → limit < n
+more-measured n limit {m} e f = go (ltb limit n) refl (sym e ∙ f)
+  where
+    go : (b : Bool) → ltb limit n ≡ b → cond b More (Fits n) ≡ More → limit < n
+    go true q h = ltb-true limit n q
+    go false q h = let z : _≡_ {A = ℕ} 0 1 = cc in absurd (omega arith)
+
+pub fits-measured : (n limit k : ℕ) {m : Measured} → m ≡ measured n limit → m ≡ Fits k → (n ≤ limit) × (k ≡ n)
+fits-measured n limit k {m} e f = go (ltb limit n) refl (sym e ∙ f)
+  where
+    go : (b : Bool) → ltb limit n ≡ b → cond b More (Fits n) ≡ Fits k → (n ≤ limit) × (k ≡ n)
+    go true q h = let z : _≡_ {A = ℕ} 0 1 = cc in absurd (omega arith)
+    go false q h = let same : n ≡ k = cc in (ltb-false limit n q, sym same)
+
+-- row 14
+pub listed-full : (p : Plan) (room : List ℕ) → length room < length (printedPlan p) → refusing Room room ≡ listedIn p room
+listed-full p room h = rw (lt-ltb (length room) (length (printedPlan p)) h)
+
+pub listed-filled : (p : Plan) (room : List ℕ) → length (printedPlan p) ≤ length room → {n : ℕ} {new : List ℕ}
+    → n ≡ length (printedPlan p) → new ≡ filling (printedPlan p) room .room → (pos n ≡ listedIn p room .answer) × (new ≡ listedIn p room .room)
+listed-filled p room h e f = rw (le-ltb (length room) (length (printedPlan p)) h) (ap pos e, f)
 
 -- ---- the A lines
 

@@ -2,15 +2,16 @@
 -- Assumes nothing.
 use mathlib.Core.Path.{_≡_}
 use mathlib.Core.Bool.{cond}
-use mathlib.Core.List.{List, _++_, map}
+use mathlib.Core.List.{List, [], _∷_, _++_, map}
 use mathlib.Core.Option.{none}
 use Prim.Native.Nat.{ℕ, _+_, _*_}
 use lib.Dec.{ltb}
 use lib.IntN.{ℤ, pos}
-use lib.ListN.{getD, drop, replicate}
+use lib.ListN.{length, getD, drop, replicate}
 use Rattle.strided.specs.Base.{run}
 use Rattle.strided.specs.Begin.{beginRefused}
-use Rattle.strided.specs.Text.{axisLine, blockLines, endLine, planWalk, zeroStarts}
+use Rattle.strided.specs.Refusals.{refusedBy}
+use Rattle.strided.specs.Text.{axisLine, blockLines, endLine, planWalk, zeroStarts, printedPlan, row14, Listing, listingOr}
 use Rattle.strided.specs.declared.Plan.{Plan}
 use Rattle.advance.specs.Filled.{filledTo}
 use Rattle.advance.specs.Plans.{Sized}
@@ -26,6 +27,10 @@ pub record Printable (p : Plan) : Type 0 where
 -- what is answered: a length, where it is at most the limit
 abbrev pub measured : ℕ → ℕ → Measured
 measured n limit = cond (ltb limit n) More (Fits n)
+
+-- and what becomes of lent bytes where of all rows only 14 may apply
+abbrev pub listedIn : Plan → List ℕ → Listing
+listedIn p room = listingOr (refusedBy (row14 (printedPlan p) (length room) ∷ [])) (printedPlan p) room
 
 -- ---- the parts
 

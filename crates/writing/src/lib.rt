@@ -6,5 +6,6 @@ pub mod number;
 pub mod plan;
 
 pub use plan::Measured;
+pub use plan::list;
 pub use plan::measure;
 pub use plan::write;

@@ -8,7 +8,7 @@ ghost use Rattle.strided.specs.Text.{printedPlan, filling};
 ghost use Rattle.states.specs.Reaches.{planOf};
 ghost use Rattle.writing.specs.Put.{Wrote};
 ghost use Rattle.writing.specs.Line.{longest};
-ghost use Rattle.writing.specs.Plan.{Printable, measured, columnTo, axisAt, restFrom};
+ghost use Rattle.writing.specs.Plan.{Printable, measured, columnTo, axisAt, restFrom, listedIn};
 use super::line::axis_len;
 use super::line::block_len;
 use super::line::end_len;
@@ -228,4 +228,24 @@ pub fn write<'a>(
     let first = put_rank(out, 0, rank as u64);
     let then = put_axes(out, first, rank, operands, e, b, s);
     put_walk(out, then, rank, operands, e, b, s)
+}
+
+// THE OUTPUT WHERE IT HAS ROOM: its length, or refusal 14 negated. It is measured before it is written, so a refusal leaves every byte.
+pub fn list<'a>(
+    rank: usize,
+    operands: usize,
+    e: &'a [u64; 64],
+    b: &'a [u64; 64],
+    s: &'a [i64; 512],
+    room: &mut [u8],
+) -> i64
+    requires { ⌜ Printable (planOf rank operands (now e) (now b) (now s)) ⌝ }
+    ensures { λ r. ⌜ r ≡ listedIn (planOf rank operands (now (e .entry)) (now (b .entry)) (now (s .entry))) (now (room .entry)) .answer ⌝ }
+    ensures { λ r. ⌜ now (room .exit) ≡ listedIn (planOf rank operands (now (e .entry)) (now (b .entry)) (now (s .entry))) (now (room .entry)) .room ⌝ }
+{
+    let Measured::Fits(n) = measure(rank, operands, e, b, s, room.len()) else {
+        return -14;
+    };
+    write(rank, operands, e, b, s, room);
+    n as i64
 }

@@ -1,5 +1,5 @@
 use native.Mathlib.Omega.{arith}
-use mathlib.Core.Path.{_≡_, ap, _∙_}
+use mathlib.Core.Path.{_≡_, subst}
 use Prim.Native.Nat.{ℕ, _+_, _<_}
 use lib.ListN.{length}
 use Rattle.strided.specs.Text.{printedPlan}
@@ -41,7 +41,7 @@ returns-2 c =
     let p : Plan = planOf (a .rank) (a .operands) (a .e .now) (a .b .now) (a .s .now) in
     let l = printed-length p in
     let e : c .before .before .before .rank-len .result + c .before .before .axes-len .result + length (restFrom p 0) ≡ length (printedPlan p) = omega (arith, l, c .before .before .before .rank-len .ensures .0, c .before .before .axes-len .ensures .0) in
-    c .walk-len .ensures ∙ ap (λ (n : ℕ). measured n (a .limit)) e
+    subst (λ (n : ℕ). c .walk-len .result ≡ measured n (a .limit)) e (c .walk-len .ensures)
 
 pub measure-spec : {M : Type 1} → statement M
 measure-spec =
