@@ -25,12 +25,14 @@ fn purpose_of(kind: u64, chosen: u64) -> Purpose
     Purpose::Fold(chosen)
 }
 
+// The refusal's number negated.
 fn negated(refusal: Refusal) -> i64
     ensures { λ r. ⌜ r ≡ negatedOf refusal ⌝ }
 {
     -(number(refusal) as i64)
 }
 
+// 1 for yes, 0 for no.
 fn flag(b: bool) -> u64
     ensures { λ r. ⌜ r ≡ flagOf b ⌝ }
 {

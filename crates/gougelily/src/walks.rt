@@ -11,7 +11,7 @@ use strided::Outcome;
 use strided::Plan;
 use strided::Walk;
 use walk::begin;
-use walk::step;
+use walk::step_on;
 
 // A plan from its numbers and arrays.
 fn plan_of<'a>(
@@ -93,7 +93,7 @@ pub extern "C" fn gougelily_step<'a>(
         counters: c,
         offsets: o,
     };
-    let stepped = step(plan_of(rank, operands, extents, blocks, strides), walk);
+    let stepped = step_on(rank, operands, extents, blocks, strides, walk);
     let answer = stepped.answer;
     match answer {
         Outcome::Rejected(refusal) => negated(refusal),

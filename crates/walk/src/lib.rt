@@ -90,12 +90,17 @@ fn block_at<'a>(
     }
 }
 
-// ONE STEP of a walk: rows 1 and 2 of the plan, then row 10, whatever the values of plan and state.
-pub fn step(plan: Plan, walk: Walk) -> Stepped
-    ensures { λ r. ⌜ r ≡ stepped plan walk ⌝ }
+// One step, on the arrays of a plan: rows 1 and 2, then row 10, whatever their values. The plan is lent, since it is 5 KB to copy.
+pub fn step_on<'a>(
+    rank: usize,
+    operands: usize,
+    e: &'a [u64; 64],
+    b: &'a [u64; 64],
+    s: &'a [i64; 512],
+    walk: Walk,
+) -> Stepped
+    ensures { λ r. ⌜ r ≡ stepped (planOf rank operands (now (e .entry)) (now (b .entry)) (now (s .entry))) walk ⌝ }
 {
-    let rank = plan.rank;
-    let operands = plan.operands;
     if rank_over(rank) {
         return rejected(Refusal::Rank);
     }
@@ -105,31 +110,29 @@ pub fn step(plan: Plan, walk: Walk) -> Stepped
     let ended = walk.ended;
     let c = walk.counters;
     let o = walk.offsets;
-    let reached = reaches(
-        ended,
+    if reaches(ended, rank, operands, e, b, s, &c, &o) {
+        if ended {
+            return ended_again(walk);
+        }
+        return block_at(rank, operands, e, b, s, c, o);
+    }
+    rejected(Refusal::State)
+}
+
+// ONE STEP of a walk, whatever the values of plan and state.
+pub fn step(plan: Plan, walk: Walk) -> Stepped
+    ensures { λ r. ⌜ r ≡ stepped plan walk ⌝ }
+{
+    let rank = plan.rank;
+    let operands = plan.operands;
+    step_on(
         rank,
         operands,
         &plan.extents,
         &plan.blocks,
         &plan.strides,
-        &c,
-        &o,
-    );
-    if reached {
-        if ended {
-            return ended_again(walk);
-        }
-        return block_at(
-            rank,
-            operands,
-            &plan.extents,
-            &plan.blocks,
-            &plan.strides,
-            c,
-            o,
-        );
-    }
-    rejected(Refusal::State)
+        walk,
+    )
 }
 
 // The state that a lent step leaves: the one that the step returns, or, if refused, the one it was lent.

@@ -8,7 +8,7 @@ use Rattle.strided.specs.declared.Plan.{Plan}
 use Rattle.strided.specs.declared.Walk.{Walk}
 use Rattle.states.specs.Reaches.{planOf}
 use Rattle.gougelily.specs.Handed.{walkIn}
-use Rattle.gougelily.proofs.Answers.{called, step-refused, step-ended, step-block}
+use Rattle.gougelily.proofs.Answers.{step-refused, step-ended, step-block}
 use Rattle.gougelily.proofs.walks.gougelily_step.Statement.{statement}
 use Rattle.gougelily.proofs.walks.gougelily_step.Tie as tie
 
@@ -19,19 +19,14 @@ P s = planOf (s .args .rank) (s .args .operands) (s .args .extents .now) (s .arg
 abbrev W : tie.Start → Walk
 W s = walkIn (record { ended = s .args .ended .now; counters = s .args .counters .now; offsets = s .args .offsets .now })
 
-made : (c : tie.After-step) → let s = c .before .before .before .before .before in c .step .result ≡ stepped (P s) (W s)
-made c =
-    let s = c .before .before .before .before .before in
-    called (λ (p : Plan). stepped p (W s)) {v = P s} (c .step .ensures) (c .before .plan-of .ensures)
+made : (c : tie.After-step-on) → let s = c .before .before .before .before in c .step-on .result ≡ stepped (P s) (W s)
+made c = c .step-on .ensures
 
 element-copy-out-over : tie.Need-element-copy-out-over
 element-copy-out-over c = search needs
 
-plan-of-requires : tie.Need-plan-of-requires
-plan-of-requires c κs = search needs
-
-step-requires : tie.Need-step-requires
-step-requires c κs = search needs
+step-on-requires : tie.Need-step-on-requires
+step-on-requires c κs = search needs
 
 enum-known-answer : tie.Need-enum-known-answer
 enum-known-answer c = search needs
@@ -59,7 +54,7 @@ returns-3 : tie.Need-returns-3
 returns-3 c =
     let f = c .before .before .before .before .before .before .before in
     let e = f .before .before in
-    let s = e .before .before .step .result in
+    let s = e .before .before .step-on .result in
     step-block (made (e .before .before)) (e .enum-told2 .given .1)
     (λ i. record { walk = record { ended = f .flag .ensures i ∷ []; counters = s .walk .counters; offsets = s .walk .offsets }; counters = s .counters; length = s .length ∷ []; offsets = s .offsets; strides = s .strides })
 
@@ -68,8 +63,7 @@ gougelily-step-spec =
     tie.close
     (tie.spec
     element-copy-out-over
-    plan-of-requires
-    step-requires
+    step-on-requires
     enum-known-answer
     negated-requires
     enum-told
