@@ -17,6 +17,9 @@
 --   row 9, exact                                                       Walk/Row9          row9-exact
 --   row 10, exact                                                      Walk/Row10         row10-exact
 --   demand 3                                                           Demand3/Whole      demand3, exactly-one
+--   a text says one thing at most                                      Text/Once          in-form-once
+--   a text in the form is refused as planning refuses its layout       Text/Planning      no-row3, as-planning, has-plan
+--   a text has one listing at most; some text is in the form           Text/Planning, Text/Example  one-listing, example-in-form
 --   the text's figures: the cells are the layout's total               Text/Totals        walk-cells, planned-cells, walk-blocks
 --   a planned plan's walk begins at the starts 0                       Text/Begins        planned-begins
 pub mod Base

@@ -1,0 +1,24 @@
+-- `reading::row::keep_signed` meets its contract. Assumes nothing.
+use mathlib.Core.Path.{sym}
+use lib.Seq.{set-out}
+use borrow.Author.Needs.{needs}
+use Rattle.reading.proofs.row.keep_signed.Statement.{statement}
+use Rattle.reading.proofs.row.keep_signed.Tie as tie
+
+mul-v : tie.Need-mul-v
+mul-v c = search needs
+
+slice-set-from-v : tie.Need-slice-set-from-v
+slice-set-from-v c = search needs
+
+same-length : tie.Need-same-length
+same-length c = search needs
+
+returns : tie.Need-returns
+returns c = search needs
+
+returns-2 : tie.Need-returns-2
+returns-2 c = sym (set-out _ _ _ (c .if1 .left))
+
+pub keep-signed-spec : {M : Type 1} → statement M
+keep-signed-spec = tie.close (tie.spec mul-v slice-set-from-v same-length returns returns-2)
