@@ -2,7 +2,8 @@
 //! ratios. Both are built for release. For each rank and number of operands it
 //! takes a few seeded layouts, and of many short runs over them the best one.
 
-use port::{Flat, Ranks, Strides};
+use port::parts::{self, Ranks};
+use port::{Flat, Strides};
 use std::hint::black_box;
 use std::io::{stdout, Write};
 use std::process::ExitCode;
@@ -62,7 +63,7 @@ const FUNCTIONS: [Function; 4] = [
             case.strides.iter().map(first).sum()
         },
         port: |case, room| {
-            port::ranks(&case.flat, &mut room.ranks);
+            parts::ranks(&case.flat, &mut room.ranks);
             room.ranks[0][0] as usize
         },
     },
@@ -75,7 +76,7 @@ const FUNCTIONS: [Function; 4] = [
             original::with_order(extents, &case.strides, chosen, |order| order[0])
         },
         port: |case, room| {
-            port::order(&case.flat, &mut room.order);
+            parts::order(&case.flat, &mut room.order);
             room.order[0]
         },
     },
@@ -110,7 +111,7 @@ const FUNCTIONS: [Function; 4] = [
 
 /// The port's axes of a plan.
 fn plan_axes(case: &Case, room: &mut Room) -> usize {
-    port::axes(
+    parts::axes(
         &case.flat,
         &mut room.rank,
         &mut room.extents,
@@ -186,7 +187,7 @@ fn run() -> Result<(), String> {
             _ => return Err(unknown(&option)),
         }
     }
-    port::linked()?;
+    parts::linked()?;
     let head =
         "| function | rank | operands | Rust ns | port ns | ratio |\n|---|---|---|---|---|---|\n";
     output.write_all(head.as_bytes()).map_err(unwritable)?;

@@ -1,24 +1,15 @@
-//! The port's C functions, from the static library of its crate parts. They are
-//! there if the environment variable PARTS_LIB named that library at the build.
+//! The port's C functions, with a safe face for each: its public library
+//! gougelily, and the inner parts of its crate parts. Each is there if the
+//! environment variable GOUGELILY_LIB or PARTS_LIB named the static library at
+//! the build.
+
+pub mod gougelily;
+pub mod parts;
 
 use tools::layout::{Layout, Purpose};
 
-/// Whether the port's library is linked.
-pub const LINKED: bool = cfg!(linked);
-
-/// The ranks, a row of 64 per operand.
-pub type Ranks = [[u64; 64]; 8];
-
 /// The strides of a plan's axes, a row of 64 per operand.
 pub type Strides = [i64; 512];
-
-/// What a program says that needs the library and was built without it.
-pub fn linked() -> Result<(), String> {
-    if LINKED {
-        return Ok(());
-    }
-    Err("built without the port: set PARTS_LIB to its libparts.a and build again".to_string())
-}
 
 /// A layout as the port takes it.
 #[derive(Clone, Debug)]
@@ -50,66 +41,7 @@ impl Flat {
     }
 }
 
-/// Declares the functions of the library, with a safe face for each. A slice
-/// passes as its address and its length, an array as its address.
-macro_rules! functions {
-    ($($(#[$doc:meta])* $face:ident = $name:ident($($out:ident: &mut $array:ty),*);)*) => {
-        #[cfg(linked)]
-        extern "C" {
-            $(fn $name(
-                extents: *const u64,
-                rank: usize,
-                sizes: *const u64,
-                operands: usize,
-                strides: *const i64,
-                count: usize,
-                kind: u64,
-                chosen: u64,
-                $($out: *mut $array,)*
-            ) -> u64;)*
-        }
-
-        $($(#[$doc])*
-        #[cfg(linked)]
-        #[inline]
-        pub fn $face(layout: &Flat $(, $out: &mut $array)*) -> u64 {
-            // The function reads the three slices and writes at most the arrays.
-            unsafe {
-                $name(
-                    layout.extents.as_ptr(),
-                    layout.extents.len(),
-                    layout.sizes.as_ptr(),
-                    layout.sizes.len(),
-                    layout.strides.as_ptr(),
-                    layout.strides.len(),
-                    layout.kind,
-                    layout.chosen,
-                    $($out,)*
-                )
-            }
-        }
-
-        $(#[$doc])*
-        #[cfg(not(linked))]
-        pub fn $face(_: &Flat $(, _: &mut $array)*) -> u64 {
-            unreachable!("a program asks `linked` first")
-        })*
-    };
-}
-
-functions! {
-    /// The refusal's number by rows 1 to 7, or 0.
-    check = parts_check();
-    /// The ranks.
-    ranks = parts_ranks(out: &mut Ranks);
-    /// The weights.
-    weights = parts_weights(out: &mut [u64; 64]);
-    /// The loop order.
-    order = parts_order(out: &mut [usize; 64]);
-    /// The extents after fusing, in the order of fusing.
-    fused = parts_fused(out: &mut [u64; 64]);
-    /// The plan's axes: their number, extents and strides.
-    axes = parts_axes(rank: &mut [usize; 1], extents: &mut [u64; 64], strides: &mut Strides);
-    /// The costs of the plan's axes.
-    costs = parts_costs(out: &mut [u64; 64]);
+/// What a program says that needs a library and was built without it.
+fn missing(variable: &str, file: &str) -> String {
+    format!("built without the port: set {variable} to its {file} and build again")
 }

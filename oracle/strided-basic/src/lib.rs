@@ -203,3 +203,14 @@ pub fn declines_tiles(
 ) -> bool {
     block::declines_tiles(extents, strides, sizes, blocks)
 }
+
+/// The original `fit_l1_sets`: fits blocks to the L1 sets, for a destination.
+pub fn fit_l1_sets(
+    extents: &[usize],
+    strides: &[&[isize]],
+    sizes: &[usize],
+    chosen: usize,
+    blocks: &mut [usize],
+) {
+    block::fit_l1_sets(extents, strides, sizes, chosen, blocks)
+}

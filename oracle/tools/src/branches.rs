@@ -6,7 +6,7 @@ use crate::answer::{lead_first, plan, rows, Axes};
 use crate::layout::{Layout, Purpose};
 use std::collections::BTreeSet;
 use strided_basic as original;
-use strided_basic::probe::Event;
+use strided_basic::probe::{Event, Seen};
 
 /// Declares the branches with the names they are counted under.
 macro_rules! branches {
@@ -107,16 +107,32 @@ fn refused(row: u32) -> Branch {
     }
 }
 
+/// What the original does with a layout.
+pub struct Study {
+    pub branches: BTreeSet<Branch>,
+    /// The plan, unless the layout is refused or its cutting takes more steps.
+    pub plan: Option<original::Plan>,
+}
+
 /// The branches that a layout reaches, its cutting within so many steps.
+pub fn branches(layout: &Layout, steps: u64) -> BTreeSet<Branch> {
+    study(layout, steps).branches
+}
+
+/// The branches that a layout reaches, its cutting within so many steps, and
+/// its plan.
 ///
 /// # Panics
 ///
 /// If a counted copy answers otherwise than the original.
-pub fn branches(layout: &Layout, steps: u64) -> BTreeSet<Branch> {
+pub fn study(layout: &Layout, steps: u64) -> Study {
     let mut found = BTreeSet::new();
     if let Some(row) = layout.refusal() {
         found.insert(refused(row));
-        return found;
+        return Study {
+            branches: found,
+            plan: None,
+        };
     }
     let mut note = |branch: Branch, here: bool| {
         if here {
@@ -167,15 +183,26 @@ pub fn branches(layout: &Layout, steps: u64) -> BTreeSet<Branch> {
     note(Branch::FuseBrokenProduct, met(Event::FuseBrokenProduct));
     note(Branch::FuseTotal, met(Event::FuseTotalAbove64Bits));
 
-    if axes.large() {
+    let (plan, seen) = if axes.large() {
+        let fit = fits(layout);
         let strides = rows(&axes.strides);
-        if original::probe::cut(extents, &strides, sizes, steps).capped {
+        let (blocks, seen) = original::probe::blocks(extents, &strides, sizes, fit, steps);
+        if seen.capped {
             note(Branch::CutCapped, true);
-            return found;
+            return Study {
+                branches: found,
+                plan: None,
+            };
         }
-        block_branches(layout, &axes, &mut note);
+        let plan = plan(layout, axes.total);
+        assert_eq!(blocks, plan.blocks, "the counted blocks differ");
+        (plan, Some(seen))
+    } else {
+        (plan(layout, axes.total), None)
+    };
+    if let Some(seen) = seen {
+        block_branches(layout, &axes, &seen, &plan.blocks, &mut note);
     }
-    let plan = plan(layout, axes.total);
     note(walk_rank(plan.extents.len()), true);
     let is_cut = |axis: &usize| plan.blocks[*axis] < plan.extents[*axis];
     let cut: Vec<usize> = (0..plan.extents.len()).filter(is_cut).collect();
@@ -183,18 +210,31 @@ pub fn branches(layout: &Layout, steps: u64) -> BTreeSet<Branch> {
     note(Branch::WalkCutOne, tiled && cut.len() == 1);
     note(Branch::WalkCutSeveral, tiled && cut.len() > 1);
     note(Branch::WalkCutRank9Up, !tiled && cut.first() == Some(&0));
-    found
+    Study {
+        branches: found,
+        plan: Some(plan),
+    }
 }
 
-/// The branches of cutting, declining and fitting.
-fn block_branches(layout: &Layout, axes: &Axes, note: &mut impl FnMut(Branch, bool)) {
+/// The destination that blocks are fitted for, if they are.
+pub fn fits(layout: &Layout) -> Option<usize> {
+    let pointwise = layout.purpose == Purpose::Pointwise;
+    layout.chosen.filter(|_| pointwise)
+}
+
+/// The branches of cutting, declining and fitting: `seen` is what the counted
+/// copy has met, `answer` the original's blocks.
+fn block_branches(
+    layout: &Layout,
+    axes: &Axes,
+    seen: &Seen,
+    answer: &[usize],
+    note: &mut impl FnMut(Branch, bool),
+) {
     let (extents, sizes) = (&axes.extents, &layout.sizes);
     let strides = rows(&axes.strides);
     let pointwise = layout.purpose == Purpose::Pointwise;
-    let fit = layout.chosen.filter(|_| pointwise);
-    let (blocks, seen) = original::probe::blocks(extents, &strides, sizes, fit, u64::MAX);
-    let answer = plan(layout, axes.total).blocks;
-    assert_eq!(blocks, answer, "the counted blocks differ");
+    let fit = fits(layout);
     let met = |event| seen.events.contains(&event);
     note(Branch::RegionAbove64Bits, met(Event::RegionAbove64Bits));
 
@@ -240,7 +280,7 @@ fn block_branches(layout: &Layout, axes: &Axes, note: &mut impl FnMut(Branch, bo
     note(Branch::FitSkipChosenZero, met(Event::FitSkipChosenZero));
     note(Branch::FitSkipNotEntering, met(Event::FitSkipNotEntering));
     note(Branch::FitSkipBlockOne, met(Event::FitSkipBlockOne));
-    note(Branch::FitUnshortened, cut == *extents && answer != cut);
+    note(Branch::FitUnshortened, cut == *extents && *answer != cut);
     let other = layout.strides.len() != 2;
     note(Branch::NoFitUnchosen, pointwise && layout.chosen.is_none());
     note(Branch::NoFitOperands, fit.is_some() && other);

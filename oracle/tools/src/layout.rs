@@ -43,7 +43,7 @@ const GREATEST_SIGNED: u128 = i64::MAX as u128;
 const GREATEST_UNSIGNED: u128 = u64::MAX as u128;
 
 /// The sum of (extent - 1) x stride size; above 2^127 it stays at 2^128 - 1 at most.
-fn reach(extents: &[usize], strides: &[isize]) -> u128 {
+pub fn reach(extents: &[usize], strides: &[isize]) -> u128 {
     extents
         .iter()
         .zip(strides)
@@ -53,16 +53,10 @@ fn reach(extents: &[usize], strides: &[isize]) -> u128 {
         })
 }
 
-/// Whether the product of extents, none of them zero, is above 2^64 - 1.
-fn total_too_large(extents: &[usize]) -> bool {
-    let mut total = 1u128;
-    for &extent in extents {
-        total *= extent as u128;
-        if total > GREATEST_UNSIGNED {
-            return true;
-        }
-    }
-    false
+/// The product of the extents, 2^128 - 1 at most.
+pub fn total(extents: &[usize]) -> u128 {
+    let extents = extents.iter().map(|&extent| extent as u128);
+    extents.fold(1, u128::saturating_mul)
 }
 
 impl Layout {
@@ -84,7 +78,7 @@ impl Layout {
         if self.extents.contains(&0) {
             return None;
         }
-        if total_too_large(&self.extents) {
+        if total(&self.extents) > GREATEST_UNSIGNED {
             return Some(5);
         }
         let reaches = || self.strides.iter().map(|row| reach(&self.extents, row));
@@ -114,7 +108,7 @@ impl Walk {
         if self.extents.contains(&0) {
             return None;
         }
-        if total_too_large(&self.extents) {
+        if total(&self.extents) > GREATEST_UNSIGNED {
             return Some(5);
         }
         if self

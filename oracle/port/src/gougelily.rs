@@ -1,0 +1,249 @@
+//! The public library. Each function answers 0 or more, or the refusal's number
+//! negated, and then every lent array is as it was. They are declared as in the
+//! port's include/gougelily.h.
+
+use crate::{Flat, Strides};
+
+/// A plan as the port hands it out and takes it in.
+#[derive(Clone, Debug, PartialEq, Eq)]
+pub struct Plan {
+    pub rank: [usize; 1],
+    pub operands: [usize; 1],
+    pub extents: [u64; 64],
+    pub blocks: [u64; 64],
+    pub strides: Strides,
+}
+
+/// An index as the port tells it: how many places it has, and the places.
+#[derive(Clone, Debug, PartialEq, Eq)]
+pub struct Told {
+    pub count: [usize; 1],
+    pub index: [u64; 64],
+}
+
+/// The state of a walk.
+#[derive(Clone, Debug, PartialEq, Eq)]
+pub struct State {
+    pub ended: [u64; 1],
+    pub counters: [u64; 64],
+    pub offsets: [i64; 8],
+}
+
+/// A block as a step hands it out.
+#[derive(Clone, Debug, PartialEq, Eq)]
+pub struct Block {
+    pub counters: [u64; 64],
+    pub length: [u64; 1],
+    pub offsets: [i64; 8],
+    pub strides: [i64; 8],
+}
+
+/// Whether the library is linked; if not, what to do.
+pub fn linked() -> Result<(), String> {
+    if cfg!(gougelily_linked) {
+        return Ok(());
+    }
+    Err(crate::missing("GOUGELILY_LIB", "libgougelily.a"))
+}
+
+#[cfg(gougelily_linked)]
+mod library {
+    extern "C" {
+        pub fn gougelily_plan(
+            extents: *const u64,
+            rank: usize,
+            sizes: *const u64,
+            operands: usize,
+            strides: *const i64,
+            stride_count: usize,
+            kind: u64,
+            chosen: u64,
+            plan_rank: *mut [usize; 1],
+            plan_operands: *mut [usize; 1],
+            plan_extents: *mut [u64; 64],
+            blocks: *mut [u64; 64],
+            plan_strides: *mut [i64; 512],
+        ) -> i64;
+        pub fn gougelily_original_index(
+            extents: *const u64,
+            rank: usize,
+            sizes: *const u64,
+            operands: usize,
+            strides: *const i64,
+            stride_count: usize,
+            kind: u64,
+            chosen: u64,
+            counters: *const u64,
+            counter_count: usize,
+            count: *mut [usize; 1],
+            index: *mut [u64; 64],
+        ) -> i64;
+        pub fn gougelily_plan_index(
+            extents: *const u64,
+            rank: usize,
+            sizes: *const u64,
+            operands: usize,
+            strides: *const i64,
+            stride_count: usize,
+            kind: u64,
+            chosen: u64,
+            original: *const u64,
+            original_count: usize,
+            count: *mut [usize; 1],
+            index: *mut [u64; 64],
+        ) -> i64;
+        pub fn gougelily_begin(
+            rank: usize,
+            operands: usize,
+            extents: *const [u64; 64],
+            blocks: *const [u64; 64],
+            strides: *const [i64; 512],
+            starts: *const i64,
+            start_count: usize,
+            ended: *mut [u64; 1],
+            counters: *mut [u64; 64],
+            offsets: *mut [i64; 8],
+        ) -> i64;
+        pub fn gougelily_step(
+            rank: usize,
+            operands: usize,
+            extents: *const [u64; 64],
+            blocks: *const [u64; 64],
+            strides: *const [i64; 512],
+            ended: *mut [u64; 1],
+            counters: *mut [u64; 64],
+            offsets: *mut [i64; 8],
+            block_counters: *mut [u64; 64],
+            length: *mut [u64; 1],
+            block_offsets: *mut [i64; 8],
+            block_strides: *mut [i64; 8],
+        ) -> i64;
+        pub fn gougelily_repeat_mark(
+            extents: *const u64,
+            rank: usize,
+            strides: *const i64,
+            stride_count: usize,
+        ) -> i64;
+    }
+}
+
+/// Declares a safe face: the call if the library is linked, else a panic. Each
+/// function reads the slices and arrays it is handed and writes at most the
+/// arrays it is lent, all of them whole.
+macro_rules! faces {
+    ($($(#[$doc:meta])* pub fn $face:ident($($name:ident: $type:ty),* $(,)?) -> i64 { $($call:tt)* })*) => {
+        $($(#[$doc])*
+        #[cfg(gougelily_linked)]
+        #[inline]
+        pub fn $face($($name: $type),*) -> i64 {
+            unsafe { $($call)* }
+        }
+
+        $(#[$doc])*
+        #[cfg(not(gougelily_linked))]
+        pub fn $face($(_: $type),*) -> i64 {
+            unreachable!("a program asks `linked` first")
+        })*
+    };
+}
+
+faces! {
+    /// The plan of a layout.
+    pub fn plan(layout: &Flat, plan: &mut Plan) -> i64 {
+        library::gougelily_plan(
+            layout.extents.as_ptr(),
+            layout.extents.len(),
+            layout.sizes.as_ptr(),
+            layout.sizes.len(),
+            layout.strides.as_ptr(),
+            layout.strides.len(),
+            layout.kind,
+            layout.chosen,
+            &mut plan.rank,
+            &mut plan.operands,
+            &mut plan.extents,
+            &mut plan.blocks,
+            &mut plan.strides,
+        )
+    }
+
+    /// The original index of a plan index.
+    pub fn original_index(layout: &Flat, counters: &[u64], told: &mut Told) -> i64 {
+        library::gougelily_original_index(
+            layout.extents.as_ptr(),
+            layout.extents.len(),
+            layout.sizes.as_ptr(),
+            layout.sizes.len(),
+            layout.strides.as_ptr(),
+            layout.strides.len(),
+            layout.kind,
+            layout.chosen,
+            counters.as_ptr(),
+            counters.len(),
+            &mut told.count,
+            &mut told.index,
+        )
+    }
+
+    /// The plan index of an original index.
+    pub fn plan_index(layout: &Flat, original: &[u64], told: &mut Told) -> i64 {
+        library::gougelily_plan_index(
+            layout.extents.as_ptr(),
+            layout.extents.len(),
+            layout.sizes.as_ptr(),
+            layout.sizes.len(),
+            layout.strides.as_ptr(),
+            layout.strides.len(),
+            layout.kind,
+            layout.chosen,
+            original.as_ptr(),
+            original.len(),
+            &mut told.count,
+            &mut told.index,
+        )
+    }
+
+    /// The beginning of a walk.
+    pub fn begin(plan: &Plan, starts: &[i64], state: &mut State) -> i64 {
+        library::gougelily_begin(
+            plan.rank[0],
+            plan.operands[0],
+            &plan.extents,
+            &plan.blocks,
+            &plan.strides,
+            starts.as_ptr(),
+            starts.len(),
+            &mut state.ended,
+            &mut state.counters,
+            &mut state.offsets,
+        )
+    }
+
+    /// One step of a lent walk: 1 if it hands out a block, 0 if the walk has ended.
+    pub fn step(plan: &Plan, state: &mut State, block: &mut Block) -> i64 {
+        library::gougelily_step(
+            plan.rank[0],
+            plan.operands[0],
+            &plan.extents,
+            &plan.blocks,
+            &plan.strides,
+            &mut state.ended,
+            &mut state.counters,
+            &mut state.offsets,
+            &mut block.counters,
+            &mut block.length,
+            &mut block.offsets,
+            &mut block.strides,
+        )
+    }
+
+    /// The repeat mark of an operand: 1 for yes, 0 for no.
+    pub fn repeat_mark(extents: &[u64], strides: &[i64]) -> i64 {
+        library::gougelily_repeat_mark(
+            extents.as_ptr(),
+            extents.len(),
+            strides.as_ptr(),
+            strides.len(),
+        )
+    }
+}

@@ -1,0 +1,80 @@
+//! The inner parts, from crate parts: not the port's public interface. Each
+//! function answers 0, or the refusal's number, and then its arrays are as they
+//! were.
+
+use crate::{Flat, Strides};
+
+/// The ranks, a row of 64 per operand.
+pub type Ranks = [[u64; 64]; 8];
+
+/// Whether the library is linked; if not, what to do.
+pub fn linked() -> Result<(), String> {
+    if cfg!(parts_linked) {
+        return Ok(());
+    }
+    Err(crate::missing("PARTS_LIB", "libparts.a"))
+}
+
+/// Declares the functions of the library, with a safe face for each. A slice
+/// passes as its address and its length, an array as its address.
+macro_rules! functions {
+    ($($(#[$doc:meta])* $face:ident = $name:ident($($out:ident: &mut $array:ty),*);)*) => {
+        #[cfg(parts_linked)]
+        extern "C" {
+            $(fn $name(
+                extents: *const u64,
+                rank: usize,
+                sizes: *const u64,
+                operands: usize,
+                strides: *const i64,
+                count: usize,
+                kind: u64,
+                chosen: u64,
+                $($out: *mut $array,)*
+            ) -> u64;)*
+        }
+
+        $($(#[$doc])*
+        #[cfg(parts_linked)]
+        #[inline]
+        pub fn $face(layout: &Flat $(, $out: &mut $array)*) -> u64 {
+            // The function reads the three slices and writes at most the arrays.
+            unsafe {
+                $name(
+                    layout.extents.as_ptr(),
+                    layout.extents.len(),
+                    layout.sizes.as_ptr(),
+                    layout.sizes.len(),
+                    layout.strides.as_ptr(),
+                    layout.strides.len(),
+                    layout.kind,
+                    layout.chosen,
+                    $($out,)*
+                )
+            }
+        }
+
+        $(#[$doc])*
+        #[cfg(not(parts_linked))]
+        pub fn $face(_: &Flat $(, _: &mut $array)*) -> u64 {
+            unreachable!("a program asks `linked` first")
+        })*
+    };
+}
+
+functions! {
+    /// The refusal's number by rows 1 to 7, or 0.
+    check = parts_check();
+    /// The ranks.
+    ranks = parts_ranks(out: &mut Ranks);
+    /// The weights.
+    weights = parts_weights(out: &mut [u64; 64]);
+    /// The loop order.
+    order = parts_order(out: &mut [usize; 64]);
+    /// The extents after fusing, in the order of fusing.
+    fused = parts_fused(out: &mut [u64; 64]);
+    /// The plan's axes: their number, extents and strides.
+    axes = parts_axes(rank: &mut [usize; 1], extents: &mut [u64; 64], strides: &mut Strides);
+    /// The costs of the plan's axes.
+    costs = parts_costs(out: &mut [u64; 64]);
+}
