@@ -79,6 +79,24 @@ pub fn pointwise_plan(
     ))
 }
 
+/// The original `total_len` and `pointwise_plan`, or `fold_plan`, the plan's
+/// extents, strides and blocks lent: for timing.
+pub fn with_plan<R>(
+    extents: &[usize],
+    strides: &[&[isize]],
+    chosen: Option<usize>,
+    fold: bool,
+    sizes: &[usize],
+    f: impl FnOnce(&[usize], &[InlineVec<isize>], &[usize]) -> R,
+) -> R {
+    let total = kernel::total_len(extents).expect("a total below 2^64");
+    let (extents, strides, plan) = match (fold, chosen) {
+        (true, Some(chosen)) => kernel::fold_plan(extents, strides, chosen, sizes, total),
+        _ => kernel::pointwise_plan(extents, strides, chosen, sizes, total),
+    };
+    f(&extents, &strides, &plan.block)
+}
+
 /// The original `fold_plan`.
 pub fn fold_plan(
     extents: &[usize],

@@ -1,26 +1,14 @@
-//! Times the port's functions and the original's in one run and prints the
-//! ratios. Both are built for release. For each rank and number of operands it
-//! takes a few seeded layouts, and of many short runs over them the best one.
+//! The inner parts through the C functions of crate parts: ranks, order, fusing.
+//! For each rank and number of operands it takes a few seeded layouts.
 
 use port::parts::{self, Ranks};
 use port::{Flat, Strides};
 use std::hint::black_box;
-use std::io::{stdout, Write};
-use std::process::ExitCode;
 use std::time::Instant;
 use strided_basic as original;
 use tools::answer::rows;
 use tools::generate::Random;
 use tools::layout::{Layout, Purpose};
-use tools::options::{end, unknown, Options};
-
-const HELP: &str = "\
-bench: times the port and the original, and prints the ratios as a table
-
-  --seed S   the seed of the layouts (0)
-  --runs N   short runs, of which the best counts (2000)
-  --help     this text
-";
 
 /// Layouts over which one short run goes.
 const LAYOUTS: usize = 16;
@@ -174,23 +162,17 @@ fn best(cases: &[Case], function: &Function, runs: u64) -> (f64, f64) {
     (original, port)
 }
 
-fn run() -> Result<(), String> {
-    let (mut seed, mut runs) = (0, 2000);
-    let mut options = Options::of_process()?;
-    let mut output = stdout().lock();
-    let unwritable = |error| format!("the output cannot be written: {error}");
-    while let Some(option) = options.next_option() {
-        match option.as_str() {
-            "--seed" => seed = options.number(&option)?,
-            "--runs" => runs = options.number(&option)?,
-            "--help" => return output.write_all(HELP.as_bytes()).map_err(unwritable),
-            _ => return Err(unknown(&option)),
-        }
-    }
-    parts::linked()?;
-    let head =
-        "| function | rank | operands | Rust ns | port ns | ratio |\n|---|---|---|---|---|---|\n";
-    output.write_all(head.as_bytes()).map_err(unwritable)?;
+/// A function's times at a rank and a number of operands.
+pub struct Row {
+    pub name: &'static str,
+    pub rank: usize,
+    pub operands: usize,
+    pub original: f64,
+    pub port: f64,
+}
+
+pub fn times(seed: u64, runs: u64) -> Vec<Row> {
+    let mut found = Vec::new();
     for function in &FUNCTIONS {
         for rank in [2, 4, 6, 8] {
             for &operands in function.operands {
@@ -205,18 +187,15 @@ fn run() -> Result<(), String> {
                 };
                 let cases: Vec<Case> = layouts.iter().map(case).collect();
                 let (original, port) = best(&cases, function, runs);
-                let (name, ratio) = (function.name, port / original);
-                writeln!(
-                    output,
-                    "| {name} | {rank} | {operands} | {original:.0} | {port:.0} | {ratio:.2} |"
-                )
-                .map_err(unwritable)?;
+                found.push(Row {
+                    name: function.name,
+                    rank,
+                    operands,
+                    original,
+                    port,
+                });
             }
         }
     }
-    Ok(())
-}
-
-fn main() -> ExitCode {
-    end("bench", run())
+    found
 }

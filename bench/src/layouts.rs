@@ -1,0 +1,112 @@
+//! The layouts whose planning and walking are timed.
+
+use tools::layout::{Layout, Purpose};
+
+/// A layout with a name for the table.
+pub struct Named {
+    pub name: String,
+    pub layout: Layout,
+}
+
+/// The strides of a dense array whose axes lie in this order, the quickest first.
+fn dense(extents: &[usize], order: &[usize]) -> Vec<isize> {
+    let (mut row, mut next) = (vec![0; extents.len()], 1);
+    for &axis in order {
+        row[axis] = next;
+        next *= extents[axis] as isize;
+    }
+    row
+}
+
+/// A copy of numbers of 8 bytes into operand 0, each operand dense with its axes
+/// in an order of its own.
+fn copy(name: &str, extents: &[usize], orders: &[Vec<usize>]) -> Named {
+    let strides = orders.iter().map(|order| dense(extents, order)).collect();
+    named(name, extents.to_vec(), strides)
+}
+
+fn named(name: &str, extents: Vec<usize>, strides: Vec<Vec<isize>>) -> Named {
+    let layout = Layout {
+        purpose: Purpose::Pointwise,
+        chosen: Some(0),
+        extents,
+        sizes: vec![8; strides.len()],
+        strides,
+    };
+    Named {
+        name: name.to_string(),
+        layout,
+    }
+}
+
+fn up(rank: usize) -> Vec<usize> {
+    (0..rank).collect()
+}
+
+fn down(rank: usize) -> Vec<usize> {
+    (0..rank).rev().collect()
+}
+
+/// Axes turned by some places.
+fn turned(rank: usize, by: usize) -> Vec<usize> {
+    (0..rank).map(|axis| (axis * 5 + by) % rank).collect()
+}
+
+/// 64 axes, 40 of them with two cells.
+fn wide(operands: usize) -> Named {
+    let extents: Vec<usize> = (0..64).map(|axis| 1 + usize::from(axis % 8 < 5)).collect();
+    let order = |k: usize| match k % 2 {
+        0 => turned(64, k),
+        _ => down(64),
+    };
+    let orders: Vec<Vec<usize>> = (0..operands).map(order).collect();
+    copy(&format!("rank 64, {operands} operands"), &extents, &orders)
+}
+
+/// The layouts for planning, all as copies into operand 0.
+pub fn planning() -> Vec<Named> {
+    let mut all = vec![
+        copy("10 x 10", &[10, 10], &[up(2), down(2)]),
+        copy("contiguous 1,000,000", &[1_000_000], &[up(1), up(1)]),
+        copy("contiguous 100 x 100 x 100", &[100; 3], &[up(3), up(3)]),
+    ];
+    for side in [64, 256, 1000, 1024, 4096] {
+        let name = format!("transpose {side}");
+        all.push(copy(&name, &[side, side], &[up(2), down(2)]));
+    }
+    all.push(copy("reversal of 128^3", &[128; 3], &[up(3), down(3)]));
+    all.push(copy(
+        "rotation of 100^3",
+        &[100; 3],
+        &[up(3), vec![2, 0, 1]],
+    ));
+    all.push(copy("rank 6", &[9; 6], &[up(6), vec![3, 5, 1, 0, 4, 2]]));
+    all.push(copy("rank 9", &[5; 9], &[up(9), turned(9, 4)]));
+    all.push(wide(2));
+    all.push(wide(8));
+    // No operand moves along the last axis, so that cutting it shrinks no region.
+    for extent in [16_384, 1_048_576] {
+        let name = format!("broadcast of 2 x 600 x {extent}");
+        all.push(named(&name, vec![2, 600, extent], vec![vec![1, 1000, 0]]));
+    }
+    all
+}
+
+/// The layout as a sum ordered by operand 0.
+pub fn fold(layout: &Layout) -> Layout {
+    Layout {
+        purpose: Purpose::Fold,
+        ..layout.clone()
+    }
+}
+
+/// Layouts of two operands for walking, and how many cells a row has.
+pub fn walking() -> Vec<Named> {
+    vec![
+        copy("rank 1", &[65_536], &[up(1), up(1)]),
+        copy("rank 2", &[256, 256], &[up(2), down(2)]),
+        copy("rank 3", &[64, 32, 32], &[up(3), down(3)]),
+        copy("rank 4", &[16, 16, 16, 16], &[up(4), vec![2, 0, 3, 1]]),
+        copy("rank 9", &[4; 9], &[up(9), turned(9, 4)]),
+    ]
+}

@@ -1,0 +1,148 @@
+//! Times the port and the original in one run and prints the ratios as tables in
+//! Markdown. Both are built for release. A ratio above 1 says that the port is
+//! slower.
+
+mod counting;
+mod layouts;
+mod parts;
+mod planning;
+mod timing;
+mod walking;
+
+use counting::Side;
+use std::io::{stdout, Write};
+use std::process::ExitCode;
+use tools::options::{end, unknown, Options};
+
+const HELP: &str = "\
+bench: times the port and the original, and prints the ratios as tables
+
+  --only WHAT      only this table: planning, walking or parts; may be repeated
+  --runs N         short runs of each side, of which the best counts (2000)
+  --seed S         the seed of the layouts for parts (0)
+  --instructions   count instructions of planning too, with valgrind
+  --help           this text
+";
+
+/// What is asked of a run.
+struct Asked {
+    only: Vec<String>,
+    runs: u64,
+    seed: u64,
+    instructions: bool,
+}
+
+impl Asked {
+    fn wants(&self, what: &str) -> bool {
+        self.only.is_empty() || self.only.iter().any(|only| only == what)
+    }
+}
+
+fn planning_table(asked: &Asked, out: &mut impl Write) -> Result<(), String> {
+    let rows = planning::times(asked.runs);
+    let mut text = String::from("| layout | purpose | Rust ns | port ns | ratio |");
+    let mut rule = String::from("|---|---|---|---|---|");
+    if asked.instructions {
+        text.push_str(" Rust instructions | port instructions | ratio |");
+        rule.push_str("---|---|---|");
+    }
+    text = format!("## Planning\n\n{text}\n{rule}\n");
+    let mut ratios = Vec::new();
+    for (at, row) in rows.iter().enumerate() {
+        let ratio = row.port / row.original;
+        ratios.push(ratio);
+        text += &format!(
+            "| {} | {} | {:.0} | {:.0} | {ratio:.2} |",
+            row.name, row.purpose, row.original, row.port
+        );
+        if asked.instructions {
+            let original = counting::instructions(Side::Original, at)?;
+            let port = counting::instructions(Side::Port, at)?;
+            let ratio = port as f64 / original as f64;
+            text += &format!(" {original} | {port} | {ratio:.2} |");
+        }
+        text.push('\n');
+    }
+    ratios.sort_by(f64::total_cmp);
+    let (median, most) = (ratios[ratios.len() / 2], ratios[ratios.len() - 1]);
+    text += &format!("\nThe median ratio is {median:.2}, the greatest {most:.2}.\n\n");
+    put(out, &text)
+}
+
+fn walking_table(asked: &Asked, out: &mut impl Write) -> Result<(), String> {
+    let mut text = String::from(
+        "## Walking, per block\n\n| plan | blocks | Rust ns | step ns | ratio |\n|---|---|---|---|---|\n",
+    );
+    for row in walking::times(asked.runs.div_ceil(20)) {
+        let ratio = row.step / row.original;
+        text += &format!(
+            "| {} | {} | {:.1} | {:.1} | {ratio:.1} |\n",
+            row.name, row.blocks, row.original, row.step
+        );
+    }
+    text.push('\n');
+    put(out, &text)
+}
+
+fn parts_table(asked: &Asked, out: &mut impl Write) -> Result<(), String> {
+    let mut text = String::from(
+        "## Parts\n\n| function | rank | operands | Rust ns | port ns | ratio |\n|---|---|---|---|---|---|\n",
+    );
+    for row in parts::times(asked.seed, asked.runs) {
+        let ratio = row.port / row.original;
+        text += &format!(
+            "| {} | {} | {} | {:.0} | {:.0} | {ratio:.2} |\n",
+            row.name, row.rank, row.operands, row.original, row.port
+        );
+    }
+    text.push('\n');
+    put(out, &text)
+}
+
+fn put(out: &mut impl Write, text: &str) -> Result<(), String> {
+    let unwritable = |error| format!("the output cannot be written: {error}");
+    out.write_all(text.as_bytes()).map_err(unwritable)
+}
+
+fn run() -> Result<(), String> {
+    let mut asked = Asked {
+        only: Vec::new(),
+        runs: 2000,
+        seed: 0,
+        instructions: false,
+    };
+    let mut options = Options::of_process()?;
+    let mut out = stdout().lock();
+    while let Some(option) = options.next_option() {
+        match option.as_str() {
+            "--only" => asked.only.push(options.value(&option)?),
+            "--runs" => asked.runs = options.number(&option)?,
+            "--seed" => asked.seed = options.number(&option)?,
+            "--instructions" => asked.instructions = true,
+            "--counted" => {
+                let task = options.value(&option)?;
+                return counting::counted(&planning::layouts(), &task);
+            }
+            "--help" => return put(&mut out, HELP),
+            _ => return Err(unknown(&option)),
+        }
+    }
+    if asked.wants("planning") || asked.wants("walking") {
+        port::gougelily::linked()?;
+    }
+    if asked.wants("planning") {
+        planning_table(&asked, &mut out)?;
+    }
+    if asked.wants("walking") {
+        walking_table(&asked, &mut out)?;
+    }
+    if asked.wants("parts") {
+        port::parts::linked()?;
+        parts_table(&asked, &mut out)?;
+    }
+    Ok(())
+}
+
+fn main() -> ExitCode {
+    end("bench", run())
+}

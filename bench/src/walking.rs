@@ -1,0 +1,135 @@
+//! Walking to the end: the library's steps beside the original's closure walk.
+//! Both hand the length and the offsets of every block to the same sum.
+
+use crate::layouts;
+use crate::planning::empty_plan;
+use crate::timing;
+use port::gougelily::{self, Block, Plan, State};
+use port::Flat;
+use std::hint::black_box;
+use strided_basic as original;
+use tools::layout::Layout;
+
+/// A plan with its own blocks, ready for both sides.
+struct Case {
+    plan: Plan,
+    extents: Vec<usize>,
+    blocks: Vec<usize>,
+    strides: Vec<Vec<isize>>,
+}
+
+impl Case {
+    fn of(layout: &Layout) -> Case {
+        let mut plan = empty_plan();
+        assert_eq!(gougelily::plan(&Flat::of(layout), &mut plan), 0);
+        let rank = plan.rank[0];
+        let row = |k: usize| {
+            let strides = &plan.strides[k * 64..k * 64 + rank];
+            strides.iter().map(|&stride| stride as isize).collect()
+        };
+        Case {
+            extents: plan.extents[..rank].iter().map(|&e| e as usize).collect(),
+            blocks: plan.blocks[..rank].iter().map(|&b| b as usize).collect(),
+            strides: (0..plan.operands[0]).map(row).collect(),
+            plan,
+        }
+    }
+
+    /// The number of blocks.
+    fn blocks(&self) -> usize {
+        let mut blocks = 0;
+        self.each(|_, _| blocks += 1);
+        blocks
+    }
+
+    fn each(&self, mut f: impl FnMut(&[isize], usize)) {
+        let starts = vec![0; self.strides.len()];
+        original::for_each_inner_block_preordered(
+            &self.extents,
+            &self.blocks,
+            &self.strides,
+            &starts,
+            |offsets, length, _| {
+                f(offsets, length);
+                Ok(())
+            },
+        )
+        .expect("the closure does not fail");
+    }
+
+    fn original(&self) -> usize {
+        let mut sum = 0usize;
+        self.each(|offsets, length| {
+            sum = sum.wrapping_mul(31).wrapping_add(length);
+            for &offset in offsets {
+                sum = sum.wrapping_add(offset as usize);
+            }
+        });
+        sum
+    }
+
+    fn begun(&self) -> State {
+        let mut state = State {
+            ended: [0],
+            counters: [0; 64],
+            offsets: [0; 8],
+        };
+        let starts = [0; 8];
+        let answer = gougelily::begin(&self.plan, &starts[..self.strides.len()], &mut state);
+        assert_eq!(answer, 0, "starts of 0 are served");
+        state
+    }
+
+    fn steps(&self) -> usize {
+        let mut state = self.begun();
+        let mut block = Block {
+            counters: [0; 64],
+            length: [0],
+            offsets: [0; 8],
+            strides: [0; 8],
+        };
+        let mut sum = 0usize;
+        while gougelily::step(black_box(&self.plan), &mut state, &mut block) == 1 {
+            sum = sum.wrapping_mul(31).wrapping_add(block.length[0] as usize);
+            for &offset in &block.offsets[..self.strides.len()] {
+                sum = sum.wrapping_add(offset as usize);
+            }
+        }
+        sum
+    }
+}
+
+/// A layout's times per block.
+pub struct Row {
+    pub name: String,
+    pub blocks: usize,
+    pub original: f64,
+    pub step: f64,
+}
+
+pub fn times(runs: u64) -> Vec<Row> {
+    let mut found = Vec::new();
+    for named in layouts::walking() {
+        // Small blocks, so that a walk has many.
+        let mut case = Case::of(&named.layout);
+        for axis in 0..case.blocks.len() {
+            case.blocks[axis] = case.blocks[axis].min(8);
+            case.plan.blocks[axis] = case.blocks[axis] as u64;
+        }
+        let blocks = case.blocks();
+        assert_eq!(
+            case.original(),
+            case.steps(),
+            "{}: other blocks",
+            named.name
+        );
+        let (original, step) = timing::best(runs, &mut || case.original(), &mut || case.steps());
+        found.push(Row {
+            name: named.name,
+            blocks,
+            original: original / blocks as f64,
+            step: step / blocks as f64,
+        });
+    }
+    found
+}
