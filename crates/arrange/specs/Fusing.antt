@@ -8,7 +8,7 @@ use lib.IntN.{ℤ}
 use lib.ListN.{length, getD, take}
 use lib.Seq.{getD-take, length-take-le}
 use Rattle.strided.specs.Base.{padded}
-use Rattle.strided.specs.Layout.{noAxis, axesOf}
+use Rattle.strided.specs.Layout.{Axis, noAxis, axesOf}
 use Rattle.strided.specs.Order.{pick, fusingOrder}
 use Rattle.strided.specs.Fuse.{fusedAxes, planAxes}
 use Rattle.strided.specs.declared.Purpose.{Purpose}
@@ -36,6 +36,10 @@ module _ (es : List ℕ) (m : ℕ) (ss : List ℤ) (u : Purpose) (few : length e
   pub axes-in-order : fusedAxes (pick noAxis (axesOf es m ss) (take (length es) order)) ≡ planAxes es m ss u
   unfolding planAxes
   axes-in-order = ap (λ (o : List ℕ). fusedAxes (pick noAxis (axesOf es m ss) o)) take-order
+
+  -- and arrays of the ones are arrays of the others
+  pub as-planned : {A : Type 0} (f : List Axis → A) {x : A} → x ≡ f (fusedAxes (pick noAxis (axesOf es m ss) (take (length es) order))) → x ≡ f (planAxes es m ss u)
+  as-planned f q = q ∙ ap f axes-in-order
 
   pub in-order : m ≤ 8 → length ss ≡ length es * m → InOrder es m ss order
   in-order h rows =

@@ -95,44 +95,44 @@ fn least_byte(bytes: &[u64; 512], operands: usize, offset: usize, rank: usize) -
 }
 
 // The blocks from offset to rank become 1.
-fn set_ones(blocks: [u64; 64], offset: usize, rank: usize) -> [u64; 64]
+fn set_ones(blocks: &mut [u64; 64], offset: usize, rank: usize)
     requires { ⌜ (offset ≤ rank) × (rank ≤ 64) ⌝ }
-    ensures { λ r. ⌜ r ≡ ones offset (rank - offset) blocks ⌝ }
+    ensures { λ _. ⌜ now (blocks .exit) ≡ ones offset (rank - offset) (now (blocks .entry)) ⌝ }
 {
-    let mut b = blocks;
     let mut i = offset;
     while i < rank {
-        b[i] = 1;
+        blocks[i] = 1;
         i += 1;
     }
-    b
 }
 
 // Cutting, on the axes from offset to rank: a first axis that is innermost for every operand is kept whole, and the rule starts over on
 // the next tail. The ranks are those of all the plan's axes on every level.
 pub fn compute_blocks_at<'a>(
-    blocks: [u64; 64],
+    blocks: &mut [u64; 64],
     bytes: &'a [u64; 512],
     costs: &'a [u64; 64],
-    ranks: [[u64; 64]; 8],
+    ranks: &'a [[u64; 64]; 8],
     operands: usize,
     offset: usize,
     rank: usize,
-) -> [u64; 64]
-    requires { ⌜ (((0 < operands) × (operands ≤ 8)) × ((offset ≤ rank) × (rank ≤ 64))) × ScoresFit rank (now costs) blocks ⌝ }
-    ensures { λ r. ⌜ r ≡ cutting (now (bytes .entry)) operands (now (costs .entry)) ranks offset (rank - offset) blocks ⌝ }
+)
+    requires { ⌜ (((0 < operands) × (operands ≤ 8)) × ((offset ≤ rank) × (rank ≤ 64))) × ScoresFit rank (now costs) (now blocks) ⌝ }
+    ensures { λ _. ⌜ now (blocks .exit) ≡ cutting (now (bytes .entry)) operands (now (costs .entry)) (now (ranks .entry)) offset (rank - offset) (now (blocks .entry)) ⌝ }
 {
     if offset == rank {
-        return blocks;
+        return;
     }
-    if memory_region(&blocks, bytes, operands, offset, rank) <= BLOCK_MEMORY_SIZE {
-        return blocks;
+    if memory_region(blocks, bytes, operands, offset, rank) <= BLOCK_MEMORY_SIZE {
+        return;
     }
-    if keeps_first(&ranks, operands, offset, rank) {
-        return compute_blocks_at(blocks, bytes, costs, ranks, operands, offset + 1, rank);
+    if keeps_first(ranks, operands, offset, rank) {
+        compute_blocks_at(blocks, bytes, costs, ranks, operands, offset + 1, rank);
+        return;
     }
     if BLOCK_MEMORY_SIZE < least_byte(bytes, operands, offset, rank) {
-        return set_ones(blocks, offset, rank);
+        set_ones(blocks, offset, rank);
+        return;
     }
-    shrink(blocks, bytes, costs, operands, offset, rank)
+    shrink(blocks, bytes, costs, operands, offset, rank);
 }

@@ -2,9 +2,13 @@
 // refuses what cannot be planned. A plan is 5 KB: it is made in arrays that the entry lends, and put together once, at the end.
 use auxiliary::index_order_into;
 use fuse::compute_costs;
+use fuse::plan_axes;
 use layout::check_layout;
 use layout::total_at_most;
+use model::byte_table_into;
 use model::cut_blocks;
+use model::fits_whole;
+use model::keeps_order;
 use order::SMALL_TENSOR_THRESHOLD;
 use order::fusing_order;
 use strided::Answer;
@@ -53,7 +57,7 @@ fn axes_into(
     ensures strides { λ _. ⌜ now (table .exit) ≡ strideTable (planAxes (now (extents .entry)) operands (now (strides .entry)) purpose) operands ⌝ }
 {
     let order = fusing_order(extents, strides, operands, purpose);
-    fuse::plan_axes(extents, strides, operands, &order, es, table)
+    plan_axes(extents, strides, operands, &order, es, table)
 }
 
 // ---- the ranks of the plan's axes
@@ -102,22 +106,42 @@ fn plan_ranks_into(sizes: &[u64], strides: &[i64], rank: usize, table: &mut [[u6
 
 // ---- the plan
 
-// The blocks of a plan whose total is above 1,024, from its arrays.
+// The blocks of a plan whose total is above 1,024, from its arrays. The tests that keep every axis whole come before what they can spare.
 fn block_sizes<'a>(
     sizes: &'a [u64],
     es: &'a [u64; 64],
     table: &'a [i64; 512],
     rank: usize,
     purpose: Purpose,
-) -> [u64; 64]
+    blocks: &mut [u64; 64],
+)
     requires { ⌜ Plannable (now sizes) (now es) (now table) rank purpose ⌝ }
-    ensures { λ r. ⌜ r ≡ cutBlocks (now (sizes .entry)) (now (es .entry)) (now (table .entry)) rank purpose ⌝ }
+    ensures { λ _. ⌜ now (blocks .exit) ≡ cutBlocks (now (sizes .entry)) (now (es .entry)) (now (table .entry)) rank purpose ⌝ }
 {
+    if keeps_order(sizes, table, rank) {
+        *blocks = *es;
+        return;
+    }
+    let mut bytes = [0u64; 512];
+    byte_table_into(sizes, table, rank, &mut bytes);
+    if fits_whole(es, &bytes, sizes.len(), rank) {
+        *blocks = *es;
+        return;
+    }
     let costs = compute_costs(table, sizes.len(), rank);
     let mut ranks = [[0u64; 64]; 8];
     plan_ranks_into(sizes, table, rank, &mut ranks);
-    let whole = *es;
-    cut_blocks(whole, sizes, table, &costs, ranks, rank, purpose)
+    cut_blocks(
+        es,
+        &bytes,
+        sizes,
+        table,
+        &costs,
+        ranks,
+        rank,
+        purpose,
+        blocks,
+    );
 }
 
 // The plan of a layout that is not refused, made in arrays of zeros: its axes are fused, and cut if there are more than 1,024 cells. So few
@@ -147,8 +171,7 @@ fn plan_fused<'a>(
         *blocks = *es;
         return rank;
     }
-    let cut = block_sizes(sizes, es, table, rank, purpose);
-    *blocks = cut;
+    block_sizes(sizes, es, table, rank, purpose, blocks);
     rank
 }
 

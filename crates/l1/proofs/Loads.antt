@@ -8,6 +8,7 @@ use native.Mathlib.Nat.{add-le-add, le-refl}
 use native.Mathlib.Omega.{arith}
 use lib.Dec.{ltb, leb, eqb}
 use lib.ListN.{getD, set}
+use lib.Seq.{set-set}
 use borrow.Author.Tests.{ltb-true, lt-ltb, le-ltb, ne-eqb}
 use Rattle.strided.specs.Base.{sum, product, seek, greatest}
 use Rattle.strided.specs.Region.{line, live, byteAt}
@@ -127,9 +128,12 @@ module _ (bytes sizes : List ℕ) (rank : ℕ) (s : L1Sets) (is : Of bytes sizes
   unfolding shortens shortensBy
   shortens-by chosen b i = ap (λ (x : Bool). not (eqb (chosen i) 0) && (x && ltb 1 (getD b i 0))) (enters-by i)
 
-  pub most-by : (b : List ℕ) (i : ℕ) → mostOf bytes sizes rank b i ≡ mostBy bytes s b i
+  -- also where the block has been put at 1 before
+  pub most-by : (b : List ℕ) (i v : ℕ) → mostOf bytes sizes rank b i ≡ mostBy bytes s (set b i v) i (getD b i 0)
   unfolding mostOf mostBy
-  most-by b i = λ j. greatest (λ x. leb (load-by (set b i x) j) live) (getD b i 0)
+  most-by b i v =
+      (λ j. greatest (λ x. leb (load-by (set b i x) j) live) (getD b i 0))
+      ∙ (λ j. greatest (λ x. leb (loadBy bytes s (sym (set-set b i v x) j)) live) (getD b i 0))
 
 -- ---- the load grows with each block
 

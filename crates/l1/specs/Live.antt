@@ -27,7 +27,7 @@ pub record Of (bytes sizes : List ℕ) (rank : ℕ) (s : L1Sets) : Type 0 where
 abbrev pub chosenSize : List ℤ → ℕ → ℕ → ℕ
 chosenSize strides c i = natAbs (getD strides (c * 64 + i) (pos 0))
 
--- the load, the axes that enter a product, those that are shortened and the greatest block, by the live axes
+-- the load, the axes that enter a product, those that are shortened and the greatest block up to a whole one, by the live axes
 abbrev pub loadBy : List ℕ → L1Sets → List ℕ → ℕ
 loadBy bytes s b = productOf bytes b 0 (s .first) + productOf bytes b 1 (s .second)
 
@@ -37,5 +37,5 @@ entersBy bytes s i = (ltb i (s .first) && aliases (byteAt bytes 0 i)) || (ltb i 
 unfoldable pub shortensBy : List ℕ → L1Sets → (ℕ → ℕ) → List ℕ → ℕ → Bool
 shortensBy bytes s chosen b i = not (eqb (chosen i) 0) && (entersBy bytes s i && ltb 1 (getD b i 0))
 
-unfoldable pub mostBy : List ℕ → L1Sets → List ℕ → ℕ → ℕ
-mostBy bytes s b i = greatest (λ x. leb (loadBy bytes s (set b i x)) live) (getD b i 0)
+unfoldable pub mostBy : List ℕ → L1Sets → List ℕ → ℕ → ℕ → ℕ
+mostBy bytes s b i whole = greatest (λ x. leb (loadBy bytes s (set b i x)) live) whole

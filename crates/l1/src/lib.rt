@@ -104,14 +104,14 @@ impl L1Sets {
         sat_add(a, b)
     }
 
-    // The load with the block of axis i put at x.
-    fn load_with(self, bytes: &[u64; 512], blocks: [u64; 64], i: usize, x: u64) -> u64
+    // The block of axis i is put at x. Answers the load.
+    fn load_with(self, bytes: &[u64; 512], blocks: &mut [u64; 64], i: usize, x: u64) -> u64
         requires { ⌜ ((self .first ≤ 64) × (self .second ≤ 64)) × (i < 64) ⌝ }
-        ensures { λ r. ⌜ r ≡ min (loadBy (now (bytes .entry)) self (set blocks i x)) cap ⌝ }
+        ensures load { λ r. ⌜ r ≡ min (loadBy (now (bytes .entry)) self (set (now (blocks .entry)) i x)) cap ⌝ }
+        ensures blocks { λ _. ⌜ now (blocks .exit) ≡ set (now (blocks .entry)) i x ⌝ }
     {
-        let mut b = blocks;
-        b[i] = x;
-        self.load(bytes, &b)
+        blocks[i] = x;
+        self.load(bytes, blocks)
     }
 
     // Whether axis i is one of operand k's first axes and brings its lines into one set.
@@ -160,13 +160,13 @@ impl L1Sets {
         }
     }
 
-    // The greatest block of axis i with load at most 6, where block 1 has one.
-    fn most(self, bytes: &[u64; 512], blocks: [u64; 64], i: usize) -> u64
-        requires { ⌜ (((self .first ≤ 64) × (self .second ≤ 64)) × (i < 64)) × ((1 ≤ getD blocks i 0) × (loadBy (now bytes) self (set blocks i 1) ≤ live)) ⌝ }
-        ensures { λ r. ⌜ r ≡ mostBy (now (bytes .entry)) self blocks i ⌝ }
+    // The block of axis i is put at the greatest up to `whole` with load at most 6, where block 1 has one.
+    fn widen(self, bytes: &[u64; 512], blocks: &mut [u64; 64], i: usize, whole: u64)
+        requires { ⌜ (((self .first ≤ 64) × (self .second ≤ 64)) × (i < 64)) × ((1 ≤ whole) × (loadBy (now bytes) self (set (now blocks) i 1) ≤ live)) ⌝ }
+        ensures { λ _. ⌜ now (blocks .exit) ≡ set (now (blocks .entry)) i (mostBy (now (bytes .entry)) self (now (blocks .entry)) i whole) ⌝ }
     {
         let mut lo: u64 = 1;
-        let mut hi = blocks[i];
+        let mut hi = whole;
         while lo < hi {
             let mid = hi - (hi - lo) / 2;
             if self.load_with(bytes, blocks, i, mid) <= Self::LIVE {
@@ -175,41 +175,37 @@ impl L1Sets {
                 hi = mid - 1;
             }
         }
-        lo
+        blocks[i] = lo;
     }
 
     // The blocks with load at most 6, or with every block that may be shortened at 1. The outermost axis is shortened first, so that the
     // inner run stays long; blocks only shrink, so that the region still fits.
     pub fn fit<'a>(
-        blocks: [u64; 64],
+        blocks: &mut [u64; 64],
         bytes: &'a [u64; 512],
         sizes: &'a [u64],
         strides: &'a [i64; 512],
         chosen: usize,
         rank: usize,
-    ) -> [u64; 64]
+    )
         requires { ⌜ ((rank ≤ 64) × (chosen < 8)) × (length (now sizes) ≡ 2) ⌝ }
-        ensures { λ r. ⌜ r ≡ fitted (now (bytes .entry)) (now (sizes .entry)) rank (chosenSize (now (strides .entry)) chosen) blocks ⌝ }
+        ensures { λ _. ⌜ now (blocks .exit) ≡ fitted (now (bytes .entry)) (now (sizes .entry)) rank (chosenSize (now (strides .entry)) chosen) (now (blocks .entry)) ⌝ }
     {
         let sets = Self::of(bytes, sizes, rank);
-        let mut b = blocks;
-        if sets.load(bytes, &b) <= Self::LIVE {
-            return b;
+        if sets.load(bytes, blocks) <= Self::LIVE {
+            return;
         }
         let mut n = rank;
         while 0 < n {
             let i = n - 1;
-            if sets.shortened(bytes, strides, chosen, &b, i) {
-                if Self::LIVE < sets.load_with(bytes, b, i, 1) {
-                    b[i] = 1;
-                } else {
-                    let x = sets.most(bytes, b, i);
-                    b[i] = x;
-                    return b;
+            if sets.shortened(bytes, strides, chosen, blocks, i) {
+                let whole = blocks[i];
+                if sets.load_with(bytes, blocks, i, 1) <= Self::LIVE {
+                    sets.widen(bytes, blocks, i, whole);
+                    return;
                 }
             }
             n -= 1;
         }
-        b
     }
 }

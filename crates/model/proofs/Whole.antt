@@ -7,7 +7,7 @@ use native.Mathlib.Omega.{arith}
 use lib.Dec.{leb, eqb}
 use lib.IntN.{ℤ}
 use lib.ListN.{length}
-use borrow.Author.Tests.{eqb-true, eq-eqb, ne-eqb, le-leb, lt-leb}
+use borrow.Author.Tests.{eqb-true, eq-eqb, ne-eqb}
 use Rattle.strided.specs.Base.{every}
 use Rattle.strided.specs.Region.{cache, byteTable, region}
 use Rattle.strided.specs.Costs.{costs}
@@ -20,42 +20,53 @@ use Rattle.strided.specs.declared.Purpose.the-variants.{Pointwise, PointwiseInt
 use Rattle.laws.specs.Cut.Ranges.{cond-true, cond-false}
 use Rattle.laws.specs.Cut.Same.{SameBytes, SameCosts, SameRanks, region-same, cutting-same, declined-same, fitted-same}
 use Rattle.laws.specs.Cut.Tables.{strideSize}
-use Rattle.model.specs.Exits.{exits}
+use Rattle.model.specs.Exits.{inOrder, exits}
 
 -- ---- the exits, by the tests of the code
 
+-- no cut whatever the extents: no table is looked at
+pub whole-in-order : (sizes es : List ℕ) (strides : List ℤ) (rank : ℕ) (u : Purpose) → inOrder sizes strides rank ≡ true → cutBlocks sizes es strides rank u ≡ es
+unfolding cutBlocks inOrder
+whole-in-order sizes es strides rank u e =
+    rw (go (eqb rank 0) (leb (region (byteTable sizes strides) (length sizes) es 0 rank) cache) (every (grows sizes strides rank) 0 (length sizes)) e)
+  where
+    go : (a b c : Bool) → a || c ≡ true → a || (b || c) ≡ true
+    go true b c q = refl
+    go false true c q = refl
+    go false false c q = q
+
+module _ (sizes : List ℕ) (strides : List ℤ) (rank : ℕ) where
+  pub in-order-none : rank ≡ 0 → inOrder sizes strides rank ≡ true
+  unfolding inOrder
+  in-order-none e = rw (eq-eqb rank 0 e)
+
+  pub in-order-some : (rank ≡ 0 → ⊥) → inOrder sizes strides rank ≡ every (grows sizes strides rank) 0 (length sizes)
+  unfolding inOrder
+  in-order-some n = rw (ne-eqb rank 0 n)
+
 module _ (bytes sizes es : List ℕ) (strides : List ℤ) (rank : ℕ) where
-  pub exits-none : rank ≡ 0 → exits bytes sizes es strides rank ≡ true
+  pub exits-fits : leb (region bytes (length sizes) es 0 rank) cache ≡ true → exits bytes sizes es strides rank ≡ true
   unfolding exits
-  exits-none e = rw (eq-eqb rank 0 e)
+  exits-fits e = rw e (go (eqb rank 0))
+    where
+      go : (a : Bool) → a || true ≡ true
+      go true = refl
+      go false = refl
 
-  pub exits-small : (rank ≡ 0 → ⊥) → region bytes (length sizes) es 0 rank ≤ cache → exits bytes sizes es strides rank ≡ true
-  unfolding exits
-  exits-small n h = rw (ne-eqb rank 0 n, le-leb (region bytes (length sizes) es 0 rank) cache h)
-
-  pub exits-grow : (rank ≡ 0 → ⊥) → cache < region bytes (length sizes) es 0 rank
-      → exits bytes sizes es strides rank ≡ every (grows sizes strides rank) 0 (length sizes)
-  unfolding exits
-  exits-grow n h = rw (ne-eqb rank 0 n, lt-leb (region bytes (length sizes) es 0 rank) cache h)
+  pub exits-not : inOrder sizes strides rank ≡ false → leb (region bytes (length sizes) es 0 rank) cache ≡ false → exits bytes sizes es strides rank ≡ false
+  unfolding exits inOrder
+  exits-not i e = rw e i
 
 -- ---- the whole
 
 module _ (sizes es : List ℕ) (strides : List ℤ) (rank : ℕ) (u : Purpose)
-    (bytes : List ℕ) (same : SameBytes (length sizes) rank bytes (byteTable sizes strides))
-    (cs : List ℕ) (even : SameCosts rank cs (costs strides (length sizes) rank))
-    (ranks : List (List ℕ)) (ranked : SameRanks (length sizes) rank ranks (planRanks sizes strides rank)) where
+    (bytes : List ℕ) (same : SameBytes (length sizes) rank bytes (byteTable sizes strides)) where
   true-table : List ℕ
   true-table = byteTable sizes strides
 
   -- what cutting gives, by the definition's tables
   ruled : List ℕ
   ruled = cutting true-table (length sizes) (costs strides (length sizes) rank) (planRanks sizes strides rank) 0 rank es
-
-  ruled-is : cutting bytes (length sizes) cs ranks 0 rank es ≡ ruled
-  unfolding ruled true-table
-  ruled-is =
-      cutting-same (length sizes) rank bytes (byteTable sizes strides) same cs (costs strides (length sizes) rank) even
-      ranks (planRanks sizes strides rank) ranked rank 0 (omega arith) es
 
   whole : cutBlocks sizes es strides rank u
       ≡ cond (exits true-table sizes es strides rank) es
@@ -84,25 +95,25 @@ module _ (sizes es : List ℕ) (strides : List ℤ) (rank : ℕ) (u : Purpose)
   pub whole-exits : exits bytes sizes es strides rank ≡ true → cutBlocks sizes es strides rank u ≡ es
   whole-exits e = whole ∙ rw (sym exits-is ∙ e)
 
-  pub whole-declined : (b : List ℕ) → b ≡ cutting bytes (length sizes) cs ranks 0 rank es → exits bytes sizes es strides rank ≡ false
-      → declined bytes sizes (length sizes) es rank b ≡ true → cutBlocks sizes es strides rank u ≡ es
-  unfolding true-table
-  whole-declined b is e d =
-      whole
-      ∙ rw (
-        sym exits-is ∙ e,
-        sym (declined-same (length sizes) rank bytes (byteTable sizes strides) same sizes es ruled)
-            ∙ ap (declined bytes sizes (length sizes) es rank) (sym (is ∙ ruled-is)) ∙ d,
-      )
+  module _ (cs : List ℕ) (even : SameCosts rank cs (costs strides (length sizes) rank))
+      (ranks : List (List ℕ)) (ranked : SameRanks (length sizes) rank ranks (planRanks sizes strides rank))
+      (b : List ℕ) (is : b ≡ cutting bytes (length sizes) cs ranks 0 rank es) (on : exits bytes sizes es strides rank ≡ false) where
+    ruled-is : b ≡ ruled
+    unfolding ruled true-table
+    ruled-is =
+        is
+        ∙ cutting-same (length sizes) rank bytes (byteTable sizes strides) same cs (costs strides (length sizes) rank) even
+        ranks (planRanks sizes strides rank) ranked rank 0 (omega arith) es
 
-  pub whole-fitted : (b : List ℕ) → b ≡ cutting bytes (length sizes) cs ranks 0 rank es → exits bytes sizes es strides rank ≡ false
-      → declined bytes sizes (length sizes) es rank b ≡ false → cutBlocks sizes es strides rank u ≡ fittedFor u bytes sizes strides rank b
-  unfolding true-table
-  whole-fitted b is e d =
-      whole
-      ∙ rw (
-        sym exits-is ∙ e,
+    declined-is : declined true-table sizes (length sizes) es rank ruled ≡ declined bytes sizes (length sizes) es rank b
+    unfolding true-table
+    declined-is =
         sym (declined-same (length sizes) rank bytes (byteTable sizes strides) same sizes es ruled)
-            ∙ ap (declined bytes sizes (length sizes) es rank) (sym (is ∙ ruled-is)) ∙ d,
-      )
-      (sym (ap (fittedFor u bytes sizes strides rank) (is ∙ ruled-is) ∙ fit-is u ruled))
+        ∙ ap (declined bytes sizes (length sizes) es rank) (sym ruled-is)
+
+    pub whole-declined : declined bytes sizes (length sizes) es rank b ≡ true → es ≡ cutBlocks sizes es strides rank u
+    whole-declined d = sym (whole ∙ rw (sym exits-is ∙ on, declined-is ∙ d))
+
+    pub whole-fitted : declined bytes sizes (length sizes) es rank b ≡ false → {c : List ℕ} → c ≡ fittedFor u bytes sizes strides rank b → c ≡ cutBlocks sizes es strides rank u
+    whole-fitted d f =
+        f ∙ sym (whole ∙ rw (sym exits-is ∙ on, declined-is ∙ d) (sym (ap (fittedFor u bytes sizes strides rank) ruled-is ∙ fit-is u ruled)))

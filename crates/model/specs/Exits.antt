@@ -17,6 +17,10 @@ rises strides k i = ltb (strideSize strides k i) (strideSize strides k (suc i))
 unfoldable pub increasing : List ℤ → ℕ → ℕ → Bool
 increasing strides rank k = ltb 0 (strideSize strides k 0) && every (rises strides k) 0 (rank - 1)
 
+-- no cut whatever the extents
+unfoldable pub inOrder : List ℕ → List ℤ → ℕ → Bool
+inOrder sizes strides rank = eqb rank 0 || every (grows sizes strides rank) 0 (length sizes)
+
 -- "No cut if rank is 0, the region is at most 32,768, or every operand has size above 0 .."
 unfoldable pub exits : List ℕ → List ℕ → List ℕ → List ℤ → ℕ → Bool
 exits bytes sizes es strides rank =

@@ -1,2 +1,3 @@
 pub mod Plannable
+pub mod ByteRows
 pub mod Exits

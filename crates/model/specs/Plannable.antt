@@ -22,6 +22,7 @@ pub record Plannable (sizes es : List ℕ) (strides : List ℤ) (rank : ℕ) (u 
   pub places : length es ≡ 64
   pub table : length strides ≡ 512
   pub wide : (i : ℕ) → i < rank → 2 ≤ getD es i 0
+  pub small : (i : ℕ) → i < rank → getD es i 0 < 2 ^ 64
   -- rows 4, 6 and 7 on the plan's axes
   pub there : missing (length sizes) (chosen u) ≡ false
   pub near : (k : ℕ) → k < length sizes → reach (take rank es) (take rank (drop (k * 64) strides)) ≤ maxI
@@ -40,3 +41,8 @@ Costed sizes strides rank cs = SameCosts rank cs (costs strides (length sizes) r
 
 abbrev pub Ranked : List ℕ → List ℤ → ℕ → List (List ℕ) → Type 0
 Ranked sizes strides rank table = SameRanks (length sizes) rank table (planRanks sizes strides rank)
+
+pub record Tables (sizes : List ℕ) (strides : List ℤ) (rank : ℕ) (bs cs : List ℕ) (rs : List (List ℕ)) : Type 0 where
+  pub bytes : Bytes sizes strides rank bs
+  pub costs : Costed sizes strides rank cs
+  pub ranks : Ranked sizes strides rank rs

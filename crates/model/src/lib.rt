@@ -8,32 +8,58 @@ use region::memory_region;
 use shrink::BLOCK_MEMORY_SIZE;
 use strided::Purpose;
 ghost use mathlib.Core.Path.{_≡_};
-ghost use Prim.Native.Nat.{ℕ, _<_, _≤_};
-ghost use lib.ListN.{length};
+ghost use Prim.Native.Nat.{ℕ, _+_, _<_, _≤_};
+ghost use lib.Dec.{leb};
+ghost use lib.ListN.{length, replicate};
 ghost use Rattle.strided.specs.Base.{every};
 ghost use mathlib.Core.Bool.{false};
 ghost use Rattle.strided.specs.Layout.{chosen};
 ghost use Rattle.strided.specs.Refusals.{missing};
 ghost use Rattle.strided.specs.Plan.{grows, fittedFor, cutBlocks};
-ghost use Rattle.model.specs.Plannable.{Plannable, Products, Bytes, Costed, Ranked};
-ghost use Rattle.model.specs.Exits.{increasing, exits};
+ghost use Rattle.strided.specs.Region.{cache, region};
+ghost use Rattle.model.specs.Plannable.{Plannable, Products, Tables};
+ghost use Rattle.model.specs.ByteRows.{byteRows};
+ghost use Rattle.model.specs.Exits.{increasing, inOrder, exits};
 
-// The byte strides of every operand: stride size times element size.
-fn byte_table<'a>(sizes: &'a [u64], strides: &'a [i64; 512], rank: usize) -> [u64; 512]
-    requires { ⌜ ((length (now sizes) ≤ 8) × (rank ≤ 64)) × Products (now sizes) (now strides) rank ⌝ }
-    ensures { λ r. ⌜ Bytes (now (sizes .entry)) (now (strides .entry)) rank r ⌝ }
+// Operand k's byte strides, put into the table behind those of the operands before it: stride size times element size.
+fn put_bytes<'a>(
+    table: &mut [u64; 512],
+    sizes: &'a [u64],
+    strides: &'a [i64; 512],
+    rank: usize,
+    k: usize,
+)
+    requires { ⌜ ((k < length (now sizes)) × ((k < 8) × (rank ≤ 64))) × Products (now sizes) (now strides) rank ⌝ }
+    requires { ⌜ now table ≡ byteRows (now sizes) (now strides) rank k ⌝ }
+    ensures { λ _. ⌜ now (table .exit) ≡ byteRows (now (sizes .entry)) (now (strides .entry)) rank (k + 1) ⌝ }
 {
-    let mut table = [0u64; 512];
-    let end = sizes.len() * 64;
-    let mut j = 0;
-    while j < end {
-        if j % 64 < rank {
-            let t = strides[j];
-            table[j] = magnitude(t) * sizes[j / 64];
-        }
-        j += 1;
+    let size = sizes[k];
+    let from = k * 64;
+    let mut i: usize = 0;
+    while i < rank {
+        let t = strides[from + i];
+        table[from + i] = magnitude(t) * size;
+        i += 1;
     }
-    table
+}
+
+// The byte strides of every operand, written into a table of zeros.
+pub fn byte_table_into<'a>(
+    sizes: &'a [u64],
+    strides: &'a [i64; 512],
+    rank: usize,
+    table: &mut [u64; 512],
+)
+    requires { ⌜ ((length (now sizes) ≤ 8) × (rank ≤ 64)) × Products (now sizes) (now strides) rank ⌝ }
+    requires { ⌜ now table ≡ replicate 512 0 ⌝ }
+    ensures { λ _. ⌜ now (table .exit) ≡ byteRows (now (sizes .entry)) (now (strides .entry)) rank (length (now (sizes .entry))) ⌝ }
+{
+    let operands = sizes.len();
+    let mut k: usize = 0;
+    while k < operands {
+        put_bytes(table, sizes, strides, rank, k);
+        k += 1;
+    }
 }
 
 // Whether operand k's strides are nonzero and each is of larger size than the one before.
@@ -79,74 +105,77 @@ fn all_grow<'a>(sizes: &'a [u64], strides: &'a [i64; 512], rank: usize) -> bool
     true
 }
 
-// Whether no axis is cut at all.
-fn model_exits<'a>(
-    extents: &'a [u64; 64],
-    bytes: &'a [u64; 512],
-    sizes: &'a [u64],
-    strides: &'a [i64; 512],
-    rank: usize,
-) -> bool
+// Whether no axis is cut whatever the extents: there is none, or every operand's strides grow. This takes no table.
+pub fn keeps_order<'a>(sizes: &'a [u64], strides: &'a [i64; 512], rank: usize) -> bool
     requires { ⌜ (length (now sizes) ≤ 8) × (rank ≤ 64) ⌝ }
-    ensures { λ r. ⌜ r ≡ exits (now (bytes .entry)) (now (sizes .entry)) (now (extents .entry)) (now (strides .entry)) rank ⌝ }
+    ensures { λ r. ⌜ r ≡ inOrder (now (sizes .entry)) (now (strides .entry)) rank ⌝ }
 {
     if rank == 0 {
-        return true;
-    }
-    if memory_region(extents, bytes, sizes.len(), 0, rank) <= BLOCK_MEMORY_SIZE {
         return true;
     }
     all_grow(sizes, strides, rank)
 }
 
+// Whether the whole fits the cache, so that no axis is cut either.
+pub fn fits_whole<'a>(
+    extents: &'a [u64; 64],
+    bytes: &'a [u64; 512],
+    operands: usize,
+    rank: usize,
+) -> bool
+    requires { ⌜ (operands ≤ 8) × (rank ≤ 64) ⌝ }
+    ensures { λ r. ⌜ r ≡ leb (region (now (bytes .entry)) operands (now (extents .entry)) 0 rank) cache ⌝ }
+{
+    memory_region(extents, bytes, operands, 0, rank) <= BLOCK_MEMORY_SIZE
+}
+
 // A copy into the chosen operand is fitted to the L1 sets. A fold keeps the model's blocks, which order its sum; walks with more operands
 // lose more by short runs than they gain.
-fn fitted_for<'a>(
-    blocks: [u64; 64],
+fn fit_for<'a>(
+    blocks: &mut [u64; 64],
     bytes: &'a [u64; 512],
     sizes: &'a [u64],
     strides: &'a [i64; 512],
     rank: usize,
     purpose: Purpose,
-) -> [u64; 64]
+)
     requires { ⌜ (rank ≤ 64) × (missing (length (now sizes)) (chosen purpose) ≡ false) ⌝ }
-    ensures { λ r. ⌜ r ≡ fittedFor purpose (now (bytes .entry)) (now (sizes .entry)) (now (strides .entry)) rank blocks ⌝ }
+    ensures { λ _. ⌜ now (blocks .exit) ≡ fittedFor purpose (now (bytes .entry)) (now (sizes .entry)) (now (strides .entry)) rank (now (blocks .entry)) ⌝ }
 {
     match purpose {
-        Purpose::Pointwise => blocks,
-        Purpose::Fold(c) => blocks,
+        Purpose::Pointwise => (),
+        Purpose::Fold(c) => (),
         Purpose::PointwiseInto(c) => {
             if sizes.len() == 2 {
-                L1Sets::fit(blocks, bytes, sizes, strides, c as usize, rank)
-            } else {
-                blocks
+                L1Sets::fit(blocks, bytes, sizes, strides, c as usize, rank);
             }
         }
     }
 }
 
-// The block sizes of a plan whose total is above 1,024. `costs` and `ranks` are those of the plan's axes.
+// The block sizes of a plan whose total is above 1,024 and which neither of the tests above keeps whole, written into `blocks`. `bytes`, `costs`
+// and `ranks` are those of the plan's axes.
 pub fn cut_blocks<'a>(
-    extents: [u64; 64],
+    extents: &'a [u64; 64],
+    bytes: &'a [u64; 512],
     sizes: &'a [u64],
     strides: &'a [i64; 512],
     costs: &'a [u64; 64],
     ranks: [[u64; 64]; 8],
     rank: usize,
     purpose: Purpose,
-) -> [u64; 64]
-    requires { ⌜ Plannable (now sizes) extents (now strides) rank purpose ⌝ }
-    requires { ⌜ Costed (now sizes) (now strides) rank (now costs) ⌝ }
-    requires { ⌜ Ranked (now sizes) (now strides) rank ranks ⌝ }
-    ensures { λ r. ⌜ r ≡ cutBlocks (now (sizes .entry)) extents (now (strides .entry)) rank purpose ⌝ }
+    blocks: &mut [u64; 64],
+)
+    requires { ⌜ Plannable (now sizes) (now extents) (now strides) rank purpose ⌝ }
+    requires { ⌜ Tables (now sizes) (now strides) rank (now bytes) (now costs) ranks ⌝ }
+    requires { ⌜ exits (now bytes) (now sizes) (now extents) (now strides) rank ≡ false ⌝ }
+    ensures { λ _. ⌜ now (blocks .exit) ≡ cutBlocks (now (sizes .entry)) (now (extents .entry)) (now (strides .entry)) rank purpose ⌝ }
 {
-    let bytes = byte_table(sizes, strides, rank);
-    if model_exits(&extents, &bytes, sizes, strides, rank) {
-        return extents;
+    *blocks = *extents;
+    compute_blocks_at(blocks, bytes, costs, &ranks, sizes.len(), 0, rank);
+    if declines_tiles(bytes, sizes, extents, blocks, rank) {
+        *blocks = *extents;
+        return;
     }
-    let ruled = compute_blocks_at(extents, &bytes, costs, ranks, sizes.len(), 0, rank);
-    if declines_tiles(&bytes, sizes, &extents, &ruled, rank) {
-        return extents;
-    }
-    fitted_for(ruled, &bytes, sizes, strides, rank, purpose)
+    fit_for(blocks, bytes, sizes, strides, rank, purpose);
 }

@@ -3,10 +3,11 @@
 use region::less_one;
 use region::memory_region;
 ghost use mathlib.Core.Path.{_≡_};
-ghost use Prim.Native.Nat.{ℕ, _-_, _≤_};
-ghost use Rattle.strided.specs.Cut.{greatestScore, halved, lessened, shrunk};
+ghost use Prim.Native.Nat.{ℕ, _+_, _-_, _/_, _≤_};
+ghost use Rattle.strided.specs.Cut.{score, greatestScore, halved, lessened, shrunk};
 ghost use Rattle.laws.specs.Cut.Steps.{ScoresFit};
-ghost use Rattle.laws.specs.Cut.Jump.{clipped};
+ghost use Rattle.laws.specs.Cut.Picks.{topOf};
+ghost use Rattle.laws.specs.Cut.Jump.{clippedOver};
 ghost use Rattle.shrink.specs.Picked.{picked};
 
 // Half of a typical L1 data cache: a tile of this size leaves room for what else is live.
@@ -48,91 +49,112 @@ fn last_argmax_weighted<'a>(
     best
 }
 
-// While the region is at least 65,536, the picked block is halved, rounding up.
+// Half of a block, rounding up.
+fn half(x: u64) -> u64
+    ensures { λ r. ⌜ r ≡ (x + 1) / 2 ⌝ }
+{
+    x / 2 + x % 2
+}
+
+// While the region is at least 65,536, the picked block is halved.
 fn halve<'a>(
-    blocks: [u64; 64],
+    blocks: &mut [u64; 64],
     bytes: &'a [u64; 512],
     costs: &'a [u64; 64],
     operands: usize,
     offset: usize,
     rank: usize,
-) -> [u64; 64]
-    requires { ⌜ ((operands ≤ 8) × ((offset ≤ rank) × (rank ≤ 64))) × ScoresFit rank (now costs) blocks ⌝ }
-    ensures { λ r. ⌜ r ≡ halved (now (bytes .entry)) operands (now (costs .entry)) offset (rank - offset) blocks ⌝ }
+)
+    requires { ⌜ ((operands ≤ 8) × ((offset ≤ rank) × (rank ≤ 64))) × ScoresFit rank (now costs) (now blocks) ⌝ }
+    ensures { λ _. ⌜ now (blocks .exit) ≡ halved (now (bytes .entry)) operands (now (costs .entry)) offset (rank - offset) (now (blocks .entry)) ⌝ }
 {
-    let mut b = blocks;
     loop {
-        if memory_region(&b, bytes, operands, offset, rank) < HALVING_SIZE {
-            return b;
+        if memory_region(blocks, bytes, operands, offset, rank) < HALVING_SIZE {
+            return;
         }
-        let Pick::At(i) = last_argmax_weighted(&b, costs, offset, rank) else {
-            return b;
+        let Pick::At(i) = last_argmax_weighted(blocks, costs, offset, rank) else {
+            return;
         };
-        let x = b[i];
-        b[i] = x / 2 + x % 2;
+        blocks[i] = half(blocks[i]);
     }
 }
 
 // While the region is above 32,768, the picked block loses 1.
 fn lessen<'a>(
-    blocks: [u64; 64],
+    blocks: &mut [u64; 64],
     bytes: &'a [u64; 512],
     costs: &'a [u64; 64],
     operands: usize,
     offset: usize,
     rank: usize,
-) -> [u64; 64]
-    requires { ⌜ ((operands ≤ 8) × ((offset ≤ rank) × (rank ≤ 64))) × ScoresFit rank (now costs) blocks ⌝ }
-    ensures { λ r. ⌜ r ≡ lessened (now (bytes .entry)) operands (now (costs .entry)) offset (rank - offset) blocks ⌝ }
+)
+    requires { ⌜ ((operands ≤ 8) × ((offset ≤ rank) × (rank ≤ 64))) × ScoresFit rank (now costs) (now blocks) ⌝ }
+    ensures { λ _. ⌜ now (blocks .exit) ≡ lessened (now (bytes .entry)) operands (now (costs .entry)) offset (rank - offset) (now (blocks .entry)) ⌝ }
 {
-    let mut b = blocks;
     loop {
-        if memory_region(&b, bytes, operands, offset, rank) <= BLOCK_MEMORY_SIZE {
-            return b;
+        if memory_region(blocks, bytes, operands, offset, rank) <= BLOCK_MEMORY_SIZE {
+            return;
         }
-        let Pick::At(i) = last_argmax_weighted(&b, costs, offset, rank) else {
-            return b;
+        let Pick::At(i) = last_argmax_weighted(blocks, costs, offset, rank) else {
+            return;
         };
-        b[i] -= 1;
+        blocks[i] -= 1;
     }
 }
 
-// Every score above s from offset to rank is taken down to s or below, in one step.
-fn clip(blocks: [u64; 64], costs: &[u64; 64], offset: usize, rank: usize, s: u64) -> [u64; 64]
-    requires { ⌜ ((offset ≤ rank) × (rank ≤ 64)) × ScoresFit rank (now costs) blocks ⌝ }
-    ensures { λ r. ⌜ r ≡ clipped s (now (costs .entry)) offset (rank - offset) blocks ⌝ }
+// Every score above s from offset to rank is taken down to s or below, in one step. What becomes of each block is written into `out`.
+fn clip_into<'a>(
+    blocks: &'a [u64; 64],
+    costs: &'a [u64; 64],
+    offset: usize,
+    rank: usize,
+    s: u64,
+    out: &mut [u64; 64],
+)
+    requires { ⌜ ((offset ≤ rank) × (rank ≤ 64)) × ScoresFit rank (now costs) (now blocks) ⌝ }
+    ensures { λ _. ⌜ now (out .exit) ≡ clippedOver s (now (costs .entry)) offset (rank - offset) (now (blocks .entry)) (now (out .entry)) ⌝ }
 {
-    let mut b = blocks;
     let mut i = offset;
     while i < rank {
         let x = blocks[i];
         let c = costs[i];
         if s < less_one(x) * c {
-            b[i] = s / c + 1;
+            out[i] = s / c + 1;
         } else {
-            b[i] = x;
+            out[i] = x;
         }
         i += 1;
     }
-    b
+}
+
+// The greatest score from offset to rank.
+fn top_score<'a>(blocks: &'a [u64; 64], costs: &'a [u64; 64], offset: usize, rank: usize) -> u64
+    requires { ⌜ ((offset ≤ rank) × (rank ≤ 64)) × ScoresFit rank (now costs) (now blocks) ⌝ }
+    ensures { λ r. ⌜ r ≡ topOf (score (now (blocks .entry)) (now (costs .entry))) (greatestScore (now (blocks .entry)) (now (costs .entry)) offset (rank - offset)) ⌝ }
+{
+    let Pick::At(i) = last_argmax_weighted(blocks, costs, offset, rank) else {
+        return 0;
+    };
+    less_one(blocks[i]) * costs[i]
 }
 
 // A score to jump to: the least at which the region is still above 32,768. What follows does not rest on which it is.
 fn level<'a>(
-    blocks: [u64; 64],
+    blocks: &'a [u64; 64],
     bytes: &'a [u64; 512],
     costs: &'a [u64; 64],
     operands: usize,
     offset: usize,
     rank: usize,
 ) -> u64
-    requires { ⌜ ((operands ≤ 8) × ((offset ≤ rank) × (rank ≤ 64))) × ScoresFit rank (now costs) blocks ⌝ }
+    requires { ⌜ ((operands ≤ 8) × ((offset ≤ rank) × (rank ≤ 64))) × ScoresFit rank (now costs) (now blocks) ⌝ }
 {
+    let mut t = *blocks;
     let mut lo: u64 = 0;
-    let mut hi: u64 = 18446744073709551615;
+    let mut hi = top_score(blocks, costs, offset, rank);
     while lo < hi {
         let mid = lo + (hi - lo) / 2;
-        let t = clip(blocks, costs, offset, rank, mid);
+        clip_into(blocks, costs, offset, rank, mid, &mut t);
         if BLOCK_MEMORY_SIZE < memory_region(&t, bytes, operands, offset, rank) {
             hi = mid;
         } else {
@@ -144,37 +166,40 @@ fn level<'a>(
 
 // As `lessen`, with one jump in place of the many single steps before the last few: below the jump's score each axis has at most one more.
 fn lessen_far<'a>(
-    blocks: [u64; 64],
+    blocks: &mut [u64; 64],
     bytes: &'a [u64; 512],
     costs: &'a [u64; 64],
     operands: usize,
     offset: usize,
     rank: usize,
-) -> [u64; 64]
-    requires { ⌜ ((operands ≤ 8) × ((offset ≤ rank) × (rank ≤ 64))) × ScoresFit rank (now costs) blocks ⌝ }
-    ensures { λ r. ⌜ r ≡ lessened (now (bytes .entry)) operands (now (costs .entry)) offset (rank - offset) blocks ⌝ }
+)
+    requires { ⌜ ((operands ≤ 8) × ((offset ≤ rank) × (rank ≤ 64))) × ScoresFit rank (now costs) (now blocks) ⌝ }
+    ensures { λ _. ⌜ now (blocks .exit) ≡ lessened (now (bytes .entry)) operands (now (costs .entry)) offset (rank - offset) (now (blocks .entry)) ⌝ }
 {
-    let s = level(blocks, bytes, costs, operands, offset, rank);
-    let t = clip(blocks, costs, offset, rank, s);
-    if BLOCK_MEMORY_SIZE < memory_region(&t, bytes, operands, offset, rank) {
-        lessen(t, bytes, costs, operands, offset, rank)
-    } else {
-        lessen(blocks, bytes, costs, operands, offset, rank)
+    if memory_region(blocks, bytes, operands, offset, rank) <= BLOCK_MEMORY_SIZE {
+        return;
     }
+    let s = level(blocks, bytes, costs, operands, offset, rank);
+    let mut t = *blocks;
+    clip_into(blocks, costs, offset, rank, s, &mut t);
+    if BLOCK_MEMORY_SIZE < memory_region(&t, bytes, operands, offset, rank) {
+        *blocks = t;
+    }
+    lessen(blocks, bytes, costs, operands, offset, rank);
 }
 
 // The blocks from offset to rank, halved and then lessened.
 pub fn shrink<'a>(
-    blocks: [u64; 64],
+    blocks: &mut [u64; 64],
     bytes: &'a [u64; 512],
     costs: &'a [u64; 64],
     operands: usize,
     offset: usize,
     rank: usize,
-) -> [u64; 64]
-    requires { ⌜ ((operands ≤ 8) × ((offset ≤ rank) × (rank ≤ 64))) × ScoresFit rank (now costs) blocks ⌝ }
-    ensures { λ r. ⌜ r ≡ shrunk (now (bytes .entry)) operands (now (costs .entry)) offset (rank - offset) blocks ⌝ }
+)
+    requires { ⌜ ((operands ≤ 8) × ((offset ≤ rank) × (rank ≤ 64))) × ScoresFit rank (now costs) (now blocks) ⌝ }
+    ensures { λ _. ⌜ now (blocks .exit) ≡ shrunk (now (bytes .entry)) operands (now (costs .entry)) offset (rank - offset) (now (blocks .entry)) ⌝ }
 {
-    let half = halve(blocks, bytes, costs, operands, offset, rank);
-    lessen_far(half, bytes, costs, operands, offset, rank)
+    halve(blocks, bytes, costs, operands, offset, rank);
+    lessen_far(blocks, bytes, costs, operands, offset, rank);
 }

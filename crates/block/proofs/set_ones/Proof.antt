@@ -1,3 +1,4 @@
+-- The invariant: the blocks before i are 1.
 use native.Mathlib.Omega.{arith}
 use mathlib.Core.Path.{_≡_, sym, ap, _∙_}
 use mathlib.Core.List.{List}
@@ -7,23 +8,21 @@ use Rattle.strided.specs.Cut.{ones}
 use Rattle.laws.specs.Cut.Cases.{ones-start, ones-step}
 use Rattle.block.proofs.set_ones.Statement.{statement}
 use Rattle.block.proofs.set_ones.Tie as tie
-use Rattle.block.proofs.set_ones.Reads as reads
-use Rattle.block.proofs.set_ones.Lts as lts
 
 abbrev Inv-loop : tie.InvT-loop
-Inv-loop offset rank b₀ i₀ b i = (offset ≤ i) × (i ≤ rank) × (b ≡ ones offset (i - offset) b₀)
+Inv-loop blocks₀ offset rank i₀ blocks i = (offset ≤ i) × (i ≤ rank) × (blocks ≡ ones offset (i - offset) blocks₀)
 
 abbrev μ-loop : tie.MeasureT-loop
-μ-loop offset rank b₀ i₀ b i = rank - i
+μ-loop blocks₀ offset rank i₀ blocks i = rank - i
 
 loop-holds : tie.Need-loop-holds Inv-loop μ-loop
 loop-holds c = (omega arith, omega arith, sym (ones-start _ _))
 
-mul-b : tie.Need-mul-b Inv-loop μ-loop
-mul-b c = omega arith
+mul-blocks : tie.Need-mul-blocks Inv-loop μ-loop
+mul-blocks c = omega arith
 
-array-write-b : tie.Need-array-write-b Inv-loop μ-loop
-array-write-b c = omega arith
+element-write-blocks : tie.Need-element-write-blocks Inv-loop μ-loop
+element-write-blocks c = omega arith
 
 add-i : tie.Need-add-i Inv-loop μ-loop
 add-i c = omega arith
@@ -34,15 +33,15 @@ loop-less c = omega arith
 loop-again : tie.Need-loop-again Inv-loop μ-loop
 loop-again c = let a = c .before .before .args in
     let l = c .before .loop in
-    (omega arith, omega arith, ap (λ (b : List ℕ). set b (l .i) 1) (l .inv .2) ∙ sym (ones-step (a .offset) (l .i) (a .blocks) (l .inv .0)))
+    (omega arith, omega arith, ap (λ (b : List ℕ). set b (l .i) 1) (l .inv .2) ∙ sym (ones-step (a .offset) (l .i) (a .blocks .now) (l .inv .0)))
 
 returns : tie.Need-returns Inv-loop μ-loop
 returns c = let a = c .before .before .args in
     let l = c .before .loop in
     let e : l .i ≡ a .rank = omega arith in
-    l .inv .2 ∙ ap (λ (i : ℕ). ones (a .offset) (i - a .offset) (a .blocks)) e
+    l .inv .2 ∙ ap (λ (i : ℕ). ones (a .offset) (i - a .offset) (a .blocks .now)) e
 
 pub set-ones-spec : {M : Type 1} → statement M
 set-ones-spec =
     tie.close
-    (tie.spec Inv-loop μ-loop loop-holds mul-b array-write-b add-i loop-less loop-again returns)
+    (tie.spec Inv-loop μ-loop loop-holds mul-blocks element-write-blocks add-i loop-less loop-again returns)

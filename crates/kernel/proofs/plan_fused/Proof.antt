@@ -25,23 +25,25 @@ returns c =
 
 block-sizes-requires : tie.Need-block-sizes-requires
 block-sizes-requires c κs =
-    let t = c .before .before .before in
+    let on = c .before .before .before in
+    let t = on .before in
     let x = t .before in
     let s = x .before .before .before .before .before in
     let a = s .args in
     let e = x .axes-into .ensures in
     plannable (a .extents .now) (a .sizes .now) (a .strides .now) (a .purpose) (s .pre .0) (x .axes-into .result) _ _ (e .0) (e .1 .0) (e .1 .1)
-    (leb-false (total (a .extents .now)) 1024 (sym (t .total-at-most .ensures) ∙ c .before .before .if1 .left))
+    (leb-false (total (a .extents .now)) 1024 (sym (t .total-at-most .ensures) ∙ on .if1 .left))
 
 returns-2 : tie.Need-returns-2
 returns-2 c =
-    let t = c .before .before .before .before in
+    let on = c .before .before .before .before in
+    let t = on .before in
     let x = t .before in
     let s = x .before .before .before .before .before in
     let a = s .args in
     let e = x .axes-into .ensures in
     made-cut (a .extents .now) (a .sizes .now) (a .strides .now) (a .purpose) (s .pre .0) (x .axes-into .result) _ _ (e .0) (e .1 .0) (e .1 .1)
-    (sym (t .total-at-most .ensures) ∙ c .before .before .before .if1 .left) _ (c .block-sizes .ensures)
+    (sym (t .total-at-most .ensures) ∙ on .if1 .left) _ (c .block-sizes .ensures)
 
 pub plan-fused-spec : {M : Type 1} → statement M
 plan-fused-spec =

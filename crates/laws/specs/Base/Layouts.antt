@@ -66,6 +66,18 @@ pub total-nozero : (es : List ℕ) → 0 < total es → NoZero es
 total-nozero [] h = tt
 total-nozero (e ∷ es) h = let p = mul-pos e (total es) h in (p .0, total-nozero es (p .1))
 
+-- and then an extent is at most the total
+pub extent-le : (es : List ℕ) (i : ℕ) → 0 < total es → getD es i 0 ≤ total es
+extent-le [] i h = omega arith
+extent-le (e ∷ es) zero h =
+    let p = mul-pos e (total es) h in
+    let g : 1 * e ≤ total es * e = mul-le-mul-right e (p .1) in
+    omega arith
+extent-le (e ∷ es) (suc i) h =
+    let p = mul-pos e (total es) h in
+    let g : 1 * total es ≤ e * total es = mul-le-mul-right (total es) (p .0) in
+    omega (arith, extent-le es i (p .1))
+
 -- ---- axes
 
 pub length-row : (k : ℕ) (axs : List Axis) → length (row k axs) ≡ length axs

@@ -23,7 +23,11 @@ use Rattle.laws.specs.Cut.Grow.{region-mono}
 abbrev pub clipAt : ℕ → List ℕ → List ℕ → ℕ → ℕ
 clipAt s costs b i = cond (ltb s (score b costs i)) (s / getD costs i 0 + 1) (getD b i 0)
 
--- on each of the n axes from o on
+-- on each of the n axes from o on; written over another list, and over the blocks themselves
+unfoldable pub clippedOver : ℕ → List ℕ → ℕ → ℕ → List ℕ → List ℕ → List ℕ
+clippedOver s costs o zero b out = out
+clippedOver s costs o (suc n) b out = set (clippedOver s costs o n b out) (o + n) (clipAt s costs b (o + n))
+
 unfoldable pub clipped : ℕ → List ℕ → ℕ → ℕ → List ℕ → List ℕ
 clipped s costs o zero b = b
 clipped s costs o (suc n) b = set (clipped s costs o n b) (o + n) (clipAt s costs b (o + n))
@@ -239,13 +243,18 @@ pub clipped-scores : (s : ℕ) (costs : List ℕ) (o n m : ℕ) (b : List ℕ) �
 clipped-scores s costs o n m b fit = scores-le m costs b (clipped s costs o n b) (clipped-le s costs o n b) fit
 
 -- as a loop makes it
-pub clipped-start : (s : ℕ) (costs : List ℕ) (o : ℕ) (b : List ℕ) → clipped s costs o (o - o) b ≡ b
-unfolding clipped
-clipped-start s costs o b = none-yet (λ k. clipped s costs o k b) o
+pub over-start : (s : ℕ) (costs : List ℕ) (o : ℕ) (b out : List ℕ) → clippedOver s costs o (o - o) b out ≡ out
+unfolding clippedOver
+over-start s costs o b out = none-yet (λ k. clippedOver s costs o k b out) o
 
-pub clipped-step : (s : ℕ) (costs : List ℕ) (o i : ℕ) (b : List ℕ) → o ≤ i
-    → clipped s costs o (i + 1 - o) b ≡ set (clipped s costs o (i - o) b) i (clipAt s costs b i)
-unfolding clipped
-clipped-step s costs o i b h =
-    one-more (λ k. clipped s costs o k b) o i h
-    ∙ ap (λ (k : ℕ). set (clipped s costs o (i - o) b) k (clipAt s costs b k)) (at-end o i h)
+pub over-step : (s : ℕ) (costs : List ℕ) (o i : ℕ) (b out : List ℕ) → o ≤ i
+    → clippedOver s costs o (i + 1 - o) b out ≡ set (clippedOver s costs o (i - o) b out) i (clipAt s costs b i)
+unfolding clippedOver
+over-step s costs o i b out h =
+    one-more (λ k. clippedOver s costs o k b out) o i h
+    ∙ ap (λ (k : ℕ). set (clippedOver s costs o (i - o) b out) k (clipAt s costs b k)) (at-end o i h)
+
+pub over-itself : (s : ℕ) (costs : List ℕ) (o n : ℕ) (b : List ℕ) → clippedOver s costs o n b b ≡ clipped s costs o n b
+unfolding clippedOver clipped
+over-itself s costs o zero b = refl
+over-itself s costs o (suc n) b = ap (λ (l : List ℕ). set l (o + n) (clipAt s costs b (o + n))) (over-itself s costs o n b)

@@ -4,7 +4,7 @@
 use mathlib.Core.Path.{_≡_, refl, sym, ap₂, _∙_, subst}
 use mathlib.Core.Bool.{Bool, true, false}
 use mathlib.Core.List.{List, [], _∷_}
-use Prim.Native.Nat.{ℕ, zero, suc, _+_, _*_, _≤_, _<_}
+use Prim.Native.Nat.{ℕ, zero, suc, _+_, _*_, _^_, _≤_, _<_}
 use native.Mathlib.Omega.{arith}
 use lib.Dec.{eqb}
 use lib.IntN.{ℤ}
@@ -17,7 +17,7 @@ use Rattle.strided.specs.Fuse.{fuse, keep, orFirst, planAxes}
 use Rattle.strided.specs.Plan.{strideTable}
 use Rattle.strided.specs.declared.Purpose.{Purpose}
 use Rattle.laws.specs.Base.Arrays.{take-counted, getD-padded}
-use Rattle.laws.specs.Base.Layouts.{total-nozero, nozero-at, length-extents, table-row}
+use Rattle.laws.specs.Base.Layouts.{total-nozero, nozero-at, extent-le, length-extents, table-row}
 use Rattle.laws.specs.Refusals.Accepted.{Accepted}
 use Rattle.laws.specs.Refusals.Zeros.{no-zero-of}
 use Rattle.laws.specs.Fuse.Maps.{plan-short, plan-total}
@@ -84,6 +84,12 @@ module _ (es sizes : List ℕ) (ss : List ℤ) (u : Purpose) (a : Accepted es si
   pub array-wide : 1 < total es → (i : ℕ) → i < length (planAxes es (length sizes) ss u)
       → 2 ≤ getD (padded 64 0 (extents (planAxes es (length sizes) ss u))) i 0
   array-wide h i l = subst (λ (e : ℕ). 2 ≤ e) (sym (getD-padded 0 64 (extents axs) i (omega (arith, plan-few)))) (plan-wide es m ss u h i l)
+
+  -- an extent is at most the total
+  pub array-small : 0 < total es → (i : ℕ) → i < length (planAxes es (length sizes) ss u) → getD (padded 64 0 (extents (planAxes es (length sizes) ss u))) i 0 < 2 ^ 64
+  array-small h i l =
+      let le : getD (extents axs) i 0 ≤ total (extents axs) = extent-le (extents axs) i (omega (arith, plan-total es m ss u)) in
+      subst (λ (e : ℕ). e < 2 ^ 64) (sym (getD-padded 0 64 (extents axs) i (omega (arith, plan-few)))) (omega (arith, plan-total es m ss u, a .cells))
 
   module _ (z : hasZero es ≡ false) (k : ℕ) (h : k < length sizes) where
     row-reach : reach (take r E) (take r (drop (k * 64) S)) ≡ reach es (strideRow ss (length es) k)

@@ -2,63 +2,85 @@
 use native.Mathlib.Omega.{arith}
 use mathlib.Core.Path.{_≡_, sym, ap, subst, subst⁻¹, _∙_}
 use mathlib.Core.List.{List}
-use Prim.Native.Nat.{ℕ, _-_, _<_}
+use mathlib.Core.Logic.{⊎-elim}
+use Prim.Native.Nat.{ℕ, _-_, _≤_, _<_}
 use Rattle.strided.specs.Region.{cache, region}
 use Rattle.strided.specs.Cut.{lessened}
-use Rattle.laws.specs.Cut.Steps.{ScoresFit}
-use Rattle.laws.specs.Cut.Jump.{clipped, jump, clipped-scores}
+use Rattle.laws.specs.Cut.Steps.{ScoresFit, lessened-fits}
+use Rattle.laws.specs.Cut.Jump.{clipped, clippedOver, over-itself, jump, clipped-scores}
 use borrow.Author.Needs.{needs}
 use Rattle.shrink.proofs.lessen_far.Statement.{statement}
 use Rattle.shrink.proofs.lessen_far.Tie as tie
-use Rattle.shrink.proofs.lessen_far.Reads as reads
-use Rattle.shrink.proofs.lessen_far.Lts as lts
-use Rattle.shrink.proofs.clip.Reads as clip-reads
-use Rattle.shrink.proofs.lessen.Reads as lessen-reads
-use Rattle.shrink.proofs.level.Reads as level-reads
-use Rattle.region.proofs.memory_region.Reads as memory-region-reads
 
-level-requires : tie.Need-level-requires
-level-requires c κs = search needs
+-- the blocks that the single steps start from: none of them is above the one at first, and the steps end at the same
+record From (bytes : List ℕ) (operands : ℕ) (costs : List ℕ) (o n rank : ℕ) (b b′ : List ℕ) : Type 0 where
+  fit : ScoresFit rank costs b′
+  same : lessened bytes operands costs o n b′ ≡ lessened bytes operands costs o n b
 
-clip-requires : tie.Need-clip-requires
-clip-requires c κs = search needs
+module _ (bytes : List ℕ) (operands : ℕ) (costs : List ℕ) (o n rank : ℕ) (b : List ℕ) (h : ScoresFit rank costs b) where
+  stays : (b′ : List ℕ) → b′ ≡ b → From bytes operands costs o n rank b b′
+  stays b′ e = record { fit = subst⁻¹ (λ (l : List ℕ). ScoresFit rank costs l) e h; same = ap (lessened bytes operands costs o n) e }
+
+  jumps : (s : ℕ) (t b′ : List ℕ) → t ≡ clippedOver s costs o n b b → cache < region bytes operands t o n → b′ ≡ t → From bytes operands costs o n rank b b′
+  jumps s t b′ made big e =
+      let c : t ≡ clipped s costs o n b = made ∙ over-itself s costs o n b in
+      record {
+        fit = subst⁻¹ (λ (l : List ℕ). ScoresFit rank costs l) (e ∙ c) (clipped-scores s costs o n rank b h);
+        same = ap (lessened bytes operands costs o n) (e ∙ c) ∙ sym (jump bytes operands costs o n s b (subst (λ (l : List ℕ). cache < region bytes operands l o n) c big));
+      }
 
 memory-region-requires : tie.Need-memory-region-requires
 memory-region-requires c κs = search needs
 
-lessen-requires : tie.Need-lessen-requires
-lessen-requires c κs = let s = c .before .before .before .before .before in
-    let a = s .args in (
-      s .pre .0,
-      subst⁻¹ (λ (l : List ℕ). ScoresFit (a .rank) (a .costs .now) l) (c .before .before .before .clip .ensures)
-          (clipped-scores (c .before .before .before .before .level .result) (a .costs .now) (a .offset) (a .rank - a .offset) (a .rank) (a .blocks) (s .pre .1)),
-    )
-
-lessen-requires-2 : tie.Need-lessen-requires-2
-lessen-requires-2 c κs = search needs
-
 returns : tie.Need-returns
-returns c = let a = c .before .before .before .before .before .before .args in
+returns c =
+    let a = c .before .before .before .args in
+    let small : region (a .bytes .now) (a .operands) (a .blocks .now) (a .offset) (a .rank - a .offset) ≤ cache = omega arith in
+    sym (lessened-fits (a .bytes .now) (a .operands) (a .costs .now) (a .offset) (a .rank - a .offset) (a .blocks .now) small)
+
+level-requires : tie.Need-level-requires
+level-requires c κs = search needs
+
+clip-into-requires : tie.Need-clip-into-requires
+clip-into-requires c κs = search needs
+
+memory-region-requires-2 : tie.Need-memory-region-requires-2
+memory-region-requires-2 c κs = search needs
+
+-- the blocks where the arms meet
+started : (c : tie.Joined2) →
+    let a = c .before .before .before .before .before .before .before .before .before .before .before .before .args in
+    From (a .bytes .now) (a .operands) (a .costs .now) (a .offset) (a .rank - a .offset) (a .rank) (a .blocks .now) (c .if2 .blocks)
+started c =
+    let k = c .before .before .before in
+    let v = k .before .before .before .before in
+    let s = v .before .before .before .before .before in
+    let a = s .args in
     let n : ℕ = a .rank - a .offset in
-    let s : ℕ = c .before .before .before .before .before .level .result in
-    let t : List ℕ = c .before .before .before .before .clip .result in
-    let e : t ≡ clipped s (a .costs .now) (a .offset) n (a .blocks) = c .before .before .before .before .clip .ensures in
-    let big : cache < region (a .bytes .now) (a .operands) t (a .offset) n = omega arith in
-    c .lessen .ensures ∙ ap (lessened (a .bytes .now) (a .operands) (a .costs .now) (a .offset) n) e
-    ∙ sym (jump (a .bytes .now) (a .operands) (a .costs .now) (a .offset) n s (a .blocks)
-    (subst (λ (l : List ℕ). cache < region (a .bytes .now) (a .operands) l (a .offset) n) e big))
+    let b : List ℕ = a .blocks .now in
+    let t = k .clip-into .last .1 .1 .1 .1 .1 .0 in
+    ⊎-elim
+    (λ w. jumps (a .bytes .now) (a .operands) (a .costs .now) (a .offset) n (a .rank) b (s .pre .1) (v .level .result) t (c .if2 .blocks) (k .clip-into .ensures)
+    (let r = c .before .memory-region2 .ensures in omega (arith, r, w .0 .taken)) (w .1))
+    (λ w. stays (a .bytes .now) (a .operands) (a .costs .now) (a .offset) n (a .rank) b (s .pre .1) (c .if2 .blocks) (w .1))
+    (c .if2 .came)
+
+lessen-requires : tie.Need-lessen-requires
+lessen-requires c κs =
+    let s = c .before .before .before .before .before .before .before .before .before .before .before .before .before in
+    (s .pre .0, started (c .before) .fit)
 
 returns-2 : tie.Need-returns-2
-returns-2 c = search needs
+returns-2 c = c .lessen .ensures ∙ started (c .before .before) .same
 
 pub lessen-far-spec : {M : Type 1} → statement M
 lessen-far-spec =
     tie.close
     (tie.spec
-    level-requires
-    clip-requires
     memory-region-requires
-    lessen-requires
-    lessen-requires-2
     returns
+    level-requires
+    clip-into-requires
+    memory-region-requires-2
+    lessen-requires
     returns-2)

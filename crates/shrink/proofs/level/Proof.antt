@@ -3,16 +3,15 @@ use native.Mathlib.Omega.{arith}
 use Prim.Native.Nat.{ℕ, _-_, _≤_, _<_, _^_}
 use Rattle.shrink.proofs.level.Statement.{statement}
 use Rattle.shrink.proofs.level.Tie as tie
-use Rattle.shrink.proofs.level.Reads as reads
-use Rattle.shrink.proofs.level.Lts as lts
-use Rattle.shrink.proofs.clip.Reads as clip-reads
-use Rattle.region.proofs.memory_region.Reads as memory-region-reads
 
 abbrev Inv-loop : tie.InvT-loop
-Inv-loop blocks bytes costs operands offset rank lo₀ hi₀ lo hi = (lo ≤ hi) × (hi < 2 ^ 64)
+Inv-loop blocks bytes costs operands offset rank t₀ lo₀ hi₀ t lo hi = (lo ≤ hi) × (hi < 2 ^ 64)
 
 abbrev μ-loop : tie.MeasureT-loop
-μ-loop blocks bytes costs operands offset rank lo₀ hi₀ lo hi = hi - lo
+μ-loop blocks bytes costs operands offset rank t₀ lo₀ hi₀ t lo hi = hi - lo
+
+top-score-requires : tie.Need-top-score-requires Inv-loop μ-loop
+top-score-requires c κs = (c .before .pre .0 .1, c .before .pre .1)
 
 loop-holds : tie.Need-loop-holds Inv-loop μ-loop
 loop-holds c = omega arith
@@ -23,11 +22,11 @@ sub-mid c = omega arith
 add-mid : tie.Need-add-mid Inv-loop μ-loop
 add-mid c = omega arith
 
-clip-requires : tie.Need-clip-requires Inv-loop μ-loop
-clip-requires c κs = (c .before .before .pre .0 .1, c .before .before .pre .1)
+clip-into-requires : tie.Need-clip-into-requires Inv-loop μ-loop
+clip-into-requires c κs = let s = c .before .before .before .before .before in (s .pre .0 .1, s .pre .1)
 
 memory-region-requires : tie.Need-memory-region-requires Inv-loop μ-loop
-memory-region-requires c κs = c .before .before .before .before .pre .0
+memory-region-requires c κs = c .before .before .before .before .before .before .before .pre .0
 
 loop-less : tie.Need-loop-less Inv-loop μ-loop
 loop-less c = omega arith
@@ -53,10 +52,11 @@ level-spec =
     (tie.spec
     Inv-loop
     μ-loop
+    top-score-requires
     loop-holds
     sub-mid
     add-mid
-    clip-requires
+    clip-into-requires
     memory-region-requires
     loop-less
     loop-again

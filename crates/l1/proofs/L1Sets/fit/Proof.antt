@@ -1,33 +1,27 @@
 -- The loop goes down from the outermost axis; each turn is a case of `fitFrom`, with its tests by the live axes.
 use borrow.Author.Needs.{needs}
 use native.Mathlib.Omega.{arith}
-use mathlib.Core.Path.{_≡_, sym, ap, _∙_}
+use mathlib.Core.Path.{_≡_, sym, ap, subst⁻¹, _∙_}
 use mathlib.Core.Bool.{Bool, true, false}
 use mathlib.Core.List.{List}
 use mathlib.Core.Logic.{⊎-elim}
 use Prim.Native.Nat.{ℕ, _+_, _-_, _≤_, _<_}
 use lib.ListN.{getD, set}
+use lib.Seq.{set-set}
 use Rattle.strided.specs.Region.{live}
 use Rattle.strided.specs.Fit.{load, shortens, fitFrom, fitted}
 use Rattle.laws.specs.Cut.Cases.{shortens-above, fit-none, fit-skip, fit-on, fit-last, fitted-small, fitted-big}
-use Rattle.l1.specs.Live.{Of, loadBy, chosenSize}
+use Rattle.l1.specs.Live.{Of, loadBy, mostBy, chosenSize}
 use Rattle.l1.proofs.Loads.{first-le, second-le, load-by, shortens-by, most-by}
 use Rattle.l1.proofs.L1Sets.fit.Statement.{statement}
 use Rattle.l1.proofs.L1Sets.fit.Tie as tie
-use Rattle.l1.proofs.L1Sets.fit.Reads as reads
-use Rattle.l1.proofs.L1Sets.fit.Lts as lts
-use Rattle.l1.proofs.L1Sets.load.Reads as load-reads
-use Rattle.l1.proofs.L1Sets.load_with.Reads as load-with-reads
-use Rattle.l1.proofs.L1Sets.most.Reads as most-reads
-use Rattle.l1.proofs.L1Sets.of.Reads as of-reads
-use Rattle.l1.proofs.L1Sets.shortened.Reads as shortened-reads
 
 abbrev Inv-loop : tie.InvT-loop
-Inv-loop bytes sizes strides chosen rank sets b₀ n₀ b n = (n ≤ rank) × (Of bytes sizes rank sets)
-    × (fitFrom bytes sizes rank (chosenSize strides chosen) n b ≡ fitted bytes sizes rank (chosenSize strides chosen) b₀)
+Inv-loop blocks₀ bytes sizes strides chosen rank sets n₀ blocks n = (n ≤ rank) × (Of bytes sizes rank sets)
+    × (fitFrom bytes sizes rank (chosenSize strides chosen) n blocks ≡ fitted bytes sizes rank (chosenSize strides chosen) blocks₀)
 
 abbrev μ-loop : tie.MeasureT-loop
-μ-loop bytes sizes strides chosen rank sets b₀ n₀ b n = n
+μ-loop blocks₀ bytes sizes strides chosen rank sets n₀ blocks n = n
 
 of-requires : tie.Need-of-requires Inv-loop μ-loop
 of-requires c κs = search needs
@@ -53,66 +47,77 @@ whole-load c b = let a = c .before .before .args in load-by (a .bytes .now) (a .
 returns : tie.Need-returns Inv-loop μ-loop
 returns c = let s = c .before .before .before in
     let a = s .before .before .args in
-    sym (fitted-small (a .bytes .now) (a .sizes .now) (a .rank) (chosenSize (a .strides .now) (a .chosen)) (a .blocks)
-    (omega (arith, whole-load s (a .blocks), c .before .load .ensures, c .if1 .taken)))
+    sym (fitted-small (a .bytes .now) (a .sizes .now) (a .rank) (chosenSize (a .strides .now) (a .chosen)) (a .blocks .now)
+    (omega (arith, whole-load s (a .blocks .now), c .before .load .ensures, c .if1 .taken)))
 
 loop-holds : tie.Need-loop-holds Inv-loop μ-loop
 loop-holds c = let s = c .before .before .before in
     let a = s .before .before .args in (
       omega arith,
       s .of .ensures,
-      sym (fitted-big (a .bytes .now) (a .sizes .now) (a .rank) (chosenSize (a .strides .now) (a .chosen)) (a .blocks)
-          (omega (arith, whole-load s (a .blocks), c .before .load .ensures, c .if1 .left))),
+      sym (fitted-big (a .bytes .now) (a .sizes .now) (a .rank) (chosenSize (a .strides .now) (a .chosen)) (a .blocks .now)
+          (omega (arith, whole-load s (a .blocks .now), c .before .load .ensures, c .if1 .left))),
     )
 
 sub-i : tie.Need-sub-i Inv-loop μ-loop
 sub-i c = omega arith
 
 shortened-requires : tie.Need-shortened-requires Inv-loop μ-loop
-shortened-requires c κs = let a = c .before .before .before .before .before .before .before .before .args in
-    (omega arith, c .before .before .before .before .before .before .before .before .pre .0 .1)
+shortened-requires c κs = (omega arith, c .before .before .before .before .before .before .before .before .pre .0 .1)
 
 -- the test that the code makes is the definition's
 test : (c : tie.After-shortened Inv-loop μ-loop)
     → let a = c .before .before .before .before .before .before .before .before .before .args in
     let l = c .before .before .before .loop in
-    (t : Bool) → c .shortened .result ≡ t → shortens (a .bytes .now) (a .sizes .now) (a .rank) (chosenSize (a .strides .now) (a .chosen)) (l .b) (l .n - 1) ≡ t
+    (t : Bool) → c .shortened .result ≡ t → shortens (a .bytes .now) (a .sizes .now) (a .rank) (chosenSize (a .strides .now) (a .chosen)) (l .blocks) (l .n - 1) ≡ t
 test c t e =
     let s = c .before .before .before .before .before .before .before in
     let a = s .before .before .args in
     let l = c .before .before .before .loop in
-    shortens-by (a .bytes .now) (a .sizes .now) (a .rank) (s .of .result) (s .of .ensures) (chosenSize (a .strides .now) (a .chosen)) (l .b) (l .n - 1) ∙ sym (c .shortened .ensures) ∙ e
+    shortens-by (a .bytes .now) (a .sizes .now) (a .rank) (s .of .result) (s .of .ensures) (chosenSize (a .strides .now) (a .chosen)) (l .blocks) (l .n - 1) ∙ sym (c .shortened .ensures) ∙ e
+
+mul-whole : tie.Need-mul-whole Inv-loop μ-loop
+mul-whole c = omega arith
+
+element-copy-out-whole : tie.Need-element-copy-out-whole Inv-loop μ-loop
+element-copy-out-whole c = omega arith
 
 load-with-requires : tie.Need-load-with-requires Inv-loop μ-loop
-load-with-requires c κs = (short (c .before .before .before .before .before .before .before .before), omega arith)
+load-with-requires c κs = (short (c .before .before .before .before .before .before .before .before .before .before), omega arith)
 
-mul-b : tie.Need-mul-b Inv-loop μ-loop
-mul-b c = omega arith
-
-array-write-b : tie.Need-array-write-b Inv-loop μ-loop
-array-write-b c = omega arith
-
-most-requires : tie.Need-most-requires Inv-loop μ-loop
-most-requires c κs = let s = c .before .before .before .before .before .before .before .before .before .before in
+widen-requires : tie.Need-widen-requires Inv-loop μ-loop
+widen-requires c κs =
+    let w = c .before .before in
+    let h = w .before .before .before .before in
+    let s = h .before .before .before .before .before .before .before in
     let a = s .before .before .args in
-    let l = c .before .before .before .before .before .before .loop in
-    let above = shortens-above (a .bytes .now) (a .sizes .now) (a .rank) (chosenSize (a .strides .now) (a .chosen)) (l .b) (l .n - 1) (test (c .before .before .before) true (c .before .before .if2 .taken)) in
-    ((short s, omega arith), (omega arith, omega (arith, c .before .load-with .ensures, c .if3 .left)))
-
-mul-b-2 : tie.Need-mul-b-2 Inv-loop μ-loop
-mul-b-2 c = omega arith
-
-array-write-b-2 : tie.Need-array-write-b-2 Inv-loop μ-loop
-array-write-b-2 c = omega arith
+    let l = h .before .before .before .loop in
+    let i : ℕ = l .n - 1 in
+    let above = shortens-above (a .bytes .now) (a .sizes .now) (a .rank) (chosenSize (a .strides .now) (a .chosen)) (l .blocks) i (test h true (w .before .before .before .if2 .taken)) in
+    let small : loadBy (a .bytes .now) (s .of .result) (set (l .blocks) i 1) ≤ live = omega (arith, w .load-with .ensures .0, c .before .if3 .taken) in (
+      (short s, omega arith),
+      (
+        omega arith,
+        subst⁻¹ (λ (b : List ℕ). loadBy (a .bytes .now) (s .of .result) b ≤ live) (ap (λ (b : List ℕ). set b i 1) (w .load-with .ensures .1) ∙ set-set (l .blocks) i 1 1) small,
+      ),
+    )
 
 returns-2 : tie.Need-returns-2 Inv-loop μ-loop
-returns-2 c = let s = c .before .before .before .before .before .before .before .before .before .before .before in
+returns-2 c =
+    let w = c .before .before .before in
+    let h = w .before .before .before .before in
+    let s = h .before .before .before .before .before .before .before in
     let a = s .before .before .args in
-    let l = c .before .before .before .before .before .before .before .loop in
-    let one : List ℕ = set (l .b) (l .n - 1) 1 in
-    let small : load (a .bytes .now) (a .sizes .now) (a .rank) one ≤ live = omega (arith, whole-load s one, c .before .before .load-with .ensures, c .before .if3 .left) in
-    ap (set (l .b) (l .n - 1)) (c .most .ensures ∙ sym (most-by (a .bytes .now) (a .sizes .now) (a .rank) (s .of .result) (s .of .ensures) (l .b) (l .n - 1)))
-    ∙ sym (fit-last (a .bytes .now) (a .sizes .now) (a .rank) (chosenSize (a .strides .now) (a .chosen)) (l .b) (l .n) (omega arith) (test (c .before .before .before .before) true (c .before .before .before .if2 .taken)) small) ∙ l .inv .2
+    let l = h .before .before .before .loop in
+    let b : List ℕ = l .blocks in
+    let i : ℕ = l .n - 1 in
+    let one : List ℕ = set b i 1 in
+    let small : load (a .bytes .now) (a .sizes .now) (a .rank) one ≤ live = omega (arith, whole-load s one, w .load-with .ensures .0, c .before .before .if3 .taken) in
+    c .widen .ensures
+    ∙ ap (λ (x : List ℕ). set x i (mostBy (a .bytes .now) (s .of .result) x i (getD b i 0))) (w .load-with .ensures .1)
+    ∙ set-set b i 1 (mostBy (a .bytes .now) (s .of .result) one i (getD b i 0))
+    ∙ ap (set b i) (sym (most-by (a .bytes .now) (a .sizes .now) (a .rank) (s .of .result) (s .of .ensures) b i 1))
+    ∙ sym (fit-last (a .bytes .now) (a .sizes .now) (a .rank) (chosenSize (a .strides .now) (a .chosen)) b (l .n) (omega arith) (test h true (w .before .before .before .if2 .taken)) small) ∙ l .inv .2
 
 sub-n : tie.Need-sub-n Inv-loop μ-loop
 sub-n c = omega arith
@@ -121,23 +126,24 @@ loop-less : tie.Need-loop-less Inv-loop μ-loop
 loop-less c = omega arith
 
 loop-again : tie.Need-loop-again Inv-loop μ-loop
-loop-again c = let s = c .before .before .before .before .before .before .before .before in
+loop-again c = let h = c .before in
+    let s = h .before .before .before .before .before .before .before in
     let a = s .before .before .args in
-    let l = c .before .before .before .before .loop in
-    let one : List ℕ = set (l .b) (l .n - 1) 1 in
+    let l = h .before .before .before .loop in
+    let one : List ℕ = set (l .blocks) (l .n - 1) 1 in
     let from : List ℕ → List ℕ = fitFrom (a .bytes .now) (a .sizes .now) (a .rank) (chosenSize (a .strides .now) (a .chosen)) (l .n - 1) in
     ⊎-elim
     (λ w.
-    let big : live < load (a .bytes .now) (a .sizes .now) (a .rank) one = omega (arith, whole-load s one, w .1 .ensures, w .2 .taken) in
-    (omega arith, l .inv .1, ap from (w .3) ∙ sym (fit-on (a .bytes .now) (a .sizes .now) (a .rank) (chosenSize (a .strides .now) (a .chosen)) (l .b) (l .n) (omega arith) (test (c .before) true (w .0 .taken)) big) ∙ l .inv .2))
-    (λ w. (omega arith, l .inv .1, ap from (w .1) ∙ sym (fit-skip (a .bytes .now) (a .sizes .now) (a .rank) (chosenSize (a .strides .now) (a .chosen)) (l .b) (l .n) (omega arith) (test (c .before) false (w .0 .left))) ∙ l .inv .2))
+    let big : live < load (a .bytes .now) (a .sizes .now) (a .rank) one = omega (arith, whole-load s one, w .3 .ensures .0, w .4 .left) in
+    (omega arith, l .inv .1, ap from (w .5 ∙ w .3 .ensures .1) ∙ sym (fit-on (a .bytes .now) (a .sizes .now) (a .rank) (chosenSize (a .strides .now) (a .chosen)) (l .blocks) (l .n) (omega arith) (test h true (w .0 .taken)) big) ∙ l .inv .2))
+    (λ w. (omega arith, l .inv .1, ap from (w .1) ∙ sym (fit-skip (a .bytes .now) (a .sizes .now) (a .rank) (chosenSize (a .strides .now) (a .chosen)) (l .blocks) (l .n) (omega arith) (test h false (w .0 .left))) ∙ l .inv .2))
     (c .if2 .came)
 
 returns-3 : tie.Need-returns-3 Inv-loop μ-loop
 returns-3 c = let a = c .before .before .before .before .before .before .before .args in
     let l = c .before .loop in
     let e : l .n ≡ 0 = omega arith in
-    sym (ap (λ (n : ℕ). fitFrom (a .bytes .now) (a .sizes .now) (a .rank) (chosenSize (a .strides .now) (a .chosen)) n (l .b)) e ∙ fit-none (a .bytes .now) (a .sizes .now) (a .rank) (chosenSize (a .strides .now) (a .chosen)) (l .b)) ∙ l .inv .2
+    sym (ap (λ (n : ℕ). fitFrom (a .bytes .now) (a .sizes .now) (a .rank) (chosenSize (a .strides .now) (a .chosen)) n (l .blocks)) e ∙ fit-none (a .bytes .now) (a .sizes .now) (a .rank) (chosenSize (a .strides .now) (a .chosen)) (l .blocks)) ∙ l .inv .2
 
 pub fit-spec : {M : Type 1} → statement M
 fit-spec =
@@ -151,12 +157,10 @@ fit-spec =
     loop-holds
     sub-i
     shortened-requires
+    mul-whole
+    element-copy-out-whole
     load-with-requires
-    mul-b
-    array-write-b
-    most-requires
-    mul-b-2
-    array-write-b-2
+    widen-requires
     returns-2
     sub-n
     loop-less

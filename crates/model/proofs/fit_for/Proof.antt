@@ -17,11 +17,8 @@ use Rattle.strided.specs.declared.Purpose.the-variants.{PointwiseInto}
 use Rattle.laws.specs.Cut.Ranges.{cond-true, cond-false}
 use Rattle.laws.specs.Cut.Tables.{strideSize}
 use borrow.Author.Needs.{needs}
-use Rattle.model.proofs.fitted_for.Statement.{statement}
-use Rattle.model.proofs.fitted_for.Tie as tie
-use Rattle.model.proofs.fitted_for.Reads as reads
-use Rattle.model.proofs.fitted_for.Lts as lts
-use Rattle.l1.proofs.L1Sets.fit.Reads as fit-reads
+use Rattle.model.proofs.fit_for.Statement.{statement}
+use Rattle.model.proofs.fit_for.Tie as tie
 
 enum-told : tie.Need-enum-told
 enum-told c = search needs
@@ -43,12 +40,13 @@ fits : (u : Purpose) (c : ℕ) (bytes sizes : List ℕ) (strides : List ℤ) (ra
 fits u c bytes sizes strides rank b e = ap (λ (v : Purpose). fittedFor v bytes sizes strides rank b) e
 
 fit-requires : tie.Need-fit-requires
-fit-requires c κs = let s = c .before .before .before .before .before in
+fit-requires c κs = let t = c .before .before in
+    let s = t .before .before .before .before in
     let a = s .args in
-    let k : ℕ = c .before .before .purpose2 .given .0 .0 in
-    let two : length (a .sizes .now) ≡ 2 = c .if1 .taken in
+    let k : ℕ = t .before .purpose2 .given .0 .0 in
+    let two : length (a .sizes .now) ≡ 2 = c .before .if1 .taken in
     let there : missing (length (a .sizes .now)) (chosen (PointwiseInto k)) ≡ false =
-    subst (λ (v : Purpose). missing (length (a .sizes .now)) (chosen v) ≡ false) (into (c .before)) (s .pre .1) in
+    subst (λ (v : Purpose). missing (length (a .sizes .now)) (chosen v) ≡ false) (into t) (s .pre .1) in
     let below : k < length (a .sizes .now) = leb-false (length (a .sizes .now)) k there in
     ((s .pre .0, omega arith), two)
 
@@ -59,20 +57,21 @@ returns-2 : tie.Need-returns-2
 returns-2 c = search needs
 
 returns-3 : tie.Need-returns-3
-returns-3 c = let a = c .before .before .before .before .before .before .args in
-    let k : ℕ = c .before .before .before .purpose2 .given .0 .0 in
+returns-3 c = let t = c .before .before .before in
+    let a = t .before .before .before .before .args in
+    let k : ℕ = t .before .purpose2 .given .0 .0 in
     c .fit .ensures
-    ∙ sym (fits (a .purpose) k (a .bytes .now) (a .sizes .now) (a .strides .now) (a .rank) (a .blocks) (into (c .before .before))
-    ∙ cond-true (eqb (length (a .sizes .now)) 2) (fitted (a .bytes .now) (a .sizes .now) (a .rank) (strideSize (a .strides .now) k) (a .blocks)) (a .blocks) (eq-eqb _ _ (c .before .if1 .taken)))
+    ∙ sym (fits (a .purpose) k (a .bytes .now) (a .sizes .now) (a .strides .now) (a .rank) (a .blocks .now) (into t)
+    ∙ cond-true (eqb (length (a .sizes .now)) 2) (fitted (a .bytes .now) (a .sizes .now) (a .rank) (strideSize (a .strides .now) k) (a .blocks .now)) (a .blocks .now) (eq-eqb _ _ (c .before .before .if1 .taken)))
 
 returns-4 : tie.Need-returns-4
 returns-4 c = let a = c .before .before .before .before .before .args in
     let k : ℕ = c .before .before .purpose2 .given .0 .0 in
-    sym (fits (a .purpose) k (a .bytes .now) (a .sizes .now) (a .strides .now) (a .rank) (a .blocks) (into (c .before))
-    ∙ cond-false (eqb (length (a .sizes .now)) 2) (fitted (a .bytes .now) (a .sizes .now) (a .rank) (strideSize (a .strides .now) k) (a .blocks)) (a .blocks) (ne-eqb _ _ (c .if1 .left)))
+    sym (fits (a .purpose) k (a .bytes .now) (a .sizes .now) (a .strides .now) (a .rank) (a .blocks .now) (into (c .before))
+    ∙ cond-false (eqb (length (a .sizes .now)) 2) (fitted (a .bytes .now) (a .sizes .now) (a .rank) (strideSize (a .strides .now) k) (a .blocks .now)) (a .blocks .now) (ne-eqb _ _ (c .if1 .left)))
 
-pub fitted-for-spec : {M : Type 1} → statement M
-fitted-for-spec =
+pub fit-for-spec : {M : Type 1} → statement M
+fit-for-spec =
     tie.close
     (tie.spec
     enum-told

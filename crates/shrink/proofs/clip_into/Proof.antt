@@ -1,0 +1,130 @@
+-- A loop clips axis after axis; a score above s has a cost above 0.
+use native.Mathlib.Omega.{arith}
+use mathlib.Core.Path.{_≡_, sym, ap, ap₂, subst, _∙_}
+use mathlib.Core.List.{List}
+use mathlib.Core.Logic.{⊎-elim}
+use Prim.Native.Nat.{ℕ, _+_, _-_, _*_, _/_, _≤_, _<_}
+use native.Mathlib.Nat.{div-le-self}
+use lib.ListN.{getD, set}
+use Rattle.strided.specs.Cut.{score}
+use Rattle.laws.specs.Cut.Ranges.{cond-lt, cond-le}
+use Rattle.laws.specs.Cut.Jump.{pos-right, clippedOver, over-start, over-step}
+use Rattle.shrink.proofs.clip_into.Statement.{statement}
+use Rattle.shrink.proofs.clip_into.Tie as tie
+
+abbrev Inv-loop : tie.InvT-loop
+Inv-loop blocks costs offset rank s out₀ i₀ out i = (offset ≤ i) × (i ≤ rank) × (out ≡ clippedOver s costs offset (i - offset) blocks out₀)
+
+abbrev μ-loop : tie.MeasureT-loop
+μ-loop blocks costs offset rank s out₀ i₀ out i = rank - i
+
+loop-holds : tie.Need-loop-holds Inv-loop μ-loop
+loop-holds c = (omega arith, omega arith, sym (over-start _ _ _ _ _))
+
+mul-x : tie.Need-mul-x Inv-loop μ-loop
+mul-x c = omega arith
+
+element-copy-out-x : tie.Need-element-copy-out-x Inv-loop μ-loop
+element-copy-out-x c = omega arith
+
+mul-c : tie.Need-mul-c Inv-loop μ-loop
+mul-c c = omega arith
+
+element-copy-out-c : tie.Need-element-copy-out-c Inv-loop μ-loop
+element-copy-out-c c = omega arith
+
+less-one-requires : tie.Need-less-one-requires Inv-loop μ-loop
+less-one-requires c κs = tt
+
+-- the product that the code compares is the score
+the-score : (c : tie.After-less-one Inv-loop μ-loop)
+    → let l = c .before .before .before .before in
+    let a = l .before .args in
+    c .less-one .result * getD (a .costs .now) (l .loop .i) 0 ≡ score (a .blocks .now) (a .costs .now) (l .loop .i)
+the-score c =
+    let l = c .before .before .before .before in
+    ap (λ (x : ℕ). x * getD (l .before .args .costs .now) (l .loop .i) 0) (c .less-one .ensures)
+
+mul-if1 : tie.Need-mul-if1 Inv-loop μ-loop
+mul-if1 c =
+    let l = c .before .before .before .before in
+    omega (arith, the-score c, l .before .pre .1 (l .loop .i) (omega arith))
+
+div-out : tie.Need-div-out Inv-loop μ-loop
+div-out c = pos-right (c .before .less-one .result) _ (c .before .before .before .before .before .before .args .s) (c .if1 .taken)
+
+add-out : tie.Need-add-out Inv-loop μ-loop
+add-out c =
+    let l = c .before .before .before .before .before in
+    let a = l .before .args in
+    omega (arith, the-score (c .before), l .before .pre .1 (l .loop .i) (omega arith), div-le-self (a .s) (getD (a .costs .now) (l .loop .i) 0))
+
+mul-out : tie.Need-mul-out Inv-loop μ-loop
+mul-out c = omega arith
+
+element-write-out : tie.Need-element-write-out Inv-loop μ-loop
+element-write-out c = omega arith
+
+mul-out-2 : tie.Need-mul-out-2 Inv-loop μ-loop
+mul-out-2 c = omega arith
+
+element-write-out-2 : tie.Need-element-write-out-2 Inv-loop μ-loop
+element-write-out-2 c = omega arith
+
+add-i : tie.Need-add-i Inv-loop μ-loop
+add-i c = omega arith
+
+loop-less : tie.Need-loop-less Inv-loop μ-loop
+loop-less c = omega arith
+
+loop-again : tie.Need-loop-again Inv-loop μ-loop
+loop-again c =
+    let l = c .before .before .before .before .before in
+    let a = l .before .args in
+    let i : ℕ = l .loop .i in
+    let blocks : List ℕ = a .blocks .now in
+    let costs : List ℕ = a .costs .now in
+    let e = the-score (c .before) in
+    let st = over-step (a .s) costs (a .offset) i blocks (a .out .now) (l .loop .inv .0) in
+    ⊎-elim
+    (λ w. (
+      omega arith,
+      omega arith,
+      w .1 ∙ ap₂ (λ (b : List ℕ) (v : ℕ). set b i v) (l .loop .inv .2) (sym (cond-lt (a .s) (score blocks costs i) (a .s / getD costs i 0 + 1) (getD blocks i 0) (subst (λ (z : ℕ). a .s < z) e (w .0 .taken)))) ∙ sym st,
+    ))
+    (λ w. (
+      omega arith,
+      omega arith,
+      w .1 ∙ ap₂ (λ (b : List ℕ) (v : ℕ). set b i v) (l .loop .inv .2) (sym (cond-le (a .s) (score blocks costs i) (a .s / getD costs i 0 + 1) (getD blocks i 0) (subst (λ (z : ℕ). z ≤ a .s) e (w .0 .left)))) ∙ sym st,
+    ))
+    (c .if1 .came)
+
+returns : tie.Need-returns Inv-loop μ-loop
+returns c = let a = c .before .before .args in
+    let l = c .before .loop in
+    let e : l .i ≡ a .rank = omega arith in
+    l .inv .2 ∙ ap (λ (i : ℕ). clippedOver (a .s) (a .costs .now) (a .offset) (i - a .offset) (a .blocks .now) (a .out .now)) e
+
+pub clip-into-spec : {M : Type 1} → statement M
+clip-into-spec =
+    tie.close
+    (tie.spec
+    Inv-loop
+    μ-loop
+    loop-holds
+    mul-x
+    element-copy-out-x
+    mul-c
+    element-copy-out-c
+    less-one-requires
+    mul-if1
+    div-out
+    add-out
+    mul-out
+    element-write-out
+    mul-out-2
+    element-write-out-2
+    add-i
+    loop-less
+    loop-again
+    returns)
