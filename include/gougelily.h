@@ -148,6 +148,28 @@ int64_t gougelily_step(size_t rank, size_t operands, const uint64_t extents[GOUG
                        int64_t block_strides[GOUGELILY_MAX_OPERANDS]);
 
 /*
+ * Many steps of a walk in one call: as many of its next blocks as there is room
+ * for. What a call costs, and the check of the state, is paid once for them all.
+ *
+ * Takes a plan and a walk's state as gougelily_step does, and two arrays to
+ * write: block_lengths with a place for each block, and block_offsets with
+ * `operands` places for each. The smaller of the two is the room.
+ * Answers how many blocks it wrote, and the state after them. Block j has
+ * block_lengths[j] cells, and operand k's offset of its first cell is
+ * block_offsets[j * operands + k]; the stride to the next cell is the plan's on
+ * axis 0, strides[k * 64]. Every place behind these is as it was. Fewer blocks
+ * than there is room for are the last ones.
+ * Answers 0 after the last block, as often as it is asked, and also where there
+ * is no room for a block, which `ended` tells apart: then all is as it was.
+ * Refuses 1, 2, 10, as gougelily_step does.
+ */
+int64_t gougelily_step_many(size_t rank, size_t operands, const uint64_t extents[GOUGELILY_MAX_RANK],
+                            const uint64_t blocks[GOUGELILY_MAX_RANK], const int64_t strides[GOUGELILY_PLAN_STRIDES],
+                            uint64_t ended[1], uint64_t counters[GOUGELILY_MAX_RANK],
+                            int64_t offsets[GOUGELILY_MAX_OPERANDS], uint64_t *block_lengths, size_t length_count,
+                            int64_t *block_offsets, size_t offset_count);
+
+/*
  * The repeat mark of an operand: whether two indices of the layout surely share
  * an offset, because some axis of extent above 1 has stride 0 and no extent is 0.
  *
@@ -245,6 +267,14 @@ static inline int64_t gougelily_next_block(const gougelily_plan_t *plan, gougeli
     return gougelily_step(plan->rank, plan->operands, plan->extents, plan->blocks, plan->strides, &walk->ended,
                           walk->counters, walk->offsets, block->counters, &block->length, block->offsets,
                           block->strides);
+}
+
+/* gougelily_step_many */
+static inline int64_t gougelily_next_blocks(const gougelily_plan_t *plan, gougelily_walk_t *walk, uint64_t *lengths,
+                                            size_t length_count, int64_t *offsets, size_t offset_count)
+{
+    return gougelily_step_many(plan->rank, plan->operands, plan->extents, plan->blocks, plan->strides, &walk->ended,
+                               walk->counters, walk->offsets, lengths, length_count, offsets, offset_count);
 }
 
 #ifdef __cplusplus

@@ -4,7 +4,8 @@
  * one side and a page that cannot be touched on the other. Checked are:
  * - known layouts, and one call for each refusal;
  * - layouts at random: a walk meets every cell once, at the offsets that its
- *   original index tells, and the index maps are inverse;
+ *   original index tells, and the index maps are inverse; many steps in one call
+ *   hand out the blocks of single steps;
  * - plans and states at random, whatever they hold: a call ends with an answer.
  * After every call its inputs are as they were, after a refusal its outputs too.
  */
@@ -160,6 +161,32 @@ static int64_t step_of(const gougelily_plan_t *p, gougelily_walk_t *w, gougelily
     return answer;
 }
 
+/* Room for some blocks, whatever the number of operands. */
+enum { MOST_BLOCKS = 16, MOST_OFFSETS = MOST_BLOCKS * GOUGELILY_MAX_OPERANDS };
+
+struct many {
+    uint64_t lengths[MOST_BLOCKS];
+    int64_t offsets[MOST_OFFSETS];
+};
+
+static int64_t many_of(const gougelily_plan_t *p, gougelily_walk_t *w, struct many *m, size_t lengths, size_t offsets)
+{
+    const uint64_t *e = LEND(p->extents), *b = LEND(p->blocks);
+    const int64_t *s = LEND(p->strides);
+    uint64_t *ended = LEND(w->ended), *counters = LEND(w->counters);
+    int64_t *walk_offsets = LEND(w->offsets);
+    uint64_t *block_lengths = lend(m->lengths, lengths * 8);
+    int64_t *block_offsets = lend(m->offsets, offsets * 8);
+    int64_t answer = gougelily_step_many(p->rank, p->operands, e, b, s, ended, counters, walk_offsets, block_lengths,
+                                         lengths, block_offsets, offsets);
+    TAKE(w->ended, ended), TAKE(w->counters, counters), TAKE(w->offsets, walk_offsets);
+    memcpy(m->lengths, block_lengths, lengths * 8);
+    memcpy(m->offsets, block_offsets, offsets * 8);
+    CHECK(answer == -1 || answer == -2 || answer == -10 || (answer >= 0 && (uint64_t)answer <= lengths));
+    settle(3, answer > 0);
+    return answer;
+}
+
 static int64_t mark_of(const struct layout *l, size_t operand)
 {
     const uint64_t *e = lend(l->extents, l->rank * 8);
@@ -204,6 +231,7 @@ static void known_walk(void)
     gougelily_plan_t p = {0};
     gougelily_walk_t w = {0};
     gougelily_block_t k = {0};
+    struct many m = {0};
     const int64_t start = 10;
     p.rank = 1, p.operands = 1, p.extents[0] = 5, p.blocks[0] = 2, p.strides[0] = 3;
     CHECK(begin_of(&p, &start, 1, &w) == 0 && !w.ended);
@@ -214,7 +242,13 @@ static void known_walk(void)
     w.ended = 7;
     CHECK(step_of(&p, &w, &k) == 0 && w.ended == 7);
     w.ended = 0, w.counters[0] = 5;
-    CHECK(step_of(&p, &w, &k) == -GOUGELILY_STATE);
+    CHECK(step_of(&p, &w, &k) == -GOUGELILY_STATE && many_of(&p, &w, &m, 4, 4) == -GOUGELILY_STATE);
+    w.counters[0] = 0;
+    CHECK(many_of(&p, &w, &m, 0, 4) == 0 && many_of(&p, &w, &m, 4, 0) == 0 && !w.ended && w.counters[0] == 0);
+    CHECK(many_of(&p, &w, &m, 2, 4) == 2 && m.lengths[0] == 2 && m.lengths[1] == 2 && m.offsets[0] == 10 &&
+          m.offsets[1] == 16 && m.offsets[2] == 0 && w.counters[0] == 4);
+    CHECK(many_of(&p, &w, &m, 4, 4) == 1 && m.lengths[0] == 1 && m.offsets[0] == 22 && m.lengths[1] == 2 && w.ended);
+    CHECK(many_of(&p, &w, &m, 4, 4) == 0 && gougelily_next_blocks(&p, &w, m.lengths, 4, m.offsets, 4) == 0);
     p.extents[0] = 0;
     CHECK(begin_of(&p, &start, 1, &w) == 0 && w.ended == 1);
 }
@@ -383,6 +417,31 @@ static void meet(const struct layout *l, const gougelily_plan_t *p, const gougel
     cells_met++;
 }
 
+/* One call, from a state that is not refused: the blocks and the state of as many single steps. */
+static int64_t call_many(const gougelily_plan_t *p, gougelily_walk_t *w)
+{
+    struct many m, held;
+    gougelily_walk_t single = *w;
+    gougelily_block_t b;
+    const size_t lengths = below(MOST_BLOCKS), records = below(MOST_BLOCKS);
+    const size_t offsets = records * p->operands + below(p->operands), room = lengths < records ? lengths : records;
+    int64_t answer;
+    make_wild(&m, sizeof m / 8);
+    make_wild(&b, sizeof b / 8);
+    held = m;
+    answer = many_of(p, w, &m, lengths, offsets);
+    CHECK(answer >= 0 && (size_t)answer <= room);
+    for (size_t j = 0; j < (size_t)answer; j++) {
+        CHECK(step_of(p, &single, &b) == 1 && b.length == m.lengths[j]);
+        CHECK(memcmp(b.offsets, m.offsets + j * p->operands, 8 * p->operands) == 0);
+        held.lengths[j] = b.length;
+        memcpy(held.offsets + j * p->operands, b.offsets, 8 * p->operands);
+    }
+    CHECK(memcmp(&held, &m, sizeof m) == 0 && memcmp(&single, w, sizeof single) == 0);
+    CHECK((size_t)answer == room || w->ended == 1);
+    return answer;
+}
+
 static void walk_layout(const struct layout *l)
 {
     const gougelily_layout_t v = view(l);
@@ -405,6 +464,9 @@ static void walk_layout(const struct layout *l)
     if (below(2)) /* any block sizes make a walk */
         make_wild(p.blocks, GOUGELILY_MAX_RANK);
     CHECK(begin_of(&p, starts, p.operands, &w) == 0 && w.ended == (total == 0));
+    for (uint64_t calls = 0; calls < 20 && !w.ended; calls++)
+        call_many(&p, &w);
+    CHECK(begin_of(&p, starts, p.operands, &w) == 0);
     while (step_of(&p, &w, &b) == 1) {
         CHECK(b.length > 0 && (p.rank == 0 ? b.length == 1 : b.counters[0] + b.length <= p.extents[0]));
         CHECK(blank(b.counters, p.rank, 64) && blank(b.offsets, p.operands, 8) && blank(b.strides, p.operands, 8));
@@ -423,8 +485,11 @@ static void walk_layout(const struct layout *l)
 static void steps(const gougelily_plan_t *p, gougelily_walk_t *w)
 {
     gougelily_block_t b = {0};
+    struct many m = {0};
     for (int i = 0; i < 4; i++) {
-        int64_t answer = step_of(p, w, &b);
+        gougelily_walk_t same = *w;
+        int64_t answer = step_of(p, w, &b), many = many_of(p, &same, &m, 1 + below(MOST_BLOCKS), below(MOST_OFFSETS));
+        CHECK(answer < 1 ? many == answer : many >= 0);
         refusals_met += answer < 0;
         CHECK((answer == -GOUGELILY_RANK) == (p->rank > 64));
         CHECK((answer == -GOUGELILY_OPERANDS) == (p->rank <= 64 && (p->operands == 0 || p->operands > 8)));

@@ -1,21 +1,27 @@
 -- The answers of the C entries, put together from what the entry called answered. Assumes nothing.
 use mathlib.Core.Path.{_≡_, sym, ap, _∙_}
 use mathlib.Core.Bool.{Bool}
+use mathlib.Core.List.{List}
 use Prim.Native.Nat.{ℕ, zero, suc, _≤_, _<_}
 use native.Mathlib.Omega.{arith}
 use lib.IntN.{ℤ, pos, negℤ}
+use lib.ListN.{length}
 use lib.Signed.{mag}
 use mir.Val.{SFits}
 use mir.Syntax.{w64}
 use Rattle.strided.specs.Refusals.{number}
+use Rattle.strided.specs.Bulk.{lengthsOf, offsetsOf, roomFor, laidOn, SteppedMany, steppedMany}
 use Rattle.strided.specs.declared.Refusal.{Refusal}
 use Rattle.strided.specs.declared.Refusal.the-variants.{Rank, Operands, StrideCount, Chosen, Total, Reach, Bytes, StartCount, Offsets, State, Index, Form, TextTotal, Room}
 use Rattle.strided.specs.declared.Answer.{Answer}
 use Rattle.strided.specs.declared.Answer.the-variants.{Served, Refused}
 use Rattle.strided.specs.declared.Outcome.the-variants.{Block, Ended, Rejected}
+use Rattle.strided.specs.declared.Plan.{Plan}
+use Rattle.strided.specs.declared.Walk.{Walk}
 use Rattle.strided.specs.declared.Stepped.{Stepped}
 use Rattle.strided.specs.declared.Marked.{Marked}
-use Rattle.gougelily.specs.Handed.{negated, flag, Handed, markCode, StepMemory, stepMemory, Steps}
+use Rattle.laws.specs.Walk.Bulk.{blocks-few, blocks-none}
+use Rattle.gougelily.specs.Handed.{negated, flag, Handed, markCode, WalkMemory, walkMemory, StepMemory, stepMemory, Steps, ManyMemory, manyMemory, StepsMany}
 
 pub number-small : (r : Refusal) → number r < 15
 number-small Rank = omega arith
@@ -85,3 +91,51 @@ module _ {x m : Marked} (is : x ≡ m) where
       let g : m .answer ≡ Served = sym (ap (λ (y : Marked). y .answer) is) ∙ h in
       let f : b ≡ m .repeats = sym q ∙ ap (λ (y : Marked). y .repeats) is in
       rw g (ap (λ (z : Bool). pos (flag z)) f)
+
+-- many steps, in the call's result x
+module _ (p : Plan) (w : Walk) (ls : List ℕ) (os : List ℤ) {x : SteppedMany} (is : x ≡ steppedMany p w ls os) where
+  abbrev S : SteppedMany
+  S = steppedMany p w ls os
+
+  -- no more blocks than places
+  pub many-count : x .several .count ≤ length ls
+  unfolding steppedMany
+  many-count =
+      let n : ℕ = roomFor (p .operands) (length ls) (length os) in
+      omega (arith, ap (λ (y : SteppedMany). y .several .count) is, blocks-few p n w)
+
+  -- without a block the slices are as they were
+  kept-slices : (S .several .answer ≡ Block → ⊥) → (x .lengths ≡ ls) × (x .offsets ≡ os)
+  unfolding steppedMany
+  kept-slices h =
+      let e = blocks-none p (roomFor (p .operands) (length ls) (length os)) w h in (
+        ap (λ (y : SteppedMany). y .lengths) is ∙ ap (λ (b : List Stepped). laidOn (lengthsOf b) ls) e,
+        ap (λ (y : SteppedMany). y .offsets) is ∙ ap (λ (b : List Stepped). laidOn (offsetsOf (p .operands) b) os) e,
+      )
+
+  module _ (u : WalkMemory) where
+    abbrev old : ManyMemory
+    old = record { walk = u; lengths = ls; offsets = os }
+
+    same : (S .several .answer ≡ Block → ⊥) → _≡_ {A = ManyMemory} (record { walk = u; lengths = x .lengths; offsets = x .offsets }) old
+    same h = let k = kept-slices h in λ i. record { walk = u; lengths = k .0 i; offsets = k .1 i }
+
+    pub many-refused : {r : Refusal} {n : ℤ} → x .several .answer ≡ Rejected r → n ≡ negated r
+        → StepsMany S old (record { walk = u; lengths = x .lengths; offsets = x .offsets }) n
+    many-refused {r} h e =
+        let g : S .several .answer ≡ Rejected r = sym (ap (λ (y : SteppedMany). y .several .answer) is) ∙ h in
+        record { code = rw g e; memory = rw g (same (λ b. let z : _≡_ {A = ℕ} 0 1 = cc (g, b) in omega arith)) }
+
+    pub many-ended : x .several .answer ≡ Ended → StepsMany S old (record { walk = u; lengths = x .lengths; offsets = x .offsets }) (pos 0)
+    many-ended h =
+        let g : S .several .answer ≡ Ended = sym (ap (λ (y : SteppedMany). y .several .answer) is) ∙ h in
+        record { code = rw g; memory = rw g (same (λ b. let z : _≡_ {A = ℕ} 0 1 = cc (g, b) in omega arith)) }
+
+    pub many-blocks : {new : WalkMemory} {n : ℤ} → x .several .answer ≡ Block → new ≡ walkMemory (x .several .walk) → n ≡ pos (x .several .count)
+        → StepsMany S old (record { walk = new; lengths = x .lengths; offsets = x .offsets }) n
+    many-blocks h f e =
+        let g : S .several .answer ≡ Block = sym (ap (λ (y : SteppedMany). y .several .answer) is) ∙ h in
+        record {
+          code = rw g (e ∙ ap (λ (y : SteppedMany). pos (y .several .count)) is);
+          memory = rw g ((λ i. record { walk = f i; lengths = x .lengths; offsets = x .offsets }) ∙ ap manyMemory is);
+        }

@@ -9,6 +9,7 @@ use lib.Dec.{eqb}
 use lib.IntN.{ℤ, pos, negℤ}
 use lib.ListN.{getD}
 use Rattle.strided.specs.Refusals.{number}
+use Rattle.strided.specs.Bulk.{SteppedMany}
 use Rattle.strided.specs.declared.Purpose.{Purpose}
 use Rattle.strided.specs.declared.Purpose.the-variants.{Pointwise, PointwiseInto, Fold}
 use Rattle.strided.specs.declared.Refusal.{Refusal}
@@ -132,3 +133,24 @@ stepMemory s =
 pub record Steps (s : Stepped) (old new : StepMemory) (r : ℤ) : Type 0 where
   pub code : r ≡ stepCode (s .answer)
   pub memory : new ≡ keptStep (s .answer) (stepMemory s) old
+
+-- ---- many steps
+
+-- how many blocks were written, and 0 for the end
+abbrev pub manyCode : Outcome → ℕ → ℤ
+manyCode Block count = pos count
+manyCode Ended count = pos 0
+manyCode (Rejected r) count = negated r
+
+-- the state, and the two slices
+pub record ManyMemory : Type 0 where
+  pub walk : WalkMemory
+  pub lengths : List ℕ
+  pub offsets : List ℤ
+
+abbrev pub manyMemory : SteppedMany → ManyMemory
+manyMemory m = record { walk = walkMemory (m .several .walk); lengths = m .lengths; offsets = m .offsets }
+
+pub record StepsMany (m : SteppedMany) (old new : ManyMemory) (r : ℤ) : Type 0 where
+  pub code : r ≡ manyCode (m .several .answer) (m .several .count)
+  pub memory : new ≡ keptStep (m .several .answer) (manyMemory m) old

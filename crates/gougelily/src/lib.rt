@@ -8,6 +8,7 @@ use strided::Purpose;
 use strided::Refusal;
 
 pub mod indices;
+pub mod many;
 pub mod marks;
 pub mod plans;
 pub mod walks;

@@ -16,6 +16,7 @@
 --   reach: the counters that a walk comes to                           Walk/Reach         reach, state-nth
 --   row 9, exact                                                       Walk/Row9          row9-exact
 --   row 10, exact                                                      Walk/Row10         row10-exact
+--   many steps in one call, and many such calls: the walk's blocks     Walk/Bulk          first-blocks, calls-are, hands-block, place-block
 --   demand 3                                                           Demand3/Whole      demand3, exactly-one
 --   a text says one thing at most                                      Text/Once          in-form-once
 --   a text in the form is refused as planning refuses its layout       Text/Planning      no-row3, as-planning, has-plan

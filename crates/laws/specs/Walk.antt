@@ -11,3 +11,4 @@ pub mod Machine
 pub mod Steps
 pub mod Row9
 pub mod Row10
+pub mod Bulk

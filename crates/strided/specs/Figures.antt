@@ -5,7 +5,7 @@ use mathlib.Core.Path.{_≡_, refl}
 use mathlib.Core.Bool.{Bool, true, false, _&&_}
 use mathlib.Core.List.{List, [], _∷_, _++_, map}
 use mathlib.Core.Option.{Option, none, some}
-use Prim.Native.Nat.{ℕ, zero, suc, _^_}
+use Prim.Native.Nat.{ℕ, zero, suc, _*_, _^_}
 use lib.Count.{leadingZeros}
 use lib.Dec.{eqb}
 use lib.IntN.{ℤ, pos, negsuc}
@@ -39,6 +39,7 @@ use Rattle.strided.specs.Fit.{reuse, counts, loadOf, load, entersOf, ent
 use Rattle.strided.specs.Plan.{grows, cutBlocks, planFrom, planned}
 use Rattle.strided.specs.Begin.{beginRefused, begunAt}
 use Rattle.strided.specs.Step.{stepped}
+use Rattle.strided.specs.Bulk.{SteppedMany, steppedMany}
 use Rattle.strided.specs.Mark.{repeats, markRefused, marked}
 use Rattle.strided.specs.Digits.{digitsOf}
 use Rattle.strided.specs.Text.{OperandLine, Parsed, written, printedPlan, printed, textRefused, listed, printedBy}
@@ -60,6 +61,9 @@ pub data Figure : Type 0 where
   indexIs : List ℕ → List ℕ → List ℤ → Purpose → List ℕ → List ℕ → Figure
   -- a walk of one operand to its end: extents, blocks, strides, start; the offsets and the lengths of its blocks
   walkIs : List ℕ → List ℕ → List ℤ → ℤ → List ℤ → List ℕ → Figure
+  -- many steps a call: a plan, starts, and for how many blocks each call has room; the blocks that each wrote, and the lengths and offsets in
+  -- the slices of all calls, lent full of 9
+  callsAre : Plan → List ℤ → List ℕ → List ℕ → List ℕ → List ℤ → Figure
   -- the repeat mark: extents, strides
   markIs : List ℕ → List ℤ → Bool → Figure
   -- what a text says, and the room lent: the text, and what is printed
@@ -68,6 +72,10 @@ pub data Figure : Type 0 where
 -- strides that are not negative
 abbrev pub whole : List ℕ → List ℤ
 whole ns = map pos ns
+
+-- a plan of one operand
+unfoldable pub planOf : List ℕ → List ℕ → List ℤ → Plan
+planOf es bs ts = record { rank = length es; operands = 1; extents = padded 64 0 es; blocks = padded 64 0 bs; strides = padded 512 (pos 0) ts }
 
 -- a text whose counts are those of its lines
 abbrev pub saying : Purpose → List ℕ → List OperandLine → Parsed
@@ -182,6 +190,12 @@ figures =
     (76 ∷ 44 ∷ 80 ∷ 44 ∷ 49 ∷ 44 ∷ 49 ∷ 44 ∷ 45 ∷ 10
     ∷ 69 ∷ 44 ∷ 52 ∷ 54 ∷ 49 ∷ 49 ∷ 54 ∷ 56 ∷ 54 ∷ 48 ∷ 49 ∷ 56 ∷ 52 ∷ 50 ∷ 55 ∷ 51 ∷ 56 ∷ 55 ∷ 57 ∷ 48 ∷ 52 ∷ 10 ∷ 79 ∷ 44 ∷ 50 ∷ 44 ∷ 49 ∷ 10 ∷ [])
     (82 ∷ 44 ∷ 55 ∷ 10 ∷ [])
+    -- 40 to 42: walks 10 and 11 in one call and in three, the last of which finds the walk ended; and the text's example in two, two operands a block
+    ∷ callsAre (planOf (5 ∷ []) (2 ∷ []) (whole (3 ∷ []))) (pos 10 ∷ []) (4 ∷ []) (3 ∷ []) (2 ∷ 2 ∷ 1 ∷ 9 ∷ []) (whole (10 ∷ 16 ∷ 22 ∷ 9 ∷ []))
+    ∷ callsAre (planOf (3 ∷ 3 ∷ []) (2 ∷ 2 ∷ []) (whole (1 ∷ 10 ∷ []))) (pos 0 ∷ []) (4 ∷ 3 ∷ 1 ∷ []) (4 ∷ 2 ∷ 0 ∷ [])
+    (2 ∷ 2 ∷ 1 ∷ 1 ∷ 2 ∷ 1 ∷ 9 ∷ 9 ∷ []) (whole (0 ∷ 10 ∷ 2 ∷ 12 ∷ 20 ∷ 22 ∷ 9 ∷ 9 ∷ []))
+    ∷ callsAre (planned (2 ∷ 3 ∷ []) (8 ∷ 8 ∷ []) (whole (1 ∷ 2 ∷ 3 ∷ 1 ∷ [])) Pointwise .plan) (whole (0 ∷ 0 ∷ [])) (2 ∷ 2 ∷ []) (2 ∷ 1 ∷ [])
+    (2 ∷ 2 ∷ 2 ∷ 9 ∷ []) (whole (0 ∷ 0 ∷ 2 ∷ 1 ∷ 4 ∷ 2 ∷ 9 ∷ 9 ∷ []))
     ∷ []
 
 -- ---- what the definitions give
@@ -208,10 +222,6 @@ abbrev pub numberOf : Answer → ℕ
 numberOf Served = 0
 numberOf (Refused r) = number r
 
--- a plan of one operand
-unfoldable pub planOf : List ℕ → List ℕ → List ℤ → Plan
-planOf es bs ts = record { rank = length es; operands = 1; extents = padded 64 0 es; blocks = padded 64 0 bs; strides = padded 512 (pos 0) ts }
-
 -- the blocks of a walk up to its end; a number above 0 is where a step was refused
 pub record Seen : Type 0 where
   pub offsets : List ℤ
@@ -226,6 +236,19 @@ shown (Rejected r) z n rest = record { offsets = []; lengths = []; fault = numbe
 unfoldable pub seen : ℕ → Plan → Walk → Seen
 seen zero p w = record { offsets = []; lengths = []; fault = 15 }
 seen (suc f) p w = let s : Stepped = stepped p w in shown (s .answer) (getD (s .offsets) 0 (pos 0)) (s .length) (seen f p (s .walk))
+
+-- what calls with room for so many blocks each leave
+pub record Calls : Type 0 where
+  pub counts : List ℕ
+  pub lengths : List ℕ
+  pub offsets : List ℤ
+
+unfoldable pub called : List ℕ → Plan → Walk → Calls
+called [] p w = record { counts = []; lengths = []; offsets = [] }
+called (n ∷ ns) p w =
+    let a : SteppedMany = steppedMany p w (replicate n 9) (replicate (n * p .operands) (pos 9)) in
+    let later : Calls = called ns p (a .several .walk) in
+    record { counts = a .several .count ∷ later .counts; lengths = a .lengths ++ later .lengths; offsets = a .offsets ++ later .offsets }
 
 -- a row is right
 unfoldable pub right : Figure → Bool
@@ -246,6 +269,10 @@ right (walkIs es bs ts z zs ns) =
     let a : Begun = begunAt (planOf es bs ts) (z ∷ []) in
     let s : Seen = seen 100 (planOf es bs ts) (a .walk) in
     eqb (numberOf (a .answer)) 0 && (sameZ (s .offsets) zs && (same (s .lengths) ns && eqb (s .fault) 0))
+right (callsAre p starts rooms counts ns zs) =
+    let a : Begun = begunAt p starts in
+    let c : Calls = called rooms p (a .walk) in
+    eqb (numberOf (a .answer)) 0 && (same (c .counts) counts && (same (c .lengths) ns && sameZ (c .offsets) zs))
 right (markIs es ts b) = let a : Marked = marked es ts in eqb (numberOf (a .answer)) 0 && sameBool (a .repeats) b
 right (textIs p room t out) = same (written p) t && same (printedBy (listed p (replicate room 0))) out
 
@@ -256,5 +283,5 @@ wrong n (f ∷ fs) = unless (right f) n (wrong (suc n) fs)
 
 -- ALL ROWS ARE RIGHT
 pub figures-right : wrong 0 figures ≡ []
-unfolding figures planOf seen right wrong until sum product least every some-of seek greatest layoutRefused smaller rankOf ranks rankTable leadingZeros packingWidth shiftOf termOf sizeAt rankIn addend weightAt termFits sumFits axisFits try capTries widthTries weights loopOrder fusingOrder planAxes originalIndex indexInPlan toldOriginal toldPlan regionOf region costOf costs greatestScore halving lessening halved lessened shrunk leastRank leastByte keepsFirst ones cutting firstCut insertRising rising apart widthOf passes declined reuse counts loadOf load entersOf enters shortens mostOf fitFrom fitted grows cutBlocks planFrom planned beginRefused begunAt stepped repeats markRefused marked digitsOf printedPlan printed textRefused listed
+unfolding figures planOf seen called right wrong until sum product least every some-of seek greatest layoutRefused smaller rankOf ranks rankTable leadingZeros packingWidth shiftOf termOf sizeAt rankIn addend weightAt termFits sumFits axisFits try capTries widthTries weights loopOrder fusingOrder planAxes originalIndex indexInPlan toldOriginal toldPlan regionOf region costOf costs greatestScore halving lessening halved lessened shrunk leastRank leastByte keepsFirst ones cutting firstCut insertRising rising apart widthOf passes declined reuse counts loadOf load entersOf enters shortens mostOf fitFrom fitted grows cutBlocks planFrom planned beginRefused begunAt stepped steppedMany repeats markRefused marked digitsOf printedPlan printed textRefused listed
 figures-right = refl

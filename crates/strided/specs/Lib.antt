@@ -17,6 +17,7 @@ pub mod Plan
 pub mod Walk
 pub mod Begin
 pub mod Step
+pub mod Bulk
 pub mod Mark
 pub mod Digits
 pub mod Text

@@ -89,6 +89,14 @@ pub struct Stepped {
     pub walk: Walk,
 }
 
+// What many steps in one call answer: what one step would, how many blocks were written to the lent slices, and the state to hand to the
+// next call.
+pub struct Several {
+    pub answer: Outcome,
+    pub count: usize,
+    pub walk: Walk,
+}
+
 // The repeat mark of an operand.
 pub struct Marked {
     pub answer: Answer,

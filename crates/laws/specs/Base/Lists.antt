@@ -7,7 +7,7 @@ use mathlib.Core.Option.{none, some}
 use Prim.Native.Nat.{ℕ, zero, suc, _+_, _≤_, _<_}
 use native.Mathlib.Nat.{zero-add, add-zero, suc-add}
 use native.Mathlib.Omega.{arith}
-use lib.ListN.{length, getD}
+use lib.ListN.{length, getD, take, drop}
 use Rattle.strided.specs.Base.{over, nth, run}
 
 -- ---- P holds of each element
@@ -50,6 +50,17 @@ nth-before [] m i x p q = let z : _≡_ {A = ℕ} 0 1 = cc in absurd (omega arit
 nth-before (a ∷ l) zero i x p q = let z : _≡_ {A = ℕ} 0 1 = cc in absurd (omega arith)
 nth-before (a ∷ l) (suc m) zero x p q = omega arith
 nth-before (a ∷ l) (suc m) (suc i) x p q = omega (arith, nth-before l m i x p q)
+
+pub nth-take : {A : Type 0} (l : List A) (n m : ℕ) → m < n → nth (take n l) m ≡ nth l m
+nth-take l zero m h = absurd (omega arith)
+nth-take [] (suc n) m h = refl
+nth-take (x ∷ l) (suc n) zero h = refl
+nth-take (x ∷ l) (suc n) (suc m) h = nth-take l n m (omega arith)
+
+pub nth-drop : {A : Type 0} (l : List A) (n : ℕ) (x : A) → nth l n ≡ some x → drop n l ≡ x ∷ drop (suc n) l
+nth-drop [] n x e = let z : _≡_ {A = ℕ} 0 1 = cc in absurd (omega arith)
+nth-drop (y ∷ l) zero x e = let q : y ≡ x = cc in ap (λ a. a ∷ l) q
+nth-drop (y ∷ l) (suc n) x e = nth-drop l n x e
 
 -- ---- runs
 

@@ -1,0 +1,158 @@
+use Rattle.bulk.proofs.Turns.{Turned, turned-none, turned-roomy, turned-few, turned-place, turned-places, turned-many, turned-long, turned-next, wrote-last, wrote-full}
+use Rattle.states.specs.Reaches.{planOf, walkOf}
+use Rattle.walk.proofs.Stepping.{axes-few, widths-here}
+use borrow.Author.Needs.{needs}
+use borrow.Author.Tests.{not-true, not-false}
+use native.Mathlib.Nat.{le-antisymm}
+use native.Mathlib.Omega.{arith}
+use Prim.Native.Nat.{_+_, _-_, _*_, _≤_, _<_}
+use lib.ListN.{length}
+use Rattle.advance.specs.Carry.{Roomy}
+use mathlib.Core.Bool.{false}
+use mathlib.Core.Path.{refl}
+use Rattle.bulk.proofs.put_blocks.Statement.{statement}
+use Rattle.bulk.proofs.put_blocks.Tie as tie
+use Rattle.bulk.proofs.put_blocks.Reads as reads
+use Rattle.bulk.proofs.put_blocks.Lts as lts
+use Rattle.advance.proofs.advance.Reads as advance-reads
+use Rattle.advance.proofs.inner_axes.Reads as inner-axes-reads
+use Rattle.advance.proofs.length_of.Reads as length-of-reads
+use Rattle.advance.proofs.tile_starts.Reads as tile-starts-reads
+use Rattle.advance.proofs.widths.Reads as widths-reads
+use Rattle.bulk.proofs.blocks_written.Reads as blocks-written-reads
+use Rattle.bulk.proofs.put_offsets.Reads as put-offsets-reads
+
+abbrev Inv-loop : tie.InvT-loop
+Inv-loop room rank operands e b s lengths₀ offsets₀ w inner c₀ o₀ t₀ n₀ lengths offsets c o t n =
+    (n ≤ room) × Turned (planOf rank operands e b s) (walkOf false c₀ o₀) w lengths₀ offsets₀ n t c o lengths offsets
+
+abbrev μ-loop : tie.MeasureT-loop
+μ-loop room rank operands e b s lengths₀ offsets₀ w inner c₀ o₀ t₀ n₀ lengths offsets c o t n = room - n
+
+-- what holds in a turn
+abbrev In : Type 0
+In = tie.In-loop Inv-loop μ-loop
+
+roomy : (c : In) → Roomy (c .before .before .before .before .before .before .before .before .before .args .rank) (c .before .before .before .before .before .before .before .before .before .args .operands) (c .before .before .before .before .before .before .before .before .before .args .e .now) (c .before .before .before .before .before .before .before .before .before .args .s .now) (c .before .loop .c) (c .before .loop .o)
+roomy c = turned-roomy _ _ _ _ _ (c .before .before .before .before .before .before .before .widths .ensures) _ _ _ _ _ _ _ (c .before .loop .inv .1) (c .before .before .before .before .before .before .before .before .before .pre .1) (c .loop-test .taken)
+
+few : (c : In) → c .before .before .before .before .before .before .before .before .before .args .operands ≤ 8
+few c = turned-few _ _ _ _ _ (c .before .before .before .before .before .before .before .widths .ensures) _ _ _ _ _ _ _ (c .before .loop .inv .1) (c .before .before .before .before .before .before .before .before .before .pre .1) (c .loop-test .taken)
+
+place : (c : In) → c .before .loop .n < length (c .before .loop .lengths)
+place c = turned-place _ _ _ _ _ (c .before .before .before .before .before .before .before .widths .ensures) _ _ _ _ _ _ _ (c .before .loop .inv .1) (c .before .before .before .before .before .before .before .before .before .pre .1) (c .loop-test .taken)
+
+places : (c : In) → c .before .loop .n * c .before .before .before .before .before .before .before .before .before .args .operands + c .before .before .before .before .before .before .before .before .before .args .operands ≤ length (c .before .loop .offsets)
+places c = turned-places _ _ _ _ _ (c .before .before .before .before .before .before .before .widths .ensures) _ _ _ _ _ _ _ (c .before .loop .inv .1) (c .before .before .before .before .before .before .before .before .before .pre .1) (c .loop-test .taken)
+
+widths-requires : tie.Need-widths-requires Inv-loop μ-loop
+widths-requires c κs = axes-few _ _ (c .before .pre .0)
+
+inner-axes-requires : tie.Need-inner-axes-requires Inv-loop μ-loop
+inner-axes-requires c κs = axes-few _ _ (c .before .before .before .pre .0)
+
+tile-starts-requires : tie.Need-tile-starts-requires Inv-loop μ-loop
+tile-starts-requires c κs =
+    let s = c .before .before .before .before .before .before in
+    (axes-few _ _ (s .pre .0), widths-here _ _ (s .pre .0) _ (c .before .before .before .before .widths .ensures))
+
+loop-holds : tie.Need-loop-holds Inv-loop μ-loop
+loop-holds c =
+    let s = c .before .before .before .before .before .before .before in
+    (omega arith, turned-none _ _ _ _ _ (c .before .before .before .before .before .widths .ensures) (s .pre .0) refl _ (c .tile-starts .ensures))
+
+length-of-requires : tie.Need-length-of-requires Inv-loop μ-loop
+length-of-requires c κs = roomy (c .before .before) .within 0
+
+mul-lengths : tie.Need-mul-lengths Inv-loop μ-loop
+mul-lengths c = let g = place (c .before .before .before) in search needs
+
+slice-write-lengths : tie.Need-slice-write-lengths Inv-loop μ-loop
+slice-write-lengths c = place (c .before .before .before)
+
+mul-put-offsets : tie.Need-mul-put-offsets Inv-loop μ-loop
+mul-put-offsets c = let g = places (c .before .before .before) in search needs
+
+put-offsets-requires : tie.Need-put-offsets-requires Inv-loop μ-loop
+put-offsets-requires c κs = let i = c .before .before .before .before .before in (few i, i .before .loop .inv .1 .taken .offsets-all, places i)
+
+add-n : tie.Need-add-n Inv-loop μ-loop
+add-n c = search needs
+
+advance-requires : tie.Need-advance-requires Inv-loop μ-loop
+advance-requires c κs =
+    let i = c .before .before .before .before .before .before .before .before .before .before .before in
+    (roomy i, (i .before .loop .inv .1 .tiles, i .before .before .before .before .before .inner-axes .ensures))
+
+blocks-written-requires : tie.Need-blocks-written-requires Inv-loop μ-loop
+blocks-written-requires c κs = tt
+
+same-length : tie.Need-same-length Inv-loop μ-loop
+same-length c =
+    let i = c .before .before .before .before .before .before .before .before .before .before .before .before .before .before in
+    turned-many _ _ _ _ _ (i .before .before .before .before .before .before .before .widths .ensures) _ _ _ _ _ _ _ (i .before .loop .inv .1) (i .before .before .before .before .before .before .before .before .before .pre .1) (i .loop-test .taken) _
+
+same-length-2 : tie.Need-same-length-2 Inv-loop μ-loop
+same-length-2 c =
+    let i = c .before .before .before .before .before .before .before .before .before .before .before .before .before .before in
+    turned-long _ _ _ _ _ (i .before .before .before .before .before .before .before .widths .ensures) _ _ _ _ _ _ _ (i .before .loop .inv .1) (i .before .before .before .before .before .before .before .before .before .pre .1) (i .loop-test .taken) (c .before .before .before .before .before .before .before .before .put-offsets .ensures)
+
+returns : tie.Need-returns Inv-loop μ-loop
+returns c =
+    let i = c .before .before .before .before .before .before .before .before .before .before .before .before .before .before in
+    wrote-last _ _ _ _ _ (i .before .before .before .before .before .before .before .widths .ensures) _ _ _ _ _ _ _ (i .before .loop .inv .1) (i .before .before .before .before .before .before .before .before .before .pre .1) (i .loop-test .taken)
+    (c .before .before .before .before .before .before .before .before .before .before .before .length-of .ensures) (c .before .before .advance .ensures) (not-true _ (c .before .if1 .taken)) (i .before .before .before .before .before .before .before .before .before .pre .0) refl refl (c .before .before .before .before .before .before .before .before .put-offsets .ensures)
+    (c .blocks-written .ensures)
+
+loop-less : tie.Need-loop-less Inv-loop μ-loop
+loop-less c = search needs
+
+loop-again : tie.Need-loop-again Inv-loop μ-loop
+loop-again c =
+    let i = c .before .before .before .before .before .before .before .before .before .before .before .before .before in (
+      omega arith,
+      turned-next _ _ _ _ _ (i .before .before .before .before .before .before .before .widths .ensures) _ _ _ _ _ _ _ (i .before .loop .inv .1) (i .before .before .before .before .before .before .before .before .before .pre .1) (i .loop-test .taken)
+          (c .before .before .before .before .before .before .before .before .before .before .length-of .ensures) (c .before .advance .ensures) (not-false _ (c .if1 .left)) refl (c .before .before .before .before .before .before .before .put-offsets .ensures),
+    )
+
+blocks-written-requires-2 : tie.Need-blocks-written-requires-2 Inv-loop μ-loop
+blocks-written-requires-2 c κs = tt
+
+same-length-3 : tie.Need-same-length-3 Inv-loop μ-loop
+same-length-3 c = c .before .before .loop .inv .1 .as-many
+
+same-length-4 : tie.Need-same-length-4 Inv-loop μ-loop
+same-length-4 c = c .before .before .loop .inv .1 .as-long
+
+returns-2 : tie.Need-returns-2 Inv-loop μ-loop
+returns-2 c =
+    let l = c .before .before .loop in
+    wrote-full _ _ _ _ _ _ _ _ _ _ _ _ (l .inv .1) (le-antisymm (l .inv .0) (c .before .loop-test .left)) (c .before .before .before .before .before .before .before .before .before .before .pre .0) refl (c .blocks-written2 .ensures)
+
+pub put-blocks-spec : {M : Type 1} → statement M
+put-blocks-spec =
+    tie.close
+    (tie.spec
+    Inv-loop
+    μ-loop
+    widths-requires
+    inner-axes-requires
+    tile-starts-requires
+    loop-holds
+    length-of-requires
+    mul-lengths
+    slice-write-lengths
+    mul-put-offsets
+    put-offsets-requires
+    add-n
+    advance-requires
+    blocks-written-requires
+    same-length
+    same-length-2
+    returns
+    loop-less
+    loop-again
+    blocks-written-requires-2
+    same-length-3
+    same-length-4
+    returns-2)

@@ -1,0 +1,182 @@
+// Many steps of a walk in one call, for hosts that pay for every call: row 10 is checked once, and the next blocks are written as numbers.
+ghost use mathlib.Core.Path.{_≡_};
+ghost use mathlib.Core.Bool.{false};
+ghost use Prim.Native.Nat.{_+_, _≤_, _<_};
+ghost use lib.ListN.{length};
+ghost use lib.Seq.{paste};
+ghost use Rattle.strided.specs.Bulk.{roomFor, SteppedMany, steppedMany};
+ghost use Rattle.states.specs.Reaches.{planOf, walkOf};
+ghost use Rattle.walk.specs.Lent.{Taken};
+ghost use Rattle.bulk.specs.Blocks.{notSeveral, handed, HasRoom, Wrote};
+use advance::advance;
+use advance::inner_axes;
+use advance::length_of;
+use advance::tile_starts;
+use advance::widths;
+use layout::operands_wrong;
+use layout::rank_over;
+use states::reaches;
+use strided::Outcome;
+use strided::Plan;
+use strided::Refusal;
+use strided::Several;
+use strided::Walk;
+
+// "A refusal carries its number and nothing else."
+fn rejected(refusal: Refusal) -> Several
+    ensures { λ r. ⌜ r ≡ notSeveral refusal ⌝ }
+{
+    let counters = [0u64; 64];
+    let offsets = [0i64; 8];
+    Several {
+        answer: Outcome::Rejected(refusal),
+        count: 0,
+        walk: Walk {
+            ended: false,
+            counters: counters,
+            offsets: offsets,
+        },
+    }
+}
+
+// Blocks were written, and the walk stands there.
+fn blocks_written(count: usize, ended: bool, counters: [u64; 64], offsets: [i64; 8]) -> Several
+    ensures { λ r. ⌜ r ≡ handed count (walkOf ended counters offsets) ⌝ }
+{
+    Several {
+        answer: Outcome::Block,
+        count: count,
+        walk: Walk {
+            ended: ended,
+            counters: counters,
+            offsets: offsets,
+        },
+    }
+}
+
+// How many blocks two slices of so many places have room for.
+fn room_for(operands: usize, lengths: usize, offsets: usize) -> usize
+    requires { ⌜ 0 < operands ⌝ }
+    ensures { λ r. ⌜ r ≡ roomFor operands lengths offsets ⌝ }
+{
+    let blocks = offsets / operands;
+    if lengths < blocks {
+        return lengths;
+    }
+    blocks
+}
+
+// A block's offsets, operand by operand, from place `at` on.
+fn put_offsets(operands: usize, at: usize, o: &[i64; 8], offsets: &mut [i64])
+    requires { ⌜ (operands ≤ 8) × (length (now o) ≡ 8) × (at + operands ≤ length (now offsets)) ⌝ }
+    ensures { λ _. ⌜ now (offsets .exit) ≡ paste (now (offsets .entry)) at (now (o .entry)) operands ⌝ }
+{
+    let mut k = 0;
+    while k < operands {
+        let x = o[k];
+        offsets[at + k] = x;
+        k += 1;
+    }
+}
+
+// Writes the next blocks, at most `room`, from a state that runs. It checks nothing.
+fn put_blocks<'a>(
+    room: usize,
+    rank: usize,
+    operands: usize,
+    e: &'a [u64; 64],
+    b: &'a [u64; 64],
+    s: &'a [i64; 512],
+    counters: [u64; 64],
+    start: [i64; 8],
+    lengths: &mut [u64],
+    offsets: &mut [i64],
+) -> Several
+    requires { ⌜ Taken (planOf rank operands (now e) (now b) (now s)) (walkOf false counters start) ⌝ }
+    requires { ⌜ HasRoom room operands (now lengths) (now offsets) ⌝ }
+    ensures { λ r. ⌜ Wrote room (planOf rank operands (now (e .entry)) (now (b .entry)) (now (s .entry))) (walkOf false counters start) (now (lengths .entry)) (now (offsets .entry)) r (now (lengths .exit)) (now (offsets .exit)) ⌝ }
+{
+    let w = widths(rank, e, b);
+    let inner = inner_axes(rank, &w);
+    let mut c = counters;
+    let mut o = start;
+    let mut t = tile_starts(rank, &w, &c);
+    let mut n: usize = 0;
+    while n < room {
+        let length = length_of(rank, e, &w, &c);
+        lengths[n] = length;
+        put_offsets(operands, n * operands, &o, &mut *offsets);
+        n += 1;
+        let more = advance(rank, inner, operands, e, &w, s, &mut t, &mut c, &mut o);
+        if !more {
+            return blocks_written(n, true, c, o);
+        }
+    }
+    blocks_written(n, false, c, o)
+}
+
+// Many steps, on the arrays of a plan: rows 1 and 2, then row 10, whatever their values; then as many of the next blocks as both slices
+// have room for. Block j's length goes to place j of `lengths`, its offset of operand k to place j * operands + k of `offsets`.
+pub fn step_many_on<'a>(
+    rank: usize,
+    operands: usize,
+    e: &'a [u64; 64],
+    b: &'a [u64; 64],
+    s: &'a [i64; 512],
+    walk: Walk,
+    lengths: &mut [u64],
+    offsets: &mut [i64],
+) -> Several
+    ensures { λ r. ⌜ _≡_ {A = SteppedMany} (record { several = r; lengths = now (lengths .exit); offsets = now (offsets .exit) }) (steppedMany (planOf rank operands (now (e .entry)) (now (b .entry)) (now (s .entry))) walk (now (lengths .entry)) (now (offsets .entry))) ⌝ }
+{
+    if rank_over(rank) {
+        return rejected(Refusal::Rank);
+    }
+    if operands_wrong(operands) {
+        return rejected(Refusal::Operands);
+    }
+    let ended = walk.ended;
+    let c = walk.counters;
+    let o = walk.offsets;
+    if reaches(ended, rank, operands, e, b, s, &c, &o) {
+        if ended {
+            return Several {
+                answer: Outcome::Ended,
+                count: 0,
+                walk: walk,
+            };
+        }
+        let room = room_for(operands, lengths.len(), offsets.len());
+        return put_blocks(
+            room,
+            rank,
+            operands,
+            e,
+            b,
+            s,
+            c,
+            o,
+            &mut *lengths,
+            &mut *offsets,
+        );
+    }
+    rejected(Refusal::State)
+}
+
+// MANY STEPS of a walk, whatever the values of plan and state.
+pub fn step_many(plan: Plan, walk: Walk, lengths: &mut [u64], offsets: &mut [i64]) -> Several
+    ensures { λ r. ⌜ _≡_ {A = SteppedMany} (record { several = r; lengths = now (lengths .exit); offsets = now (offsets .exit) }) (steppedMany plan walk (now (lengths .entry)) (now (offsets .entry))) ⌝ }
+{
+    let rank = plan.rank;
+    let operands = plan.operands;
+    step_many_on(
+        rank,
+        operands,
+        &plan.extents,
+        &plan.blocks,
+        &plan.strides,
+        walk,
+        &mut *lengths,
+        &mut *offsets,
+    )
+}
