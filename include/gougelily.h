@@ -180,7 +180,20 @@ int64_t gougelily_step_many(size_t rank, size_t operands, const uint64_t extents
 int64_t gougelily_repeat_mark(const uint64_t *extents, size_t extent_count, const int64_t *strides,
                               size_t stride_count);
 
-/* walklist(text, room), on texts that hold a layout, is declared here when its crate is there. */
+/*
+ * The plan and the blocks of a layout given as text: the lines that the program
+ * walklist prints.
+ *
+ * Takes the text, at most 16,384 bytes: a line L,purpose,rank,operands,chosen
+ * (P or F; `-` for no chosen operand), a line E,extents and for each operand a
+ * line O,size,strides. And room for the output.
+ * Answers the output's length: K,plan rank; a line A,axis,extent,block,strides
+ * for each axis; a line B,number,length,offsets for each block, from starts 0;
+ * Z,blocks,cells. It stands at the front of the room, and bytes behind it are as
+ * they were.
+ * Refuses 12, 1, 2, 4, 5, 6, 7, 13, 14, in this order.
+ */
+int64_t gougelily_walklist(const uint8_t *text, size_t text_len, uint8_t *room, size_t room_len);
 
 /* -------------------------------------------------- the same, with one struct */
 

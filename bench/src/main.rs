@@ -71,13 +71,13 @@ fn planning_table(asked: &Asked, out: &mut impl Write) -> Result<(), String> {
 
 fn walking_table(asked: &Asked, out: &mut impl Write) -> Result<(), String> {
     let mut text = String::from(
-        "## Walking, per block\n\n| plan | blocks | Rust ns | step ns | ratio |\n|---|---|---|---|---|\n",
+        "## Walking, per block\n\n| plan | blocks | Rust ns | many steps ns | ratio | step ns | ratio |\n|---|---|---|---|---|---|---|\n",
     );
     for row in walking::times(asked.runs.div_ceil(20)) {
-        let ratio = row.step / row.original;
+        let (many, step) = (row.many / row.original, row.step / row.original);
         text += &format!(
-            "| {} | {} | {:.1} | {:.1} | {ratio:.1} |\n",
-            row.name, row.blocks, row.original, row.step
+            "| {} | {} | {:.1} | {:.1} | {many:.2} | {:.0} | {step:.1} |\n",
+            row.name, row.blocks, row.original, row.many, row.step
         );
     }
     text.push('\n');

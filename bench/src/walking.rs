@@ -97,7 +97,29 @@ impl Case {
         }
         sum
     }
+
+    fn many(&self) -> usize {
+        let mut state = self.begun();
+        let (mut lengths, mut offsets) = ([0; MANY], [0; 8 * MANY]);
+        let operands = self.strides.len();
+        let mut sum = 0usize;
+        while state.ended[0] == 0 {
+            let plan = black_box(&self.plan);
+            let count = gougelily::step_many(plan, &mut state, &mut lengths, &mut offsets);
+            let records = offsets.chunks(operands).zip(&lengths);
+            for (row, &length) in records.take(count as usize) {
+                sum = sum.wrapping_mul(31).wrapping_add(length as usize);
+                for &offset in row {
+                    sum = sum.wrapping_add(offset as usize);
+                }
+            }
+        }
+        sum
+    }
 }
+
+/// Blocks of one call of many steps.
+const MANY: usize = 1024;
 
 /// A layout's times per block.
 pub struct Row {
@@ -105,6 +127,7 @@ pub struct Row {
     pub blocks: usize,
     pub original: f64,
     pub step: f64,
+    pub many: f64,
 }
 
 pub fn times(runs: u64) -> Vec<Row> {
@@ -123,12 +146,16 @@ pub fn times(runs: u64) -> Vec<Row> {
             "{}: other blocks",
             named.name
         );
+        assert_eq!(case.original(), case.many(), "{}: other blocks", named.name);
         let (original, step) = timing::best(runs, &mut || case.original(), &mut || case.steps());
+        let (again, many) = timing::best(runs, &mut || case.original(), &mut || case.many());
+        let original = original.min(again);
         found.push(Row {
             name: named.name,
             blocks,
             original: original / blocks as f64,
             step: step / blocks as f64,
+            many: many / blocks as f64,
         });
     }
     found

@@ -2,7 +2,7 @@
  * The library as a C program meets it, to be run under the sanitizers. Every
  * argument that is a pointer is lent from memory of its own, with guard bytes on
  * one side and a page that cannot be touched on the other. Checked are:
- * - known layouts, and one call for each refusal;
+ * - known layouts and texts, and one call for each refusal;
  * - layouts at random: a walk meets every cell once, at the offsets that its
  *   original index tells, and the index maps are inverse; many steps in one call
  *   hand out the blocks of single steps;
@@ -197,6 +197,19 @@ static int64_t mark_of(const struct layout *l, size_t operand)
     return answer;
 }
 
+static int64_t text_of(const char *text, char *room, size_t size)
+{
+    const size_t length = strlen(text);
+    const uint8_t *t = lend(text, length);
+    uint8_t *r = lend(room, size);
+    int64_t answer = gougelily_walklist(t, length, r, size);
+    if (size > 0)
+        memcpy(room, r, size);
+    CHECK(answer <= (int64_t)size && answer >= -14 && answer != -3 && (answer >= -7 || answer <= -12));
+    settle(1, answer >= 0);
+    return answer;
+}
+
 /* ------------------------------------------------------------ known answers */
 
 static struct layout two(uint64_t e0, uint64_t e1, int64_t a0, int64_t a1, int64_t b0, int64_t b1, uint64_t purpose)
@@ -284,6 +297,27 @@ static void known_refusals(void)
     CHECK(step_of(&p, &w, &k) == -GOUGELILY_OPERANDS);
     p.rank = 65;
     CHECK(step_of(&p, &w, &k) == -GOUGELILY_RANK && begin_of(&p, &last, 1, &w) == -GOUGELILY_RANK);
+}
+
+static void known_texts(void)
+{
+    static const char text[] = "L,P,2,2,-\nE,2,3\nO,8,1,2\nO,8,3,1\n";
+    static const char output[] = "K,2\nA,0,2,2,1,3\nA,1,3,3,2,1\nB,0,2,0,0\nB,1,2,2,1\nB,2,2,4,2\nZ,3,6\n";
+    const size_t length = sizeof output - 1;
+    char room[100];
+    memset(room, '#', sizeof room);
+    CHECK(text_of(text, room, sizeof room) == (int64_t)length && memcmp(room, output, length) == 0);
+    for (size_t i = length; i < sizeof room; i++)
+        CHECK(room[i] == '#');
+    CHECK(text_of(text, room, length) == (int64_t)length && text_of(text, room, length - 1) == -GOUGELILY_ROOM);
+    CHECK(gougelily_walklist((const uint8_t *)text, sizeof text - 1, NULL, 0) == -GOUGELILY_ROOM);
+    CHECK(gougelily_walklist(NULL, 0, NULL, 0) == -GOUGELILY_FORM);
+    CHECK(text_of("L,P,0,0,-\nE\n", room, sizeof room) == -GOUGELILY_OPERANDS);
+    CHECK(text_of("L,F,0,1,1\nE\nO,8\n", room, sizeof room) == -GOUGELILY_CHOSEN);
+    CHECK(text_of("L,P,1,1,-\nE,1048577\nO,8,1\n", room, sizeof room) == -GOUGELILY_TEXT_TOTAL);
+    CHECK(text_of("L,P,1,1,-\nE,1048576\nO,8,1\n", room, sizeof room) > 0);
+    CHECK(text_of("L,P,1,1,-\nE,1048577\nO,8,9223372036854775807\n", room, sizeof room) == -GOUGELILY_REACH);
+    CHECK(text_of("L,P,1,1,-\nE,02\nO,8,1\n", room, sizeof room) == -GOUGELILY_FORM);
 }
 
 /* ------------------------------------------------------------ numbers at random */
@@ -569,6 +603,7 @@ int main(int argc, char **argv)
     known_plans();
     known_walk();
     known_refusals();
+    known_texts();
     for (round_number = 1; round_number <= rounds; round_number++) {
         struct layout l = tame(), g = garbage();
         gougelily_plan_t p = {0};

@@ -1,14 +1,18 @@
 // When tiles are declined. A layout whose cut leaves slabs of whole lines, no two of which share a line, gains nothing from tiles: the flat
-// walk visits each line once as it is.
-use region::less_one;
+// walk visits each line once as it is. Sums are in elements: an operand's size is a common factor of all its spans, so only the tests for whole
+// lines look at it, and everything stays within 1 + reach, which row 6 bounds.
+use layout::sizes::less_one;
+use layout::sizes::magnitude;
 ghost use mathlib.Core.Path.{_≡_};
 ghost use Prim.Native.Nat.{ℕ, _+_, _-_, _*_, _^_, _<_, _≤_};
-ghost use lib.ListN.{length, getD};
-ghost use Rattle.strided.specs.Base.{sum};
-ghost use Rattle.strided.specs.Region.{byteAt};
-ghost use Rattle.strided.specs.Decline.{firstCut, widthOf, passes, declined};
-ghost use Rattle.laws.specs.Cut.Rising.{before, wayOf, adds, keepsApart};
-ghost use Rattle.decline.specs.Spans.{Within};
+ghost use lib.ListN.{length};
+ghost use Rattle.strided.specs.Base.{sum, every};
+ghost use Rattle.strided.specs.Region.{byteTable};
+ghost use Rattle.strided.specs.Decline.{firstCut, passes, declined};
+ghost use Rattle.laws.specs.Cut.Rising.{before, wayOf, adds};
+ghost use Rattle.laws.specs.Cut.Elements.{wholeLines, slab, separates};
+ghost use Rattle.laws.specs.Cut.Tables.{strideSize};
+ghost use Rattle.decline.specs.Reach.{WithinReach};
 
 // The first axis whose block is below its extent; the rank where there is none.
 fn first_cut<'a>(extents: &'a [u64; 64], blocks: &'a [u64; 64], rank: usize) -> usize
@@ -25,47 +29,57 @@ fn first_cut<'a>(extents: &'a [u64; 64], blocks: &'a [u64; 64], rank: usize) -> 
     i
 }
 
-// What operand k spans along axis i.
-fn way_of<'a>(bytes: &'a [u64; 512], extents: &'a [u64; 64], k: usize, i: usize) -> u64
-    requires { ⌜ ((k < 8) × (i < 64)) × (wayOf (byteAt (now bytes) k) (now extents) i < 2 ^ 63) ⌝ }
-    ensures { λ r. ⌜ r ≡ wayOf (byteAt (now (bytes .entry)) k) (now (extents .entry)) i ⌝ }
+// Whether n elements are whole lines. Two remainders tell it, where n * size may pass 64 bits.
+fn whole_lines(n: u64, size: u64) -> bool
+    ensures { λ r. ⌜ r ≡ wholeLines size n ⌝ }
 {
-    less_one(extents[i]) * bytes[k * 64 + i]
+    (n % 64) * (size % 64) % 64 == 0
 }
 
-// The bytes that a slab of operand k spans: the axes before the cut.
-fn slab_width<'a>(
-    bytes: &'a [u64; 512],
-    sizes: &'a [u64],
-    extents: &'a [u64; 64],
-    cut: usize,
-    k: usize,
-) -> u64
-    requires { ⌜ ((k < 8) × (k < length (now sizes))) × ((cut ≤ 64) × (widthOf (now bytes) (now sizes) (now extents) cut k < 2 ^ 63)) ⌝ }
-    ensures { λ r. ⌜ r ≡ widthOf (now (bytes .entry)) (now (sizes .entry)) (now (extents .entry)) cut k ⌝ }
+// The size of operand k's stride on axis i.
+fn stride_size(strides: &[i64; 512], k: usize, i: usize) -> u64
+    requires { ⌜ (k < 8) × (i < 64) ⌝ }
+    ensures { λ r. ⌜ r ≡ strideSize (now (strides .entry)) k i ⌝ }
 {
-    let mut w = sizes[k];
+    let t = strides[k * 64 + i];
+    magnitude(t)
+}
+
+// What operand k spans along axis i.
+fn way_of<'a>(strides: &'a [i64; 512], extents: &'a [u64; 64], k: usize, i: usize) -> u64
+    requires { ⌜ ((k < 8) × (i < 64)) × (wayOf (strideSize (now strides) k) (now extents) i ≤ 2 ^ 63) ⌝ }
+    ensures { λ r. ⌜ r ≡ wayOf (strideSize (now (strides .entry)) k) (now (extents .entry)) i ⌝ }
+{
+    less_one(extents[i]) * stride_size(strides, k, i)
+}
+
+// The elements that a slab of operand k spans: the axes before the cut.
+fn slab_width<'a>(strides: &'a [i64; 512], extents: &'a [u64; 64], cut: usize, k: usize) -> u64
+    requires { ⌜ ((k < 8) × (cut ≤ 64)) × (slab (strideSize (now strides) k) (now extents) cut ≤ 2 ^ 63) ⌝ }
+    ensures { λ r. ⌜ r ≡ slab (strideSize (now (strides .entry)) k) (now (extents .entry)) cut ⌝ }
+{
+    let mut w: u64 = 1;
     let mut i = 0;
     while i < cut {
-        w += way_of(bytes, extents, k, i);
+        w += way_of(strides, extents, k, i);
         i += 1;
     }
     w
 }
 
-// Whether axis j comes before axis i by rising byte stride of operand k, the lower axis first where they are equal.
-fn comes_before(bytes: &[u64; 512], k: usize, i: usize, j: usize) -> bool
+// Whether axis j comes before axis i by rising stride size of operand k, the lower axis first where they are equal.
+fn comes_before(strides: &[i64; 512], k: usize, i: usize, j: usize) -> bool
     requires { ⌜ (k < 8) × ((i < 64) × (j < 64)) ⌝ }
-    ensures { λ r. ⌜ r ≡ before (byteAt (now (bytes .entry)) k) i j ⌝ }
+    ensures { λ r. ⌜ r ≡ before (strideSize (now (strides .entry)) k) i j ⌝ }
 {
-    let a = bytes[k * 64 + j];
-    let b = bytes[k * 64 + i];
+    let a = stride_size(strides, k, j);
+    let b = stride_size(strides, k, i);
     if a == b { j < i } else { a < b }
 }
 
 // The span at axis i's turn, which grows from the width w.
 fn span_so_far<'a>(
-    bytes: &'a [u64; 512],
+    strides: &'a [i64; 512],
     extents: &'a [u64; 64],
     cut: usize,
     rank: usize,
@@ -73,23 +87,24 @@ fn span_so_far<'a>(
     w: u64,
     i: usize,
 ) -> u64
-    requires { ⌜ ((k < 8) × (i < 64)) × ((cut ≤ rank) × (rank ≤ 64)) × (w + sum (wayOf (byteAt (now bytes) k) (now extents)) cut (rank - cut) < 2 ^ 63) ⌝ }
-    ensures { λ r. ⌜ r ≡ w + sum (adds (byteAt (now (bytes .entry)) k) (now (extents .entry)) i) cut (rank - cut) ⌝ }
+    requires { ⌜ ((k < 8) × (i < 64)) × ((cut ≤ rank) × (rank ≤ 64)) × (w + sum (wayOf (strideSize (now strides) k) (now extents)) cut (rank - cut) ≤ 2 ^ 63) ⌝ }
+    ensures { λ r. ⌜ r ≡ w + sum (adds (strideSize (now (strides .entry)) k) (now (extents .entry)) i) cut (rank - cut) ⌝ }
 {
     let mut s = w;
     let mut j = cut;
     while j < rank {
-        if comes_before(bytes, k, i, j) {
-            s += way_of(bytes, extents, k, j);
+        if comes_before(strides, k, i, j) {
+            s += way_of(strides, extents, k, j);
         }
         j += 1;
     }
     s
 }
 
-// Whether axis i is a multiple of a line and no less than the span so far.
+// Whether axis i steps by whole lines and by no less than the span so far.
 fn keeps_apart<'a>(
-    bytes: &'a [u64; 512],
+    size: u64,
+    strides: &'a [i64; 512],
     extents: &'a [u64; 64],
     cut: usize,
     rank: usize,
@@ -97,39 +112,33 @@ fn keeps_apart<'a>(
     w: u64,
     i: usize,
 ) -> bool
-    requires { ⌜ ((k < 8) × (i < 64)) × ((cut ≤ rank) × (rank ≤ 64)) × (w + sum (wayOf (byteAt (now bytes) k) (now extents)) cut (rank - cut) < 2 ^ 63) ⌝ }
-    ensures { λ r. ⌜ r ≡ keepsApart (byteAt (now (bytes .entry)) k) (now (extents .entry)) cut (rank - cut) w i ⌝ }
+    requires { ⌜ ((k < 8) × (i < 64)) × ((cut ≤ rank) × (rank ≤ 64)) × (w + sum (wayOf (strideSize (now strides) k) (now extents)) cut (rank - cut) ≤ 2 ^ 63) ⌝ }
+    ensures { λ r. ⌜ r ≡ separates size (strideSize (now (strides .entry)) k) (now (extents .entry)) cut (rank - cut) w i ⌝ }
 {
-    let s = bytes[k * 64 + i];
-    if s % 64 == 0 {
-        span_so_far(bytes, extents, cut, rank, k, w, i) <= s
+    let s = stride_size(strides, k, i);
+    if whole_lines(s, size) {
+        span_so_far(strides, extents, cut, rank, k, w, i) <= s
     } else {
         false
     }
 }
 
-// Whether no two slabs of operand k share a line.
-fn slabs_share_no_line<'a>(
-    bytes: &'a [u64; 512],
-    sizes: &'a [u64],
+// Whether every axis from the cut on keeps the slabs of w elements apart.
+fn tail_separated<'a>(
+    size: u64,
+    strides: &'a [i64; 512],
     extents: &'a [u64; 64],
     cut: usize,
     rank: usize,
     k: usize,
+    w: u64,
 ) -> bool
-    requires { ⌜ ((k < 8) × (k < length (now sizes))) × ((cut ≤ rank) × (rank ≤ 64)) × (widthOf (now bytes) (now sizes) (now extents) rank k < 2 ^ 63) ⌝ }
-    ensures { λ r. ⌜ r ≡ passes (now (bytes .entry)) (now (sizes .entry)) (now (extents .entry)) cut rank k ⌝ }
+    requires { ⌜ (k < 8) × ((cut ≤ rank) × (rank ≤ 64)) × (w + sum (wayOf (strideSize (now strides) k) (now extents)) cut (rank - cut) ≤ 2 ^ 63) ⌝ }
+    ensures { λ r. ⌜ r ≡ every (separates size (strideSize (now (strides .entry)) k) (now (extents .entry)) cut (rank - cut) w) cut (rank - cut) ⌝ }
 {
-    if sizes[k] == 0 {
-        return true;
-    }
-    let w = slab_width(bytes, sizes, extents, cut, k);
-    if w % 64 != 0 {
-        return false;
-    }
     let mut i = cut;
     while i < rank {
-        if keeps_apart(bytes, extents, cut, rank, k, w, i) {
+        if keeps_apart(size, strides, extents, cut, rank, k, w, i) {
             i += 1;
         } else {
             return false;
@@ -138,16 +147,40 @@ fn slabs_share_no_line<'a>(
     true
 }
 
+// Whether no two slabs of operand k share a line.
+fn slabs_share_no_line<'a>(
+    sizes: &'a [u64],
+    strides: &'a [i64; 512],
+    extents: &'a [u64; 64],
+    cut: usize,
+    rank: usize,
+    k: usize,
+) -> bool
+    requires { ⌜ ((k < length (now sizes)) × (cut ≤ rank)) × WithinReach (now sizes) (now strides) (now extents) rank ⌝ }
+    ensures { λ r. ⌜ r ≡ passes (byteTable (now (sizes .entry)) (now (strides .entry))) (now (sizes .entry)) (now (extents .entry)) cut rank k ⌝ }
+{
+    let size = sizes[k];
+    if size == 0 {
+        return true;
+    }
+    let w = slab_width(strides, extents, cut, k);
+    if whole_lines(w, size) {
+        tail_separated(size, strides, extents, cut, rank, k, w)
+    } else {
+        false
+    }
+}
+
 // Whether every operand's slabs at the first cut, which is not axis 0, share no line.
 pub fn declines_tiles<'a>(
-    bytes: &'a [u64; 512],
     sizes: &'a [u64],
+    strides: &'a [i64; 512],
     extents: &'a [u64; 64],
     blocks: &'a [u64; 64],
     rank: usize,
 ) -> bool
-    requires { ⌜ ((rank ≤ 64) × (length (now sizes) ≤ 8)) × Within (now bytes) (now sizes) (now extents) rank ⌝ }
-    ensures { λ r. ⌜ r ≡ declined (now (bytes .entry)) (now (sizes .entry)) (length (now (sizes .entry))) (now (extents .entry)) rank (now (blocks .entry)) ⌝ }
+    requires { ⌜ WithinReach (now sizes) (now strides) (now extents) rank ⌝ }
+    ensures { λ r. ⌜ r ≡ declined (byteTable (now (sizes .entry)) (now (strides .entry))) (now (sizes .entry)) (length (now (sizes .entry))) (now (extents .entry)) rank (now (blocks .entry)) ⌝ }
 {
     let cut = first_cut(extents, blocks, rank);
     if cut == 0 {
@@ -159,7 +192,7 @@ pub fn declines_tiles<'a>(
     let operands = sizes.len();
     let mut k = 0;
     while k < operands {
-        if slabs_share_no_line(bytes, sizes, extents, cut, rank, k) {
+        if slabs_share_no_line(sizes, strides, extents, cut, rank, k) {
             k += 1;
         } else {
             return false;

@@ -2,17 +2,13 @@
 use mathlib.Core.Path.{_≡_, sym, ap, _∙_}
 use mathlib.Core.Bool.{Bool}
 use mathlib.Core.List.{List}
-use Prim.Native.Nat.{ℕ, zero, suc, _≤_, _<_}
+use Prim.Native.Nat.{ℕ, _≤_}
 use native.Mathlib.Omega.{arith}
-use lib.IntN.{ℤ, pos, negℤ}
+use lib.IntN.{ℤ, pos}
 use lib.ListN.{length}
-use lib.Signed.{mag}
-use mir.Val.{SFits}
-use mir.Syntax.{w64}
-use Rattle.strided.specs.Refusals.{number}
+use Rattle.strided.specs.Refusals.{negated}
 use Rattle.strided.specs.Bulk.{lengthsOf, offsetsOf, roomFor, laidOn, SteppedMany, steppedMany}
 use Rattle.strided.specs.declared.Refusal.{Refusal}
-use Rattle.strided.specs.declared.Refusal.the-variants.{Rank, Operands, StrideCount, Chosen, Total, Reach, Bytes, StartCount, Offsets, State, Index, Form, TextTotal, Room}
 use Rattle.strided.specs.declared.Answer.{Answer}
 use Rattle.strided.specs.declared.Answer.the-variants.{Served, Refused}
 use Rattle.strided.specs.declared.Outcome.the-variants.{Block, Ended, Rejected}
@@ -21,30 +17,7 @@ use Rattle.strided.specs.declared.Walk.{Walk}
 use Rattle.strided.specs.declared.Stepped.{Stepped}
 use Rattle.strided.specs.declared.Marked.{Marked}
 use Rattle.laws.specs.Walk.Bulk.{blocks-few, blocks-none}
-use Rattle.gougelily.specs.Handed.{negated, flag, Handed, markCode, WalkMemory, walkMemory, StepMemory, stepMemory, Steps, ManyMemory, manyMemory, StepsMany}
-
-pub number-small : (r : Refusal) → number r < 15
-number-small Rank = omega arith
-number-small Operands = omega arith
-number-small StrideCount = omega arith
-number-small Chosen = omega arith
-number-small Total = omega arith
-number-small Reach = omega arith
-number-small Bytes = omega arith
-number-small StartCount = omega arith
-number-small Offsets = omega arith
-number-small State = omega arith
-number-small Index = omega arith
-number-small Form = omega arith
-number-small TextTotal = omega arith
-number-small Room = omega arith
-
-mag-less : (n : ℕ) → mag (negℤ (pos n)) ≤ n
-mag-less zero = omega arith
-mag-less (suc n) = omega arith
-
-pub negated-fits : (r : Refusal) → SFits w64 (negated r)
-negated-fits r = record { sfits = omega (arith, mag-less (number r), number-small r) }
+use Rattle.gougelily.specs.Handed.{flag, Handed, markCode, WalkMemory, walkMemory, StepMemory, stepMemory, Steps, ManyMemory, manyMemory, StepsMany}
 
 -- a call's result x at an argument u, which is v
 pub called : {U X : Type 0} (f : U → X) {u v : U} {x : X} → x ≡ f u → u ≡ v → x ≡ f v

@@ -6,13 +6,12 @@ use mathlib.Core.Bool.{Bool, cond, not}
 use mathlib.Core.List.{List, [], _∷_}
 use Prim.Native.Nat.{ℕ}
 use lib.Dec.{eqb}
-use lib.IntN.{ℤ, pos, negℤ}
+use lib.IntN.{ℤ, pos}
 use lib.ListN.{getD}
-use Rattle.strided.specs.Refusals.{number}
+use Rattle.strided.specs.Refusals.{negated}
 use Rattle.strided.specs.Bulk.{SteppedMany}
 use Rattle.strided.specs.declared.Purpose.{Purpose}
 use Rattle.strided.specs.declared.Purpose.the-variants.{Pointwise, PointwiseInto, Fold}
-use Rattle.strided.specs.declared.Refusal.{Refusal}
 use Rattle.strided.specs.declared.Answer.{Answer}
 use Rattle.strided.specs.declared.Answer.the-variants.{Served, Refused}
 use Rattle.strided.specs.declared.Outcome.{Outcome}
@@ -37,10 +36,6 @@ flag b = cond b 1 0
 
 abbrev pub isSet : ℕ → Bool
 isSet n = not (eqb n 0)
-
--- "the refusal's number negated"
-abbrev pub negated : Refusal → ℤ
-negated r = negℤ (pos (number r))
 
 -- ---- an answer and its lent memory
 

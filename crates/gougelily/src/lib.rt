@@ -2,15 +2,14 @@
 // declares them. None has a precondition on its numbers. Each answers 0 or more, or the refusal's number negated, and then every lent byte
 // is as it was.
 ghost use mathlib.Core.Path.{_≡_};
-ghost use Rattle.gougelily.specs.Handed.{purposeOf, negated as negatedOf, flag as flagOf};
-use layout::number;
+ghost use Rattle.gougelily.specs.Handed.{purposeOf, flag as flagOf};
 use strided::Purpose;
-use strided::Refusal;
 
 pub mod indices;
 pub mod many;
 pub mod marks;
 pub mod plans;
+pub mod texts;
 pub mod walks;
 
 // A purpose is two numbers: 0 for pointwise with no chosen operand, 1 for pointwise into the chosen one, any other for a fold by it.
@@ -24,13 +23,6 @@ fn purpose_of(kind: u64, chosen: u64) -> Purpose
         return Purpose::PointwiseInto(chosen);
     }
     Purpose::Fold(chosen)
-}
-
-// The refusal's number negated.
-fn negated(refusal: Refusal) -> i64
-    ensures { λ r. ⌜ r ≡ negatedOf refusal ⌝ }
-{
-    -(number(refusal) as i64)
 }
 
 // 1 for yes, 0 for no.

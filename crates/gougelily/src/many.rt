@@ -3,8 +3,8 @@ ghost use Rattle.strided.specs.Bulk.{steppedMany};
 ghost use Rattle.states.specs.Reaches.{planOf};
 ghost use Rattle.gougelily.specs.Handed.{walkIn, StepsMany};
 use crate::flag;
-use crate::negated;
 use bulk::step_many_on;
+use layout::negated;
 use strided::Outcome;
 use strided::Walk;
 

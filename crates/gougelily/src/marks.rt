@@ -2,7 +2,7 @@
 ghost use mathlib.Core.Path.{_≡_};
 ghost use Rattle.strided.specs.Mark.{marked};
 ghost use Rattle.gougelily.specs.Handed.{markCode};
-use crate::negated;
+use layout::negated;
 use mark::repeat_mark;
 use strided::Answer;
 

@@ -1,9 +1,9 @@
 // Planning from C.
 ghost use Rattle.strided.specs.Plan.{planned};
 ghost use Rattle.gougelily.specs.Handed.{purposeOf, Plans};
-use crate::negated;
 use crate::purpose_of;
 use kernel::plan;
+use layout::negated;
 use strided::Answer;
 
 // The plan of a layout for a purpose.

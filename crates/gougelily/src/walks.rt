@@ -5,7 +5,7 @@ ghost use Rattle.strided.specs.Step.{stepped};
 ghost use Rattle.states.specs.Reaches.{planOf};
 ghost use Rattle.gougelily.specs.Handed.{Begins, walkIn, Steps};
 use crate::flag;
-use crate::negated;
+use layout::negated;
 use strided::Answer;
 use strided::Outcome;
 use strided::Plan;

@@ -238,7 +238,7 @@ fn fold_plan<'a>(
 }
 
 // Either, by the purpose.
-fn plan_into<'a>(
+pub fn plan_into<'a>(
     extents: &'a [u64],
     sizes: &'a [u64],
     strides: &'a [i64],

@@ -8,5 +8,6 @@ pub mod Jump
 pub mod Cases
 pub mod Saturate
 pub mod Rising
+pub mod Elements
 pub mod Same
 pub mod Tables

@@ -9,7 +9,8 @@
 --   cutting: the counts never run out, blocks only shrink              Cut/Steps          halved-ends, lessened-small, shrunk-le
 --   many single steps may be one jump                                  Cut/Jump           jump
 --   regions and loads grow with the blocks                             Cut/Grow           region-mono, load-mono
---   declining axis by axis, in any order                               Cut/Rising         apart-each
+--   scores fit 64 bits by row 6 alone                                  Cut/Tables         scores-fit
+--   declining axis by axis, in any order, and in elements              Cut/Rising, Cut/Elements  apart-each, passes-elements
 --   cover: each index is a cell of the blocks exactly once             Walk/Cover         met-once, met-within
 --   the Z figures: number of blocks, sum of their lengths              Walk/Totals        blocks-number, blocks-total, cells-total, plan-cells
 --   chain: the successor hands out the blocks in order                 Walk/Chain         chain
@@ -23,6 +24,8 @@
 --   a text has one listing at most; some text is in the form           Text/Planning, Text/Example  one-listing, example-in-form
 --   the text's figures: the cells are the layout's total               Text/Totals        walk-cells, planned-cells, walk-blocks
 --   a planned plan's walk begins at the starts 0                       Text/Begins        planned-begins
+--   a plan's arrays have 64, 64 and 512 places                         Plan/Places        plan-extents, plan-blocks, plan-strides
+--   the text entry's answer: below 0, or within the lent bytes         Text/Answers       negated-below, lists-within
 pub mod Base
 pub mod Refusals
 pub mod Order

@@ -2,7 +2,7 @@
 // stride, the total, the reach, the lead, and the number of a refusal.
 ghost use mathlib.Core.Path.{_≡_};
 ghost use Rattle.strided.specs.Layout.{lead};
-ghost use Rattle.strided.specs.Refusals.{number, answered, layoutRefused};
+ghost use Rattle.strided.specs.Refusals.{number, negated, answered, layoutRefused};
 use strided::Answer;
 use strided::Purpose;
 use strided::Refusal;
@@ -44,6 +44,13 @@ pub fn number(refusal: Refusal) -> u64
         Refusal::TextTotal => 13,
         Refusal::Room => 14,
     }
+}
+
+// That number negated: the answer of an entry that answers with one signed number.
+pub fn negated(refusal: Refusal) -> i64
+    ensures { λ r. ⌜ r ≡ negated refusal ⌝ }
+{
+    -(number(refusal) as i64)
 }
 
 // The chosen operand, or operand 0 if none.

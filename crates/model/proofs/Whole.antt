@@ -18,7 +18,7 @@ use Rattle.strided.specs.Plan.{grows, fittedFor, cutBlocks}
 use Rattle.strided.specs.declared.Purpose.{Purpose}
 use Rattle.strided.specs.declared.Purpose.the-variants.{Pointwise, PointwiseInto, Fold}
 use Rattle.laws.specs.Cut.Ranges.{cond-true, cond-false}
-use Rattle.laws.specs.Cut.Same.{SameBytes, SameCosts, SameRanks, region-same, cutting-same, declined-same, fitted-same}
+use Rattle.laws.specs.Cut.Same.{SameBytes, SameCosts, SameRanks, region-same, cutting-same, fitted-same}
 use Rattle.laws.specs.Cut.Tables.{strideSize}
 use Rattle.model.specs.Exits.{inOrder, exits}
 
@@ -105,15 +105,13 @@ module _ (sizes es : List ℕ) (strides : List ℤ) (rank : ℕ) (u : Purpose)
         ∙ cutting-same (length sizes) rank bytes (byteTable sizes strides) same cs (costs strides (length sizes) rank) even
         ranks (planRanks sizes strides rank) ranked rank 0 (omega arith) es
 
-    declined-is : declined true-table sizes (length sizes) es rank ruled ≡ declined bytes sizes (length sizes) es rank b
+    declined-is : declined true-table sizes (length sizes) es rank ruled ≡ declined (byteTable sizes strides) sizes (length sizes) es rank b
     unfolding true-table
-    declined-is =
-        sym (declined-same (length sizes) rank bytes (byteTable sizes strides) same sizes es ruled)
-        ∙ ap (declined bytes sizes (length sizes) es rank) (sym ruled-is)
+    declined-is = ap (declined (byteTable sizes strides) sizes (length sizes) es rank) (sym ruled-is)
 
-    pub whole-declined : declined bytes sizes (length sizes) es rank b ≡ true → es ≡ cutBlocks sizes es strides rank u
+    pub whole-declined : declined (byteTable sizes strides) sizes (length sizes) es rank b ≡ true → es ≡ cutBlocks sizes es strides rank u
     whole-declined d = sym (whole ∙ rw (sym exits-is ∙ on, declined-is ∙ d))
 
-    pub whole-fitted : declined bytes sizes (length sizes) es rank b ≡ false → {c : List ℕ} → c ≡ fittedFor u bytes sizes strides rank b → c ≡ cutBlocks sizes es strides rank u
+    pub whole-fitted : declined (byteTable sizes strides) sizes (length sizes) es rank b ≡ false → {c : List ℕ} → c ≡ fittedFor u bytes sizes strides rank b → c ≡ cutBlocks sizes es strides rank u
     whole-fitted d f =
         f ∙ sym (whole ∙ rw (sym exits-is ∙ on, declined-is ∙ d) (sym (ap (fittedFor u bytes sizes strides rank) ruled-is ∙ fit-is u ruled)))

@@ -173,7 +173,7 @@ pub fn cut_blocks<'a>(
 {
     *blocks = *extents;
     compute_blocks_at(blocks, bytes, costs, &ranks, sizes.len(), 0, rank);
-    if declines_tiles(bytes, sizes, extents, blocks, rank) {
+    if declines_tiles(sizes, strides, extents, blocks, rank) {
         *blocks = *extents;
         return;
     }

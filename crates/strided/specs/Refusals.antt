@@ -6,7 +6,7 @@ use mathlib.Core.List.{List, [], _∷_}
 use mathlib.Core.Option.{Option, none, some}
 use Prim.Native.Nat.{ℕ, zero, suc, _+_, _-_, _*_}
 use lib.Dec.{ltb, leb, eqb}
-use lib.IntN.{ℤ, pos, _+ℤ_, _-ℤ_}
+use lib.IntN.{ℤ, pos, negℤ, _+ℤ_, _-ℤ_}
 use lib.ListN.{length, getD}
 use Rattle.strided.specs.declared.Purpose.{Purpose}
 use Rattle.strided.specs.declared.Refusal.{Refusal}
@@ -32,6 +32,10 @@ number Index = 11
 number Form = 12
 number TextTotal = 13
 number Room = 14
+
+-- "the refusal's number negated": what an entry with a signed number as its answer answers
+abbrev pub negated : Refusal → ℤ
+negated r = negℤ (pos (number r))
 
 -- a row: whether it applies, and its refusal
 pub record Row : Type 0 where

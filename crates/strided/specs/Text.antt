@@ -9,11 +9,11 @@ use mathlib.Core.Option.{Option, none, some}
 use Prim.Native.Nat.{ℕ, suc, _+_, _^_, _≤_, _<_}
 use lib.Dec.{ltb}
 use lib.ListN.{length, getD, take, drop, replicate}
-use lib.IntN.{ℤ, pos, negsuc, _-ℤ_}
+use lib.IntN.{ℤ, pos, negsuc}
 use lib.Signed.{mag}
 use Rattle.strided.specs.Base.{over, run, first}
 use Rattle.strided.specs.Layout.{strideRow, chosen, leadOf, total}
-use Rattle.strided.specs.Refusals.{Row, refusedBy, number, row1, row2, row4, row5, row6, row7}
+use Rattle.strided.specs.Refusals.{Row, refusedBy, negated, row1, row2, row4, row5, row6, row7}
 use Rattle.strided.specs.Plan.{planned}
 use Rattle.strided.specs.Walk.{Block, block, blocksOf}
 use Rattle.strided.specs.Begin.{planExtents, planBlocks, planRows}
@@ -207,7 +207,7 @@ pub record Listing : Type 0 where
 
 -- "A refusal carries its number and nothing else": the lent bytes are as they were
 abbrev pub refusing : Refusal → List ℕ → Listing
-refusing r room = record { answer = pos 0 -ℤ pos (number r); room = room }
+refusing r room = record { answer = negated r; room = room }
 
 -- "bytes behind the output's length stay"
 abbrev pub filling : List ℕ → List ℕ → Listing

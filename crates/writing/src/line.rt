@@ -1,4 +1,4 @@
-// Lines of fields, measured and written: a letter, numbers, signed numbers, LF. The lines K, A, B and Z are such lines.
+// Lines of fields, measured and written: a letter, numbers, signed numbers, LF. The lines K, A, B, Z and R are such lines.
 ghost use mathlib.Core.Path.{_≡_};
 ghost use Prim.Native.Nat.{_+_, _*_, _≤_};
 ghost use lib.ListN.{length};
@@ -184,4 +184,14 @@ pub fn put_end(out: &mut [u8], at: usize, blocks: u64, cells: u64) -> usize
     let numbers = [blocks, cells];
     let none = [0i64; 0];
     put_line(out, at, 90, &numbers, &none)
+}
+
+// "R,number"
+pub fn put_refusal(out: &mut [u8], at: usize, number: u64) -> usize
+    requires { ⌜ at + length (lineOf 82 (field number)) ≤ length (now out) ⌝ }
+    ensures { λ r. ⌜ Wrote (now (out .entry)) at (lineOf 82 (field number)) (now (out .exit)) r ⌝ }
+{
+    let numbers = [number];
+    let none = [0i64; 0];
+    put_line(out, at, 82, &numbers, &none)
 }

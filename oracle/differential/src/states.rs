@@ -2,10 +2,10 @@
 //! any of them. Written from document 01, with arithmetic that does not wrap; the
 //! walks compare `next` with the original.
 
-use crate::compare::{same, Counts};
+use crate::compare::{same, same_array, Counts};
 use crate::values::{distance, held_block, plan_of, state_of};
-use crate::values::{padded, padded_strides, same_block, same_state};
-use port::gougelily::{self, Block, State};
+use crate::values::{padded, padded_strides, same_block, same_state, HELD};
+use port::gougelily::{self, Block, Plan, State};
 use tools::generate::Random;
 use tools::layout::Walk;
 
@@ -126,6 +126,7 @@ fn compare_step(walk: &Walk, behind: u64, given: &State) -> Result<i64, String> 
     let (mut state, mut block) = (given.clone(), held_block());
     let code = gougelily::step(&plan, &mut state, &mut block);
     same("code of step", code, verdict(walk, given)).map_err(told)?;
+    compare_step_of_many(&plan, given, (code, &state, &block)).map_err(told)?;
     if code < 1 {
         same_state(&state, given).map_err(told)?;
         same_block(&block, &held_block()).map_err(told)?;
@@ -155,6 +156,22 @@ fn compare_step(walk: &Walk, behind: u64, given: &State) -> Result<i64, String> 
     let after = next(&walk.extents, &widths, &here);
     same_state(&state, &state_of(&begun, after.as_deref())).map_err(told)?;
     Ok(code)
+}
+
+/// step_many with room for one block does what a step does.
+fn compare_step_of_many(
+    plan: &Plan,
+    given: &State,
+    (code, stepped, block): (i64, &State, &Block),
+) -> Result<(), String> {
+    let operands = plan.operands[0].clamp(1, 8);
+    let (mut state, mut lengths, mut offsets) = (given.clone(), [HELD; 1], [HELD as i64; 8]);
+    let offsets = &mut offsets[..operands];
+    let many = gougelily::step_many(plan, &mut state, &mut lengths, offsets);
+    same("code of step_many", many, code)?;
+    same_state(&state, stepped)?;
+    same("length of step_many", lengths, block.length)?;
+    same_array("offsets of step_many", offsets, &block.offsets[..operands])
 }
 
 /// Counters where a block starts, of a walk with no extent of 0.

@@ -1,4 +1,4 @@
-//! Walks: begin and step against for_each_inner_block_preordered. The plans that
+//! Walks: begin, step and step_many against for_each_inner_block_preordered. The plans that
 //! are walked are planned ones, with their own blocks and with others, and plans
 //! made by hand: layouts taken as they are, and drawn ones of every low rank.
 
@@ -10,12 +10,15 @@ use crate::values::{held_block, held_state, plan_of, starts_of, state_of};
 use crate::values::{padded, padded_strides, same_block, same_state, HELD};
 use port::gougelily::{self, Block, Plan, State};
 use strided_basic as original;
+use tools::generate::Random;
 use tools::layout::Walk;
 
 /// Most blocks of a walk.
 const BLOCKS: usize = 300;
 /// Walks are made of one layout of so many.
 const LAYOUTS: u64 = 4;
+/// Calls of many steps over the blocks of a walk.
+const CALLS: usize = 8;
 /// Most turns of the original over tiles without a block.
 const TURNS: u64 = 1000;
 
@@ -175,9 +178,61 @@ fn compare_blocks(
     Ok(counters)
 }
 
+/// Many steps in one call over the original's blocks, with any room. `ended` says
+/// whether the blocks are all.
+fn compare_many(
+    walk: &Walk,
+    plan: &Plan,
+    blocks: &[Found],
+    ended: bool,
+    random: &mut Random,
+) -> Result<(), String> {
+    let (widths, operands) = (widths(walk), walk.strides.len());
+    let mut counters = Some(vec![0; walk.extents.len()]);
+    let mut state = state_of(walk, counters.as_deref());
+    let mut left = blocks;
+    for _ in 0..CALLS {
+        // At times a slice has places for more than the other, or for part of a block.
+        let room = random.pick(&[0, 1, 2, 7, 64, 300]);
+        let mut lengths = vec![HELD; room + random.pick(&[0, 0, 1, 5])];
+        let mut offsets = vec![HELD as i64; room * operands + random.within(0, 2 * operands)];
+        let room = lengths.len().min(offsets.len() / operands);
+        if room > left.len() && !ended {
+            continue;
+        }
+        let (now, rest) = left.split_at(room.min(left.len()));
+        let at = |error| {
+            let done = blocks.len() - left.len();
+            format!("blocks {done} up, room for {room}, {error}")
+        };
+        let mut expected = (lengths.clone(), offsets.clone());
+        for (block, found) in now.iter().enumerate() {
+            expected.0[block] = found.length as u64;
+            for (operand, &offset) in found.offsets.iter().enumerate() {
+                expected.1[block * operands + operand] = offset as i64;
+            }
+            let here = counters.ok_or_else(|| at("the model has ended".to_string()))?;
+            counters = next(&walk.extents, &widths, &here);
+        }
+        let code = gougelily::step_many(plan, &mut state, &mut lengths, &mut offsets);
+        same("code of step_many", code, now.len() as i64).map_err(at)?;
+        same_array("lengths", &lengths, &expected.0).map_err(at)?;
+        same_array("offsets", &offsets, &expected.1).map_err(at)?;
+        same_state(&state, &state_of(walk, counters.as_deref())).map_err(at)?;
+        left = rest;
+    }
+    Ok(())
+}
+
 /// A step after the last block answers "ended" again and changes nothing.
 fn compare_end(walk: &Walk, plan: &Plan, state: &mut State) -> Result<(), String> {
     let at = |error| format!("at the end, {error}");
+    let (mut lengths, mut offsets) = ([HELD; 3], [HELD as i64; 24]);
+    let code = gougelily::step_many(plan, state, &mut lengths, &mut offsets);
+    same("code of step_many", code, 0).map_err(at)?;
+    same_state(state, &state_of(walk, None)).map_err(at)?;
+    same_array("lengths", &lengths, &[HELD; 3]).map_err(at)?;
+    same_array("offsets", &offsets, &[HELD as i64; 24]).map_err(at)?;
     for _ in 0..2 {
         let mut block = held_block();
         let code = gougelily::step(plan, state, &mut block);
@@ -189,7 +244,12 @@ fn compare_end(walk: &Walk, plan: &Plan, state: &mut State) -> Result<(), String
 }
 
 /// Compares a walk from its beginning to its end, or to a number of blocks.
-fn compare_walk(walk: &Walk, behind: u64, met: &mut Counts) -> Result<(), String> {
+fn compare_walk(
+    walk: &Walk,
+    behind: u64,
+    random: &mut Random,
+    met: &mut Counts,
+) -> Result<(), String> {
     for name in walk_limits(walk) {
         met.add(name);
     }
@@ -218,6 +278,7 @@ fn compare_walk(walk: &Walk, behind: u64, met: &mut Counts) -> Result<(), String
     let counters = compare_blocks(walk, &plan, &mut state, &blocks)?;
     met.add_many("blocks", blocks.len() as u64);
     same("the model has ended", counters.is_none(), ended)?;
+    compare_many(walk, &plan, &blocks, ended, random)?;
     if !ended {
         met.add("walks left after 300 blocks");
         return Ok(());
@@ -287,7 +348,7 @@ pub fn compare(task: &Task, report: &mut String) -> Result<(), String> {
             for walk in walks(layout, random, &mut met) {
                 let told = |error| format!("{error}\n{walk}from");
                 let behind = random.pick(&[0, HELD]);
-                compare_walk(&walk, behind, &mut met).map_err(told)?;
+                compare_walk(&walk, behind, random, &mut met).map_err(told)?;
                 compare_wrong_starts(&walk, behind, &mut met).map_err(told)?;
                 compare_states(&walk, behind, random, &mut met).map_err(told)?;
                 if walk.refusal().is_none() {

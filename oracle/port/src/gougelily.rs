@@ -118,6 +118,20 @@ mod library {
             block_offsets: *mut [i64; 8],
             block_strides: *mut [i64; 8],
         ) -> i64;
+        pub fn gougelily_step_many(
+            rank: usize,
+            operands: usize,
+            extents: *const [u64; 64],
+            blocks: *const [u64; 64],
+            strides: *const [i64; 512],
+            ended: *mut [u64; 1],
+            counters: *mut [u64; 64],
+            offsets: *mut [i64; 8],
+            block_lengths: *mut u64,
+            length_count: usize,
+            block_offsets: *mut i64,
+            offset_count: usize,
+        ) -> i64;
         pub fn gougelily_repeat_mark(
             extents: *const u64,
             rank: usize,
@@ -128,8 +142,8 @@ mod library {
 }
 
 /// Declares a safe face: the call if the library is linked, else a panic. Each
-/// function reads the slices and arrays it is handed and writes at most the
-/// arrays it is lent, all of them whole.
+/// function reads the slices and arrays it is handed and writes at most those it
+/// is lent.
 macro_rules! faces {
     ($($(#[$doc:meta])* pub fn $face:ident($($name:ident: $type:ty),* $(,)?) -> i64 { $($call:tt)* })*) => {
         $($(#[$doc])*
@@ -234,6 +248,30 @@ faces! {
             &mut block.length,
             &mut block.offsets,
             &mut block.strides,
+        )
+    }
+
+    /// Many steps of a lent walk: how many blocks it hands out, at most as many as
+    /// both slices have room for. A block has `operands` offsets.
+    pub fn step_many(
+        plan: &Plan,
+        state: &mut State,
+        lengths: &mut [u64],
+        offsets: &mut [i64],
+    ) -> i64 {
+        library::gougelily_step_many(
+            plan.rank[0],
+            plan.operands[0],
+            &plan.extents,
+            &plan.blocks,
+            &plan.strides,
+            &mut state.ended,
+            &mut state.counters,
+            &mut state.offsets,
+            lengths.as_mut_ptr(),
+            lengths.len(),
+            offsets.as_mut_ptr(),
+            offsets.len(),
         )
     }
 

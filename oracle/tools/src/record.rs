@@ -164,34 +164,6 @@ pub fn answers() -> Result<Recording, String> {
     })
 }
 
-/// What the program `replay` of the port is run on, and what it has to print.
-pub struct Replay {
-    pub stdin: String,
-    pub stdout: String,
-}
-
-/// Answer lines that the port answers too.
-const REPLAYED: [&str; 5] = ["R", "ranks", "weights", "order", "."];
-
-/// The layouts of recorded answers, and the lines of the answers that the port
-/// answers too.
-pub fn replay(answers: &str) -> Replay {
-    let (mut stdin, mut stdout) = (String::new(), String::new());
-    for line in answers.lines() {
-        let word = line.split(',').next().expect("a first field");
-        let part = if line.starts_with('#') || ["L", "E", "O"].contains(&word) {
-            &mut stdin
-        } else if REPLAYED.contains(&word) {
-            &mut stdout
-        } else {
-            continue;
-        };
-        part.push_str(line);
-        part.push('\n');
-    }
-    Replay { stdin, stdout }
-}
-
 type WalkBranch = (&'static str, fn(&Walk, &str) -> bool);
 
 /// What the walk requests have to show, each told from request and answer.

@@ -3,17 +3,11 @@
 
 mod common;
 
-use tools::record::{answers, replay, walks, Recording};
+use tools::record::{answers, walks, Recording};
 
 fn stored(name: &str) -> String {
     let folder = concat!(env!("CARGO_MANIFEST_DIR"), "/../recorded/");
     std::fs::read_to_string(format!("{folder}{name}")).expect("the recorded file is there")
-}
-
-/// A file of the port's program replay.
-fn replayed(name: &str) -> String {
-    let folder = concat!(env!("CARGO_MANIFEST_DIR"), "/../../crates/replay/");
-    std::fs::read_to_string(format!("{folder}{name}")).expect("the file of replay is there")
 }
 
 fn check(recording: Recording, name: &str) {
@@ -76,29 +70,25 @@ fn the_program_record_writes_the_recorded_files() {
     let folder = std::path::Path::new(env!("CARGO_TARGET_TMPDIR")).join("record");
     std::fs::create_dir_all(&folder).expect("the test folder takes folders");
     let path = folder.to_str().expect("a path in UTF-8");
-    let options = ["--out", path, "--replay", path];
-    let outcome = common::run(env!("CARGO_BIN_EXE_record"), &options, b"");
+    let outcome = common::run(env!("CARGO_BIN_EXE_record"), &["--out", path], b"");
     assert_eq!(outcome.status, Some(0), "{}", outcome.message);
     let again = |name| std::fs::read_to_string(folder.join(name)).expect("a written file");
     for name in ["answers.txt", "walks.txt"] {
         assert!(again(name) == stored(name), "{name} differs");
     }
-    for name in ["stdin", "stdout"] {
-        assert!(again(name) == replayed(name), "{name} of replay differs");
-    }
 }
 
 #[test]
-fn replay_has_the_recorded_layouts_and_answers() {
-    let replay = replay(&stored("answers.txt"));
-    assert!(replay.stdin == replayed("stdin"), "stdin differs");
-    assert!(replay.stdout == replayed("stdout"), "stdout differs");
-    let outcome = common::oracle(&["--parts"], &replay.stdin);
+fn the_parts_are_recorded_too() {
+    let (requests, answers) = split(&stored("answers.txt"));
+    let outcome = common::oracle(&["--parts"], &requests);
     assert_eq!(outcome.status, Some(0), "{}", outcome.message);
-    assert!(
-        outcome.output == replay.stdout,
-        "the program answers otherwise"
-    );
+    let word = |line: &&str| {
+        let word = line.split(',').next().expect("a first field");
+        ["R", "ranks", "weights", "order", "."].contains(&word)
+    };
+    let parts: Vec<&str> = answers.lines().filter(word).collect();
+    assert_eq!(outcome.output.lines().collect::<Vec<_>>(), parts);
 }
 
 #[test]

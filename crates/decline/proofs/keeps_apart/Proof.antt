@@ -1,43 +1,47 @@
-use mathlib.Core.Path.{_≡_, sym, ap, _∙_}
-use Prim.Native.Nat.{ℕ, _-_, _%_}
-use lib.Dec.{leb, eqb}
-use borrow.Author.Tests.{eq-eqb, ne-eqb}
-use Rattle.strided.specs.Region.{line, byteAt}
-use Rattle.laws.specs.Cut.Rising.{apart-line, apart-off}
+use mathlib.Core.Path.{_≡_, sym, ap, ap₂, _∙_}
+use mathlib.Core.Bool.{Bool}
+use Prim.Native.Nat.{ℕ, _-_}
+use lib.Dec.{leb}
+use Rattle.laws.specs.Cut.Elements.{wholeLines, separates-line, separates-off}
+use Rattle.laws.specs.Cut.Tables.{strideSize}
 use borrow.Author.Needs.{needs}
 use Rattle.decline.proofs.keeps_apart.Statement.{statement}
 use Rattle.decline.proofs.keeps_apart.Tie as tie
 use Rattle.decline.proofs.keeps_apart.Reads as reads
 use Rattle.decline.proofs.keeps_apart.Lts as lts
 use Rattle.decline.proofs.span_so_far.Reads as span-so-far-reads
+use Rattle.decline.proofs.stride_size.Reads as stride-size-reads
+use Rattle.decline.proofs.whole_lines.Reads as whole-lines-reads
 
-mul-s : tie.Need-mul-s
-mul-s c = search needs
+stride-size-requires : tie.Need-stride-size-requires
+stride-size-requires c κs = search needs
 
-add-s : tie.Need-add-s
-add-s c = search needs
-
-mul-s-2 : tie.Need-mul-s-2
-mul-s-2 c = search needs
-
-element-copy-out-s : tie.Need-element-copy-out-s
-element-copy-out-s c = search needs
+whole-lines-requires : tie.Need-whole-lines-requires
+whole-lines-requires c κs = search needs
 
 span-so-far-requires : tie.Need-span-so-far-requires
 span-so-far-requires c κs = search needs
 
+-- the test of the line is that of the stride that was read
+lined : (c : tie.After-whole-lines) (t : Bool) → c .whole-lines .result ≡ t
+    → let a = c .before .before .args in
+    wholeLines (a .size) (strideSize (a .strides .now) (a .k) (a .i)) ≡ t
+lined c t e = sym (ap (wholeLines (c .before .before .args .size)) (c .before .stride-size .ensures)) ∙ sym (c .whole-lines .ensures) ∙ e
+
 returns : tie.Need-returns
-returns c = let a = c .before .before .before .args in
-    let f : ℕ → ℕ = byteAt (a .bytes .now) (a .k) in
-    ap (λ (x : ℕ). leb x (f (a .i))) (c .span-so-far .ensures)
-    ∙ sym (apart-line f (a .extents .now) (a .cut) (a .rank - a .cut) (a .w) (a .i) (eq-eqb (f (a .i) % line) 0 (c .before .if1 .taken)))
+returns c = let s = c .before .before in
+    let a = s .before .before .args in
+    let f : ℕ → ℕ = strideSize (a .strides .now) (a .k) in
+    ap₂ leb (c .span-so-far .ensures) (s .before .stride-size .ensures)
+    ∙ sym (separates-line (a .size) f (a .extents .now) (a .cut) (a .rank - a .cut) (a .w) (a .i) (lined s _ (c .before .if1 .taken)))
 
 returns-2 : tie.Need-returns-2
-returns-2 c = let a = c .before .before .args in
-    let f : ℕ → ℕ = byteAt (a .bytes .now) (a .k) in
-    sym (apart-off f (a .extents .now) (a .cut) (a .rank - a .cut) (a .w) (a .i) (ne-eqb (f (a .i) % line) 0 (c .if1 .left)))
+returns-2 c = let s = c .before in
+    let a = s .before .before .args in
+    let f : ℕ → ℕ = strideSize (a .strides .now) (a .k) in
+    sym (separates-off (a .size) f (a .extents .now) (a .cut) (a .rank - a .cut) (a .w) (a .i) (lined s _ (c .if1 .left)))
 
 pub keeps-apart-spec : {M : Type 1} → statement M
 keeps-apart-spec =
     tie.close
-    (tie.spec mul-s add-s mul-s-2 element-copy-out-s span-so-far-requires returns returns-2)
+    (tie.spec stride-size-requires whole-lines-requires span-so-far-requires returns returns-2)

@@ -1,15 +1,13 @@
--- A loop adds what each axis spans; row 7 leaves room.
+-- A loop adds what each axis spans; row 6 leaves room.
 use native.Mathlib.Omega.{arith}
-use mathlib.Core.Path.{_≡_, sym, ap, ap₂, _∙_}
-use mathlib.Core.List.{List}
-use Prim.Native.Nat.{ℕ, _+_, _-_, _≤_, _<_, _^_}
-use lib.ListN.{getD}
+use mathlib.Core.Path.{_≡_, ap, _∙_}
+use Prim.Native.Nat.{ℕ, _+_, _-_, _≤_, _^_}
 use Rattle.strided.specs.Base.{sum}
-use Rattle.strided.specs.Region.{byteAt}
-use Rattle.strided.specs.Decline.{widthOf}
 use Rattle.laws.specs.Base.Ranges.{sum-next}
 use Rattle.laws.specs.Cut.Ranges.{sum-none}
 use Rattle.laws.specs.Cut.Rising.{wayOf}
+use Rattle.laws.specs.Cut.Elements.{slab}
+use Rattle.laws.specs.Cut.Tables.{strideSize}
 use Rattle.decline.proofs.Rooms.{width-room}
 use Rattle.decline.proofs.slab_width.Statement.{statement}
 use Rattle.decline.proofs.slab_width.Tie as tie
@@ -18,30 +16,24 @@ use Rattle.decline.proofs.slab_width.Lts as lts
 use Rattle.decline.proofs.way_of.Reads as way-of-reads
 
 abbrev Inv-loop : tie.InvT-loop
-Inv-loop bytes sizes extents cut k w₀ i₀ w i = (i ≤ cut) × (w ≡ getD sizes k 0 + sum (wayOf (byteAt bytes k) extents) 0 i)
+Inv-loop strides extents cut k w₀ i₀ w i = (i ≤ cut) × (w ≡ 1 + sum (wayOf (strideSize strides k) extents) 0 i)
 
 abbrev μ-loop : tie.MeasureT-loop
-μ-loop bytes sizes extents cut k w₀ i₀ w i = cut - i
-
-mul-w : tie.Need-mul-w Inv-loop μ-loop
-mul-w c = omega arith
-
-shared-slice-read-w : tie.Need-shared-slice-read-w Inv-loop μ-loop
-shared-slice-read-w c = omega arith
+μ-loop strides extents cut k w₀ i₀ w i = cut - i
 
 loop-holds : tie.Need-loop-holds Inv-loop μ-loop
-loop-holds c = let a = c .before .before .args in
-    let e = sum-none (wayOf (byteAt (a .bytes .now) (a .k)) (a .extents .now)) 0 in
+loop-holds c = let a = c .args in
+    let e = sum-none (wayOf (strideSize (a .strides .now) (a .k)) (a .extents .now)) 0 in
     (omega arith, omega arith)
 
 room : (c : tie.In-loop Inv-loop μ-loop)
-    → let a = c .before .before .before .before .args in
+    → let a = c .before .before .args in
     let l = c .before .loop in
-    l .w + wayOf (byteAt (a .bytes .now) (a .k)) (a .extents .now) (l .i) < 2 ^ 63
+    l .w + wayOf (strideSize (a .strides .now) (a .k)) (a .extents .now) (l .i) ≤ 2 ^ 63
 room c =
-    let a = c .before .before .before .before .args in
+    let a = c .before .before .args in
     let l = c .before .loop in
-    width-room (a .bytes .now) (a .sizes .now) (a .extents .now) (a .k) (a .cut) (l .i) (l .w) (omega arith) (c .before .before .before .before .pre .1 .1) (l .inv .1)
+    width-room (strideSize (a .strides .now) (a .k)) (a .extents .now) (a .cut) (l .i) (l .w) (omega arith) (c .before .before .pre .1) (l .inv .1)
 
 way-of-requires : tie.Need-way-of-requires Inv-loop μ-loop
 way-of-requires c κs = (omega arith, omega (arith, room c))
@@ -56,30 +48,19 @@ loop-less : tie.Need-loop-less Inv-loop μ-loop
 loop-less c = omega arith
 
 loop-again : tie.Need-loop-again Inv-loop μ-loop
-loop-again c = let a = c .before .before .before .before .before .args in
+loop-again c = let a = c .before .before .before .args in
     let l = c .before .before .loop in
-    let way : ℕ → ℕ = wayOf (byteAt (a .bytes .now) (a .k)) (a .extents .now) in
+    let way : ℕ → ℕ = wayOf (strideSize (a .strides .now) (a .k)) (a .extents .now) in
     (omega arith, omega (arith, sum-next way (l .i), c .way-of .ensures, l .inv .1))
 
 returns : tie.Need-returns Inv-loop μ-loop
-unfolding widthOf
-returns c = let a = c .before .before .before .before .args in
+unfolding slab
+returns c = let a = c .before .before .args in
     let l = c .before .loop in
     let e : l .i ≡ a .cut = omega arith in
-    l .inv .1 ∙ ap (λ (i : ℕ). getD (a .sizes .now) (a .k) 0 + sum (wayOf (byteAt (a .bytes .now) (a .k)) (a .extents .now)) 0 i) e
+    l .inv .1 ∙ ap (λ (i : ℕ). 1 + sum (wayOf (strideSize (a .strides .now) (a .k)) (a .extents .now)) 0 i) e
 
 pub slab-width-spec : {M : Type 1} → statement M
 slab-width-spec =
     tie.close
-    (tie.spec
-    Inv-loop
-    μ-loop
-    mul-w
-    shared-slice-read-w
-    loop-holds
-    way-of-requires
-    add-w
-    add-i
-    loop-less
-    loop-again
-    returns)
+    (tie.spec Inv-loop μ-loop loop-holds way-of-requires add-w add-i loop-less loop-again returns)

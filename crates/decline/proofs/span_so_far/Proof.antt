@@ -1,11 +1,11 @@
--- A loop adds what the axes that come before span; row 7 leaves room.
+-- A loop adds what the axes that come before span; row 6 leaves room.
 use native.Mathlib.Omega.{arith}
 use mathlib.Core.Path.{_≡_, sym, ap, _∙_}
 use mathlib.Core.Logic.{⊎-elim}
 use mathlib.Core.List.{List}
 use Prim.Native.Nat.{ℕ, _+_, _-_, _≤_, _<_, _^_}
 use Rattle.strided.specs.Base.{sum}
-use Rattle.strided.specs.Region.{byteAt}
+use Rattle.laws.specs.Cut.Tables.{strideSize}
 use Rattle.laws.specs.Cut.Ranges.{sum-start, sum-step, cond-true, cond-false}
 use Rattle.laws.specs.Cut.Rising.{before, wayOf, adds}
 use Rattle.decline.proofs.Rooms.{tail-room}
@@ -17,14 +17,14 @@ use Rattle.decline.proofs.comes_before.Reads as comes-before-reads
 use Rattle.decline.proofs.way_of.Reads as way-of-reads
 
 abbrev Inv-loop : tie.InvT-loop
-Inv-loop bytes extents cut rank k w i s₀ j₀ s j = (cut ≤ j) × (j ≤ rank) × (s ≡ w + sum (adds (byteAt bytes k) extents i) cut (j - cut))
+Inv-loop strides extents cut rank k w i s₀ j₀ s j = (cut ≤ j) × (j ≤ rank) × (s ≡ w + sum (adds (strideSize strides k) extents i) cut (j - cut))
 
 abbrev μ-loop : tie.MeasureT-loop
-μ-loop bytes extents cut rank k w i s₀ j₀ s j = rank - j
+μ-loop strides extents cut rank k w i s₀ j₀ s j = rank - j
 
 loop-holds : tie.Need-loop-holds Inv-loop μ-loop
 loop-holds c = let a = c .args in
-    let e = sum-start (adds (byteAt (a .bytes .now) (a .k)) (a .extents .now) (a .i)) (a .cut) in
+    let e = sum-start (adds (strideSize (a .strides .now) (a .k)) (a .extents .now) (a .i)) (a .cut) in
     (omega arith, omega arith, omega arith)
 
 comes-before-requires : tie.Need-comes-before-requires Inv-loop μ-loop
@@ -33,11 +33,11 @@ comes-before-requires c κs = omega arith
 room : (c : tie.Then1 Inv-loop μ-loop)
     → let a = c .before .before .before .before .args in
     let l = c .before .before .before .loop in
-    l .s + wayOf (byteAt (a .bytes .now) (a .k)) (a .extents .now) (l .j) < 2 ^ 63
+    l .s + wayOf (strideSize (a .strides .now) (a .k)) (a .extents .now) (l .j) ≤ 2 ^ 63
 room c =
     let a = c .before .before .before .before .args in
     let l = c .before .before .before .loop in
-    tail-room (byteAt (a .bytes .now) (a .k)) (a .extents .now) (a .cut) (a .rank) (a .i) (l .j) (a .w) (l .s) (l .inv .0) (omega arith) (c .before .before .before .before .pre .2) (l .inv .2)
+    tail-room (strideSize (a .strides .now) (a .k)) (a .extents .now) (a .cut) (a .rank) (a .i) (l .j) (a .w) (l .s) (l .inv .0) (omega arith) (c .before .before .before .before .pre .2) (l .inv .2)
 
 way-of-requires : tie.Need-way-of-requires Inv-loop μ-loop
 way-of-requires c κs = (omega arith, omega (arith, room c))
@@ -54,7 +54,7 @@ loop-less c = omega arith
 loop-again : tie.Need-loop-again Inv-loop μ-loop
 loop-again c = let a = c .before .before .before .before .args in
     let l = c .before .before .before .loop in
-    let f : ℕ → ℕ = byteAt (a .bytes .now) (a .k) in
+    let f : ℕ → ℕ = strideSize (a .strides .now) (a .k) in
     let es : List ℕ = a .extents .now in
     let st = sum-step (adds f es (a .i)) (a .cut) (l .j) (l .inv .0) in
     let way : ℕ = wayOf f es (l .j) in
@@ -68,7 +68,7 @@ returns : tie.Need-returns Inv-loop μ-loop
 returns c = let a = c .before .before .args in
     let l = c .before .loop in
     let e : l .j ≡ a .rank = omega arith in
-    l .inv .2 ∙ ap (λ (j : ℕ). a .w + sum (adds (byteAt (a .bytes .now) (a .k)) (a .extents .now) (a .i)) (a .cut) (j - a .cut)) e
+    l .inv .2 ∙ ap (λ (j : ℕ). a .w + sum (adds (strideSize (a .strides .now) (a .k)) (a .extents .now) (a .i)) (a .cut) (j - a .cut)) e
 
 pub span-so-far-spec : {M : Type 1} → statement M
 span-so-far-spec =

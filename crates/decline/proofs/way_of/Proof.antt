@@ -1,14 +1,15 @@
 use native.Mathlib.Omega.{arith}
-use mathlib.Core.Path.{_≡_, ap}
+use mathlib.Core.Path.{_≡_, ap₂}
 use Prim.Native.Nat.{ℕ, _*_}
-use Rattle.strided.specs.Region.{byteAt}
 use Rattle.laws.specs.Cut.Rising.{wayOf}
+use Rattle.laws.specs.Cut.Tables.{strideSize}
 use borrow.Author.Needs.{needs}
 use Rattle.decline.proofs.way_of.Statement.{statement}
 use Rattle.decline.proofs.way_of.Tie as tie
 use Rattle.decline.proofs.way_of.Reads as reads
 use Rattle.decline.proofs.way_of.Lts as lts
-use Rattle.region.proofs.less_one.Reads as less-one-reads
+use Rattle.decline.proofs.stride_size.Reads as stride-size-reads
+use Rattle.layout.proofs.sizes.less_one.Reads as less-one-reads
 
 mul-less-one : tie.Need-mul-less-one
 mul-less-one c = search needs
@@ -19,28 +20,17 @@ element-copy-out-less-one c = search needs
 less-one-requires : tie.Need-less-one-requires
 less-one-requires c κs = search needs
 
-mul-result : tie.Need-mul-result
-mul-result c = search needs
-
-add-result : tie.Need-add-result
-add-result c = search needs
-
-mul-result-2 : tie.Need-mul-result-2
-mul-result-2 c = search needs
-
-element-copy-out-result : tie.Need-element-copy-out-result
-element-copy-out-result c = search needs
+stride-size-requires : tie.Need-stride-size-requires
+stride-size-requires c κs = search needs
 
 -- the product is what the axis spans
-the-way : (c : tie.After-result)
+the-way : (c : tie.After-stride-size)
     → let a = c .before .before .before .args in
-    c .before .less-one .result * byteAt (a .bytes .now) (a .k) (a .i) ≡ wayOf (byteAt (a .bytes .now) (a .k)) (a .extents .now) (a .i)
-the-way c =
-    let a = c .before .before .before .args in
-    ap (λ (x : ℕ). x * byteAt (a .bytes .now) (a .k) (a .i)) (c .before .less-one .ensures)
+    c .before .less-one .result * c .stride-size .result ≡ wayOf (strideSize (a .strides .now) (a .k)) (a .extents .now) (a .i)
+the-way c = ap₂ (λ (x y : ℕ). x * y) (c .before .less-one .ensures) (c .stride-size .ensures)
 
-mul-result-3 : tie.Need-mul-result-3
-mul-result-3 c = omega (arith, the-way c, c .before .before .before .pre .1)
+mul-result : tie.Need-mul-result
+mul-result c = omega (arith, the-way c, c .before .before .before .pre .1)
 
 returns : tie.Need-returns
 returns c = the-way c
@@ -52,9 +42,6 @@ way-of-spec =
     mul-less-one
     element-copy-out-less-one
     less-one-requires
+    stride-size-requires
     mul-result
-    add-result
-    mul-result-2
-    element-copy-out-result
-    mul-result-3
     returns)

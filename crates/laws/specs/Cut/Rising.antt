@@ -200,13 +200,3 @@ module _ (f : ℕ → ℕ) where
         ∙ test-rising (turn l w) o n
         ∙ every-cong (turn l w) (keepsApart f es o n w) o n
         (λ i p q. ap (λ (z : ℕ). eqb (f i % line) 0 && leb (w + z) (f i)) (total-rising (adds f es i) o n))
-
--- the test at one axis, where it is and where it is not a multiple of the line
-module _ (f : ℕ → ℕ) (es : List ℕ) (o n w i : ℕ) where
-  pub apart-line : eqb (f i % line) 0 ≡ true → keepsApart f es o n w i ≡ leb (w + sum (adds f es i) o n) (f i)
-  unfolding keepsApart
-  apart-line e = ap (λ (b : Bool). b && leb (w + sum (adds f es i) o n) (f i)) e
-
-  pub apart-off : eqb (f i % line) 0 ≡ false → keepsApart f es o n w i ≡ false
-  unfolding keepsApart
-  apart-off e = ap (λ (b : Bool). b && leb (w + sum (adds f es i) o n) (f i)) e

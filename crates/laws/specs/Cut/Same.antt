@@ -1,21 +1,18 @@
--- Cutting, declining and the fit look at byte strides, costs and ranks of the plan's axes only: tables that agree there give the same.
--- Assumes nothing.
+-- Cutting and the fit look at byte strides, costs and ranks of the plan's axes only: tables that agree there give the same. Assumes nothing.
 use mathlib.Core.Path.{_≡_, refl, sym, ap, ap₂, _∙_}
 use mathlib.Core.Bool.{Bool, true, false, cond, not, _&&_, _||_}
 use mathlib.Core.List.{List}
 use mathlib.Core.Option.{Option, none, some}
-use Prim.Native.Nat.{ℕ, zero, suc, _+_, _-_, _*_, _/_, _%_, _≤_, _<_}
+use Prim.Native.Nat.{ℕ, zero, suc, _+_, _-_, _*_, _/_, _≤_, _<_}
 use native.Mathlib.Omega.{arith}
 use lib.Dec.{ltb, leb, eqb}
 use lib.ListN.{getD, set}
 use Rattle.strided.specs.Base.{sum, product, least, every, seek, greatest, until}
 use Rattle.strided.specs.Region.{line, cache, live, byteAt, near, far, regionOf, region}
 use Rattle.strided.specs.Cut.{score, later, greatestScore, shorten, halving, lessening, cells, halved, lessened, shrunk, rankAt, leastRank, leastByte, keepsFirst, ones, cutting}
-use Rattle.strided.specs.Decline.{firstCut, rising, apart, widthOf, passes, declined}
 use Rattle.strided.specs.Fit.{reuse, counts, aliases, factor, loadOf, load, entersOf, enters, shortens, mostOf, fitFrom, fitted}
 use Rattle.laws.specs.Cut.Ranges.{sum-cong, product-cong, least-cong, every-cong, seek-cong, seek-le}
 use Rattle.laws.specs.Cut.Picks.{pick-is}
-use Rattle.laws.specs.Cut.Rising.{before, wayOf, adds, keepsApart, apart-each}
 
 -- two tables of byte strides, two of ranks, and two lists of costs that agree on the plan's axes
 abbrev pub SameBytes : ℕ → ℕ → List ℕ → List ℕ → Type 0
@@ -100,45 +97,6 @@ module _ (operands rank : ℕ) (bytes bytes′ : List ℕ) (same : SameBytes ope
           let l = least-byte-same o (suc n) h in
           let s = shrunk-same o (suc n) h b in
           λ t. cond (leb (r t) cache) b (cond (k t) (rest t) (cond (ltb cache (l t)) (ones o (suc n) b) (s t)))
-
-  -- ---- declining
-
-  module _ (sizes es : List ℕ) where
-    way-same : (k : ℕ) → k < operands → (o n : ℕ) → o + n ≤ rank → sum (wayOf (byteAt bytes k) es) o n ≡ sum (wayOf (byteAt bytes′ k) es) o n
-    way-same k h o n l = sum-cong (wayOf (byteAt bytes k) es) (wayOf (byteAt bytes′ k) es) o n
-        (λ i p q. ap (λ (s : ℕ). (getD es i 0 - 1) * s) (same k i h (omega arith)))
-
-    pub width-same : (k : ℕ) → k < operands → (cut : ℕ) → cut ≤ rank → widthOf bytes sizes es cut k ≡ widthOf bytes′ sizes es cut k
-    unfolding widthOf
-    width-same k h cut l = ap (λ (x : ℕ). getD sizes k 0 + x) (way-same k h 0 cut (omega arith))
-
-    adds-same : (k : ℕ) → k < operands → (i : ℕ) → i < rank → (o n : ℕ) → o + n ≤ rank
-        → sum (adds (byteAt bytes k) es i) o n ≡ sum (adds (byteAt bytes′ k) es i) o n
-    adds-same k h i l o n m = sum-cong (adds (byteAt bytes k) es i) (adds (byteAt bytes′ k) es i) o n
-        (λ j p q. ap₂ (λ (x y : ℕ). cond (cond (eqb y x) (ltb j i) (ltb y x)) ((getD es j 0 - 1) * y) 0) (same k i h l) (same k j h (omega arith)))
-
-    apart-same : (k : ℕ) → k < operands → (o n w : ℕ) → o + n ≤ rank
-        → every (keepsApart (byteAt bytes k) es o n w) o n ≡ every (keepsApart (byteAt bytes′ k) es o n w) o n
-    unfolding keepsApart
-    apart-same k h o n w m = every-cong (keepsApart (byteAt bytes k) es o n w) (keepsApart (byteAt bytes′ k) es o n w) o n
-        (λ i p q. ap₂ (λ (x y : ℕ). eqb (x % line) 0 && leb (w + y) x) (same k i h (omega arith)) (adds-same k h i (omega arith) o n m))
-
-    passes-same : (k : ℕ) → k < operands → (cut : ℕ) → cut ≤ rank → passes bytes sizes es cut rank k ≡ passes bytes′ sizes es cut rank k
-    unfolding passes
-    passes-same k h cut l =
-        let w : ℕ = widthOf bytes sizes es cut k in
-        let n : ℕ = rank - cut in
-        let front : ℕ → Bool → Bool = λ w t. eqb (getD sizes k 0) 0 || (eqb (w % line) 0 && t) in
-        ap (front w) (apart-each (byteAt bytes k) es cut n w ∙ apart-same k h cut n w (omega arith) ∙ sym (apart-each (byteAt bytes′ k) es cut n w))
-        ∙ ap (λ (w : ℕ). front w (apart (byteAt bytes′ k) es w (rising (byteAt bytes′ k) cut n))) (width-same k h cut l)
-
-    pub declined-same : (b : List ℕ) → declined bytes sizes operands es rank b ≡ declined bytes′ sizes operands es rank b
-    unfolding declined firstCut
-    declined-same b =
-        let cut : ℕ = seek (λ i. ltb (getD b i 0) (getD es i 0)) 0 rank in
-        let l : cut ≤ rank = omega (arith, seek-le (λ i. ltb (getD b i 0) (getD es i 0)) 0 rank) in
-        ap (λ (t : Bool). ltb 0 cut && (ltb cut rank && t))
-        (every-cong (passes bytes sizes es cut rank) (passes bytes′ sizes es cut rank) 0 operands (λ k p q. passes-same k (omega arith) cut l))
 
   -- ---- the fit
 

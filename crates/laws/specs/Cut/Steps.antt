@@ -20,7 +20,7 @@ use Rattle.laws.specs.Cut.Ranges.{le-or-lt, cond-true, cond-false, cond-
 use Rattle.laws.specs.Cut.Until.{none-or-some, until-stop, until-step, until-keeps, until-ends}
 use Rattle.laws.specs.Cut.Picks.{Pickable, pick-is, above-there}
 
--- every score of the first n axes fits 64 bits: rows 6 and 7 of the refusal table see to it
+-- every score of the first n axes fits 64 bits: row 6 of the refusal table sees to it (Tables, scores-fit)
 abbrev pub ScoresFit : ℕ → List ℕ → List ℕ → Type 0
 ScoresFit n costs b = (i : ℕ) → i < n → score b costs i < 2 ^ 64
 

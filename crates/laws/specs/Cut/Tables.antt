@@ -11,12 +11,13 @@ use lib.IntN.{ℤ, pos, natAbs}
 use lib.ListN.{length, getD, take, drop, length-take, length-drop, List·getD-append}
 use lib.Seq.{getD-take, getD-drop, getD-append-add}
 use Rattle.strided.specs.Base.{sum, least}
-use Rattle.strided.specs.Layout.{reach}
+use Rattle.strided.specs.Layout.{reach, maxI}
 use Rattle.strided.specs.Region.{byteTable, byteAt}
 use Rattle.strided.specs.Costs.{costOf, costs}
 use Rattle.strided.specs.Cut.{score}
 use Rattle.laws.specs.Base.Lists.{getD-run}
 use Rattle.laws.specs.Cut.Ranges.{sum-cong, term-in}
+use Rattle.laws.specs.Cut.Steps.{ScoresFit}
 
 length-map : (f : ℤ → ℕ) (xs : List ℤ) → length (map f xs) ≡ length xs
 length-map f [] = refl
@@ -142,3 +143,12 @@ reach-sum es strides rank k h l =
     reach-from rank es (drop (k * 64) strides) h (omega (arith, length-drop (k * 64) strides))
     ∙ sum-cong (λ i. (getD es i 0 - 1) * natAbs (getD (drop (k * 64) strides) i (pos 0))) (λ i. (getD es i 0 - 1) * strideSize strides k i) 0 rank
     (λ i p q. ap (λ (t : ℤ). (getD es i 0 - 1) * natAbs t) (getD-drop (k * 64) strides i (pos 0)))
+
+-- ---- scores need row 6 only, on the plan's axes
+
+pub scores-fit : (es : List ℕ) (strides : List ℤ) (operands rank : ℕ) → 0 < operands → rank ≤ length es → rank ≤ length strides
+    → ((i : ℕ) → i < rank → getD es i 0 < 2 ^ 64)
+    → ((k : ℕ) → k < operands → reach (take rank es) (take rank (drop (k * 64) strides)) ≤ maxI)
+    → ScoresFit rank (costs strides operands rank) es
+scores-fit es strides operands rank some places table fits near i h =
+    score-fits es strides operands rank i some h (fits i h) (omega (arith, near 0 some, reach-sum es strides rank 0 places (omega arith)))

@@ -8,7 +8,7 @@ use lib.ListN.{length}
 use Rattle.strided.specs.Region.{byteTable}
 use Rattle.strided.specs.Cut.{cutting}
 use Rattle.laws.specs.Cut.Same.{SameBytes}
-use Rattle.model.proofs.Rooms.{scores, same-bytes, within}
+use Rattle.model.proofs.Rooms.{scores, same-bytes, within-reach}
 use Rattle.model.proofs.Whole.{whole-declined, whole-fitted}
 use Rattle.model.proofs.cut_blocks.Statement.{statement}
 use Rattle.model.proofs.cut_blocks.Tie as tie
@@ -26,8 +26,7 @@ declines-tiles-requires : tie.Need-declines-tiles-requires
 declines-tiles-requires c κs =
     let s = c .before .before .before .before .before .before in
     let a = s .args in
-    let p = s .pre .0 in
-    ((p .axes, p .few), within (a .sizes .now) (a .extents .now) (a .strides .now) (a .rank) (a .purpose) p (a .bytes .now) (s .pre .1 .0 .bytes))
+    within-reach (a .sizes .now) (a .extents .now) (a .strides .now) (a .rank) (a .purpose) (s .pre .0)
 
 -- the table of byte strides is the definition's on the plan's axes
 same : (s : tie.Start) → let a = s .args in SameBytes (length (a .sizes .now)) (a .rank) (a .bytes .now) (byteTable (a .sizes .now) (a .strides .now))

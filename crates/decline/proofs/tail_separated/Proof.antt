@@ -1,0 +1,71 @@
+-- A loop tests the axes behind the cut in any order, here as they stand.
+use native.Mathlib.Omega.{arith}
+use mathlib.Core.Path.{_≡_, sym, ap, _∙_}
+use mathlib.Core.Bool.{Bool, true, false}
+use Prim.Native.Nat.{ℕ, _-_, _≤_}
+use Rattle.strided.specs.Base.{every}
+use Rattle.laws.specs.Cut.Ranges.{every-start, every-step, every-fails-at}
+use Rattle.laws.specs.Cut.Elements.{separates}
+use Rattle.laws.specs.Cut.Tables.{strideSize}
+use Rattle.decline.proofs.tail_separated.Statement.{statement}
+use Rattle.decline.proofs.tail_separated.Tie as tie
+use Rattle.decline.proofs.tail_separated.Reads as reads
+use Rattle.decline.proofs.tail_separated.Lts as lts
+use Rattle.decline.proofs.keeps_apart.Reads as keeps-apart-reads
+
+abbrev Inv-loop : tie.InvT-loop
+Inv-loop size strides extents cut rank k w i₀ i = (cut ≤ i) × (i ≤ rank) × (every (separates size (strideSize strides k) extents cut (rank - cut) w) cut (i - cut) ≡ true)
+
+abbrev μ-loop : tie.MeasureT-loop
+μ-loop size strides extents cut rank k w i₀ i = rank - i
+
+-- the test at one axis
+test : tie.Start Inv-loop μ-loop → ℕ → Bool
+test s = let a = s .args in separates (a .size) (strideSize (a .strides .now) (a .k)) (a .extents .now) (a .cut) (a .rank - a .cut) (a .w)
+
+loop-holds : tie.Need-loop-holds Inv-loop μ-loop
+loop-holds c = (omega arith, omega arith, every-start _ _)
+
+keeps-apart-requires : tie.Need-keeps-apart-requires Inv-loop μ-loop
+keeps-apart-requires c κs = (omega arith, omega arith, c .before .before .pre .2)
+
+add-i : tie.Need-add-i Inv-loop μ-loop
+add-i c = omega arith
+
+loop-less : tie.Need-loop-less Inv-loop μ-loop
+loop-less c = omega arith
+
+loop-again : tie.Need-loop-again Inv-loop μ-loop
+unfolding test
+loop-again c = let s = c .before .before .before .before in
+    let l = c .before .before .before .loop in
+    (omega arith, omega arith, every-step (test s) (s .args .cut) (l .i) (l .inv .0) (sym (c .before .keeps-apart .ensures) ∙ c .if1 .taken) ∙ l .inv .2)
+
+returns : tie.Need-returns Inv-loop μ-loop
+unfolding test
+returns c = let s = c .before .before .before .before in
+    let a = s .args in
+    let l = c .before .before .before .loop in
+    sym (every-fails-at (test s) (a .cut) (l .i) (a .rank - a .cut) (l .inv .0) (omega arith) (sym (c .before .keeps-apart .ensures) ∙ c .if1 .left))
+
+returns-2 : tie.Need-returns-2 Inv-loop μ-loop
+unfolding test
+returns-2 c = let s = c .before .before in
+    let a = s .args in
+    let l = c .before .loop in
+    let e : l .i ≡ a .rank = omega arith in
+    sym (ap (λ (i : ℕ). every (test s) (a .cut) (i - a .cut)) (sym e) ∙ l .inv .2)
+
+pub tail-separated-spec : {M : Type 1} → statement M
+tail-separated-spec =
+    tie.close
+    (tie.spec
+    Inv-loop
+    μ-loop
+    loop-holds
+    keeps-apart-requires
+    add-i
+    loop-less
+    loop-again
+    returns
+    returns-2)

@@ -1,0 +1,21 @@
+-- A product's remainder from those of its factors.
+use native.Mathlib.Omega.{arith}
+use mathlib.Core.Path.{_≡_, ap}
+use Prim.Native.Nat.{ℕ}
+use lib.Dec.{eqb}
+use Rattle.strided.specs.Region.{line}
+use Rattle.laws.specs.Cut.Elements.{mod-both}
+use Rattle.decline.proofs.Rooms.{rests-fit}
+use Rattle.decline.proofs.whole_lines.Statement.{statement}
+use Rattle.decline.proofs.whole_lines.Tie as tie
+use Rattle.decline.proofs.whole_lines.Reads as reads
+use Rattle.decline.proofs.whole_lines.Lts as lts
+
+mul-result : tie.Need-mul-result
+mul-result c = omega (arith, rests-fit (c .args .n) (c .args .size))
+
+returns : tie.Need-returns
+returns c = ap (λ (x : ℕ). eqb x 0) (mod-both line (c .args .n) (c .args .size))
+
+pub whole-lines-spec : {M : Type 1} → statement M
+whole-lines-spec = tie.close (tie.spec mul-result returns)

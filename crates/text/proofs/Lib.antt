@@ -1,0 +1,2 @@
+-- The laws behind the text entry.
+pub mod Listings

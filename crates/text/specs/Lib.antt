@@ -1,0 +1,2 @@
+-- What each part of the text entry answers.
+pub mod Listed

@@ -1,0 +1,2 @@
+-- What the function that turns a text into the bytes printed leaves.
+pub mod Printing
