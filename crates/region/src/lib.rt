@@ -33,6 +33,23 @@ pub fn less_one(b: u64) -> u64
     if b == 0 { 0 } else { b - 1 }
 }
 
+// What an axis whose byte stride s is below a line adds to C. A block that is cut here is above every limit already; the sum of 64 such
+// terms stays small.
+fn near_part(s: u64, b: u64) -> u64
+    requires { ⌜ s < 64 ⌝ }
+    ensures { λ r. ⌜ (r ≡ s * min (b - 1) cap) × (r ≤ 4194368) ⌝ }
+{
+    s * least(less_one(b), CAP)
+}
+
+// A product that is saturated, with one factor more.
+fn times(m: u64, b: u64) -> u64
+    requires { ⌜ m ≤ cap ⌝ }
+    ensures { λ r. ⌜ r ≡ min (m * b) cap ⌝ }
+{
+    least(m * least(b, CAP), CAP)
+}
+
 // The region of operand k over the axes from offset to rank.
 fn region_of<'a>(
     blocks: &'a [u64; 64],
@@ -44,20 +61,21 @@ fn region_of<'a>(
     requires { ⌜ (k < 8) × ((offset ≤ rank) × (rank ≤ 64)) ⌝ }
     ensures { λ r. ⌜ r ≡ min (regionOf (now (bytes .entry)) (now (blocks .entry)) offset (rank - offset) k) cap ⌝ }
 {
+    let from = k * 64;
     let mut c: u64 = 0;
     let mut m: u64 = 1;
     let mut i = offset;
     while i < rank {
-        let s = bytes[k * 64 + i];
+        let s = bytes[from + i];
         let b = blocks[i];
         if s < CACHE_LINE_SIZE {
-            c = sat_add(c, sat_mul(s, less_one(b)));
+            c += near_part(s, b);
         } else {
-            m = sat_mul(m, b);
+            m = times(m, b);
         }
         i += 1;
     }
-    sat_mul(sat_mul(CACHE_LINE_SIZE, c / CACHE_LINE_SIZE + 1), m)
+    times(m, (least(c, CAP) / CACHE_LINE_SIZE + 1) * CACHE_LINE_SIZE)
 }
 
 // The region over the axes from offset to rank, summed over the operands.

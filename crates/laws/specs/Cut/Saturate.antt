@@ -34,8 +34,13 @@ pub add-sat : (C T n : ℕ) {c t r : ℕ} → c ≡ min C n → t ≡ min T n �
 add-sat C T n hc ht hr = omega arith
 
 -- the lines of a saturated C, times a saturated M
-pub lines-sat : (c C m M r s : ℕ) → c ≡ min C cap → m ≡ min M cap
-    → r ≡ min (64 * (c / 64 + 1)) cap → s ≡ min (r * m) cap → s ≡ min (64 * (C / 64 + 1) * M) cap
-lines-sat c C m M r s hc hm hr hs =
-    let e : r ≡ min (64 * (C / 64 + 1)) cap = omega arith in
-    hs ∙ ap₂ (λ (x y : ℕ). min (x * y) cap) e hm ∙ min-mul-left (64 * (C / 64 + 1)) (min M cap) cap ∙ min-mul-right (64 * (C / 64 + 1)) M cap
+pub lines-sat : (c C m M s : ℕ) → c ≡ min C cap → m ≡ min M cap → s ≡ min (m * ((c / 64 + 1) * 64)) cap → s ≡ min (64 * (C / 64 + 1) * M) cap
+lines-sat c C m M s hc hm hs =
+    let x : ℕ = (c / 64 + 1) * 64 in
+    let e : min ((c / 64 + 1) * 64) cap ≡ min (64 * (C / 64 + 1)) cap = omega arith in
+    hs
+    ∙ ap (λ (y : ℕ). min y cap) (mul-comm m x)
+    ∙ sym (min-mul-left x m cap)
+    ∙ ap₂ (λ (y z : ℕ). min (y * z) cap) e hm
+    ∙ min-mul-left (64 * (C / 64 + 1)) (min M cap) cap
+    ∙ min-mul-right (64 * (C / 64 + 1)) M cap

@@ -1,4 +1,4 @@
--- A loop over the tail keeps C and M, both saturated; the lines and the product follow.
+-- A loop over the tail keeps C, which is cut off at the end, and M, which is saturated; the lines and the product follow.
 use native.Mathlib.Omega.{arith}
 use mathlib.Core.Path.{_≡_, sym, ap, _∙_}
 use mathlib.Core.Logic.{⊎-elim}
@@ -9,34 +9,29 @@ use lib.ListN.{getD}
 use Rattle.strided.specs.Base.{sum, product}
 use Rattle.strided.specs.Region.{near, far, byteAt, regionOf}
 use Rattle.laws.specs.Cut.Ranges.{sum-start, sum-step, product-start, product-step, cond-lt, cond-le}
-use Rattle.laws.specs.Cut.Saturate.{cap, min-mul-left, add-sat, lines-sat}
+use Rattle.laws.specs.Cut.Saturate.{cap, min-mul-left, min-mul-right, lines-sat}
 use Rattle.region.proofs.region_of.Statement.{statement}
 use Rattle.region.proofs.region_of.Tie as tie
-use Rattle.region.proofs.region_of.Reads as reads
-use Rattle.region.proofs.region_of.Lts as lts
-use Rattle.region.proofs.less_one.Reads as less-one-reads
-use Rattle.region.proofs.sat_add.Reads as sat-add-reads
-use Rattle.region.proofs.sat_mul.Reads as sat-mul-reads
 
 abbrev Inv-loop : tie.InvT-loop
-Inv-loop blocks bytes k offset rank c₀ m₀ i₀ c m i = (offset ≤ i) × (i ≤ rank)
-    × (c ≡ min (sum (near bytes blocks k) offset (i - offset)) cap)
+Inv-loop blocks bytes k offset rank from c₀ m₀ i₀ c m i = (offset ≤ i) × (i ≤ rank) × (c ≤ 4194368 * i)
+    × (min c cap ≡ min (sum (near bytes blocks k) offset (i - offset)) cap)
     × (m ≡ min (product (far bytes blocks k) offset (i - offset)) cap)
 
 abbrev μ-loop : tie.MeasureT-loop
-μ-loop blocks bytes k offset rank c₀ m₀ i₀ c m i = rank - i
+μ-loop blocks bytes k offset rank from c₀ m₀ i₀ c m i = rank - i
+
+mul-from : tie.Need-mul-from Inv-loop μ-loop
+mul-from c = omega arith
 
 loop-holds : tie.Need-loop-holds Inv-loop μ-loop
-loop-holds c = (omega arith, omega arith, ap (λ (x : ℕ). min x cap) (sym (sum-start _ _)), ap (λ (x : ℕ). min x cap) (sym (product-start _ _)))
-
-mul-s : tie.Need-mul-s Inv-loop μ-loop
-mul-s c = omega arith
+loop-holds c = (omega arith, omega arith, omega arith, ap (λ (x : ℕ). min x cap) (sym (sum-start _ _)), ap (λ (x : ℕ). min x cap) (sym (product-start _ _)))
 
 add-s : tie.Need-add-s Inv-loop μ-loop
 add-s c = omega arith
 
-mul-s-2 : tie.Need-mul-s-2 Inv-loop μ-loop
-mul-s-2 c = omega arith
+mul-s : tie.Need-mul-s Inv-loop μ-loop
+mul-s c = omega arith
 
 element-copy-out-s : tie.Need-element-copy-out-s Inv-loop μ-loop
 element-copy-out-s c = omega arith
@@ -47,23 +42,24 @@ mul-b c = omega arith
 element-copy-out-b : tie.Need-element-copy-out-b Inv-loop μ-loop
 element-copy-out-b c = omega arith
 
-less-one-requires : tie.Need-less-one-requires Inv-loop μ-loop
-less-one-requires c κs = tt
+near-part-requires : tie.Need-near-part-requires Inv-loop μ-loop
+near-part-requires c κs = c .if1 .taken
 
-sat-mul-requires : tie.Need-sat-mul-requires Inv-loop μ-loop
-sat-mul-requires c κs = tt
+add-c : tie.Need-add-c Inv-loop μ-loop
+add-c c = omega (arith, c .near-part .ensures .1)
 
-sat-add-requires : tie.Need-sat-add-requires Inv-loop μ-loop
-sat-add-requires c κs = tt
-
-sat-mul-requires-2 : tie.Need-sat-mul-requires-2 Inv-loop μ-loop
-sat-mul-requires-2 c κs = tt
+times-requires : tie.Need-times-requires Inv-loop μ-loop
+times-requires c κs = omega arith
 
 add-i : tie.Need-add-i Inv-loop μ-loop
 add-i c = omega arith
 
 loop-less : tie.Need-loop-less Inv-loop μ-loop
 loop-less c = omega arith
+
+-- one term more, each cut off or not
+more : (C T c t r : ℕ) → min c cap ≡ min C cap → min t cap ≡ min T cap → r ≡ c + t → min r cap ≡ min (C + T) cap
+more C T c t r p q e = omega arith
 
 loop-again : tie.Need-loop-again Inv-loop μ-loop
 loop-again c = let a = c .before .before .before .before .before .args in
@@ -80,30 +76,35 @@ loop-again c = let a = c .before .before .before .before .before .args in
     (λ w.
     let e1 = cond-lt s 64 (s * (b - 1)) 0 (w .0 .taken) in
     let e2 = cond-lt s 64 1 b (w .0 .taken) in
-    let e3 = ap (λ (x : ℕ). s * x) (w .1 .ensures) in (
+    let t = w .1 .ensures in (
       omega arith,
       omega arith,
-      add-sat C (s * (b - 1)) cap (l .inv .2) (rw e3 at (w .2 .ensures)) (w .4 ∙ w .3 .ensures) ∙ ap (λ (x : ℕ). min x cap) (sym (ss ∙ ap (λ (x : ℕ). C + x) e1)),
-      w .5 ∙ l .inv .3 ∙ ap (λ (x : ℕ). min x cap) (sym (ps ∙ ap (λ (x : ℕ). M * x) e2 ∙ mul-one M)),
+      omega (arith, w .2, t .1),
+      more C (s * (b - 1)) (l .c) _ _ (l .inv .3) (ap (λ (x : ℕ). min x cap) (t .0) ∙ min-mul-right s (b - 1) cap) (w .2) ∙ ap (λ (x : ℕ). min x cap) (sym (ss ∙ ap (λ (x : ℕ). C + x) e1)),
+      w .3 ∙ l .inv .4 ∙ ap (λ (x : ℕ). min x cap) (sym (ps ∙ ap (λ (x : ℕ). M * x) e2 ∙ mul-one M)),
     ))
     (λ w.
     let e1 = cond-le s 64 (s * (b - 1)) 0 (w .0 .left) in
     let e2 = cond-le s 64 1 b (w .0 .left) in (
       omega arith,
       omega arith,
-      w .2 ∙ l .inv .2 ∙ ap (λ (x : ℕ). min x cap) (sym (ss ∙ ap (λ (x : ℕ). C + x) e1 ∙ add-zero C)),
-      w .3 ∙ w .1 .ensures ∙ ap (λ (x : ℕ). min (x * b) cap) (l .inv .3) ∙ min-mul-left M b cap ∙ ap (λ (x : ℕ). min x cap) (sym (ps ∙ ap (λ (x : ℕ). M * x) e2)),
+      omega (arith, w .2),
+      ap (λ (x : ℕ). min x cap) (w .2) ∙ l .inv .3 ∙ ap (λ (x : ℕ). min x cap) (sym (ss ∙ ap (λ (x : ℕ). C + x) e1 ∙ add-zero C)),
+      w .3 ∙ w .1 .ensures ∙ ap (λ (x : ℕ). min (x * b) cap) (l .inv .4) ∙ min-mul-left M b cap ∙ ap (λ (x : ℕ). min x cap) (sym (ps ∙ ap (λ (x : ℕ). M * x) e2)),
     ))
     (c .if1 .came)
 
-add-sat-mul : tie.Need-add-sat-mul Inv-loop μ-loop
-add-sat-mul c = omega arith
+least-requires : tie.Need-least-requires Inv-loop μ-loop
+least-requires c κs = tt
 
-sat-mul-requires-3 : tie.Need-sat-mul-requires-3 Inv-loop μ-loop
-sat-mul-requires-3 c κs = tt
+add-times : tie.Need-add-times Inv-loop μ-loop
+add-times c = omega arith
 
-sat-mul-requires-4 : tie.Need-sat-mul-requires-4 Inv-loop μ-loop
-sat-mul-requires-4 c κs = tt
+mul-times : tie.Need-mul-times Inv-loop μ-loop
+mul-times c = omega arith
+
+times-requires-2 : tie.Need-times-requires-2 Inv-loop μ-loop
+times-requires-2 c κs = omega arith
 
 returns : tie.Need-returns Inv-loop μ-loop
 unfolding regionOf
@@ -114,7 +115,7 @@ returns c = let a = c .before .before .before .before .args in
     let C : ℕ = sum (near bytes blocks (a .k)) (a .offset) (l .i - a .offset) in
     let M : ℕ = product (far bytes blocks (a .k)) (a .offset) (l .i - a .offset) in
     let e : l .i ≡ a .rank = omega arith in
-    lines-sat (l .c) C (l .m) M _ _ (l .inv .2) (l .inv .3) (c .before .sat-mul3 .ensures) (c .sat-mul4 .ensures)
+    lines-sat (c .before .least .result) C (l .m) M (c .times2 .result) (c .before .least .ensures ∙ l .inv .3) (l .inv .4) (c .times2 .ensures)
     ∙ ap (λ (i : ℕ). min (regionOf bytes blocks (a .offset) (i - a .offset) (a .k)) cap) e
 
 pub region-of-spec : {M : Type 1} → statement M
@@ -123,21 +124,21 @@ region-of-spec =
     (tie.spec
     Inv-loop
     μ-loop
+    mul-from
     loop-holds
-    mul-s
     add-s
-    mul-s-2
+    mul-s
     element-copy-out-s
     mul-b
     element-copy-out-b
-    less-one-requires
-    sat-mul-requires
-    sat-add-requires
-    sat-mul-requires-2
+    near-part-requires
+    add-c
+    times-requires
     add-i
     loop-less
     loop-again
-    add-sat-mul
-    sat-mul-requires-3
-    sat-mul-requires-4
+    least-requires
+    add-times
+    mul-times
+    times-requires-2
     returns)

@@ -1,0 +1,31 @@
+-- Both factors are small, and so is their product.
+use native.Mathlib.Omega.{arith}
+use native.Mathlib.Nat.{mul-le-mul}
+use mathlib.Core.Path.{_≡_, ap, _∙_}
+use Prim.Native.Nat.{ℕ, _-_, _*_, _≤_, min}
+use borrow.Author.Needs.{needs}
+use Rattle.laws.specs.Cut.Saturate.{cap}
+use Rattle.region.proofs.near_part.Statement.{statement}
+use Rattle.region.proofs.near_part.Tie as tie
+
+less-one-requires : tie.Need-less-one-requires
+less-one-requires c κs = search needs
+
+least-requires : tie.Need-least-requires
+least-requires c κs = search needs
+
+-- what bounds the product
+small : (c : tie.After-least) → c .before .before .args .s * c .least .result ≤ 64 * 65537
+small c = let p : c .before .before .args .s ≤ 64 = omega (arith, c .before .before .pre) in
+    let q : c .least .result ≤ 65537 = omega (arith, c .least .ensures) in
+    mul-le-mul p q
+
+mul-result : tie.Need-mul-result
+mul-result c = omega (arith, small c)
+
+returns : tie.Need-returns
+returns c = let a = c .before .before .args in
+    (ap (λ (x : ℕ). a .s * x) (c .least .ensures ∙ ap (λ (x : ℕ). min x cap) (c .before .less-one .ensures)), omega (arith, small c))
+
+pub near-part-spec : {M : Type 1} → statement M
+near-part-spec = tie.close (tie.spec less-one-requires least-requires mul-result returns)

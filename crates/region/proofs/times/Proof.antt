@@ -1,0 +1,26 @@
+-- Both factors are at most the cap, so their product fits, and cutting the second off first changes nothing.
+use native.Mathlib.Omega.{arith}
+use native.Mathlib.Nat.{mul-le-mul}
+use mathlib.Core.Path.{_≡_, ap, _∙_}
+use Prim.Native.Nat.{ℕ, _*_, _≤_, min}
+use Rattle.laws.specs.Cut.Saturate.{cap, min-mul-right}
+use borrow.Author.Needs.{needs}
+use Rattle.region.proofs.times.Statement.{statement}
+use Rattle.region.proofs.times.Tie as tie
+
+least-requires : tie.Need-least-requires
+least-requires c κs = search needs
+
+mul-least : tie.Need-mul-least
+mul-least c = let q : c .least .result ≤ cap = omega arith in
+    search (needs, mul-le-mul (c .before .pre) q)
+
+least-requires-2 : tie.Need-least-requires-2
+least-requires-2 c κs = search needs
+
+returns : tie.Need-returns
+returns c = let a = c .before .before .args in
+    c .least2 .ensures ∙ ap (λ (x : ℕ). min (a .m * x) cap) (c .before .least .ensures) ∙ min-mul-right (a .m) (a .b) cap
+
+pub times-spec : {M : Type 1} → statement M
+times-spec = tie.close (tie.spec least-requires mul-least least-requires-2 returns)

@@ -1,0 +1,160 @@
+/*
+ * How much stack each entry of the library takes at most, on the layouts that
+ * take most: every entry runs on a stack of its own that is painted before the
+ * call, and what is no longer painted afterwards was used. It prints a table and
+ * ends with status 1 if an entry takes more than 256 KiB.
+ */
+#define _GNU_SOURCE
+#include <inttypes.h>
+#include <pthread.h>
+#include <stdio.h>
+#include <stdlib.h>
+#include <string.h>
+#include <sys/mman.h>
+
+#include "gougelily.h"
+
+enum { STACK = 4 << 20, LIMIT = 256 << 10, PAINT = 0x5a };
+
+static unsigned char *stack;
+
+static void end(const char *what)
+{
+    fprintf(stderr, "stack: %s\n", what);
+    exit(2);
+}
+
+/* ------------------------------------------------------------ the layouts */
+
+/* Cutting keeps one axis after another, as deep as it can: all strides are alike. */
+static uint64_t deep_extents[58], wide_extents[64];
+static int64_t deep_strides[58 * 8], wide_strides[64 * 8];
+static const uint64_t sizes[8] = {8, 8, 8, 8, 8, 8, 8, 8};
+
+static gougelily_layout_t deep, wide, transposed;
+static const uint64_t square[2] = {1000, 1000};
+static const int64_t rows[4] = {1, 1000, 1000, 1};
+
+/* The same with a listing that fits the room. */
+static char text[16384], room[65536];
+
+static void make_layouts(void)
+{
+    for (int i = 0; i < 58; i++)
+        deep_extents[i] = i == 57 ? 65 : 2;
+    for (int i = 0; i < 58 * 8; i++)
+        deep_strides[i] = 512;
+    for (int i = 0; i < 64; i++)
+        wide_extents[i] = i % 8 < 5 ? 2 : 1;
+    for (int k = 0; k < 8; k++)
+        for (int i = 0; i < 64; i++)
+            wide_strides[k * 64 + i] = (int64_t)1 << (i * (k + 3) % 40);
+    deep = (gougelily_layout_t){deep_extents, 58, sizes, 8, deep_strides, 58 * 8, GOUGELILY_FOLD, 0};
+    wide = (gougelily_layout_t){wide_extents, 64, sizes, 8, wide_strides, 64 * 8, GOUGELILY_FOLD, 7};
+    transposed = (gougelily_layout_t){square, 2, sizes, 2, rows, 4, GOUGELILY_POINTWISE_INTO, 0};
+
+    char *at = text + sprintf(text, "L,F,10,8,0\nE");
+    for (int i = 0; i < 10; i++)
+        at += sprintf(at, ",%d", i == 0 ? 65 : 2);
+    for (int k = 0; k < 8; k++) {
+        at += sprintf(at, "\nO,8");
+        for (int i = 0; i < 10; i++)
+            at += sprintf(at, ",512");
+    }
+    sprintf(at, "\n");
+}
+
+/* ------------------------------------------------------------ the entries */
+
+static gougelily_plan_t plan;
+static gougelily_walk_t walk;
+static gougelily_block_t block;
+static gougelily_index_t told;
+static int64_t answer;
+static uint64_t lengths[64];
+static int64_t offsets[512];
+static const int64_t starts[8];
+static const uint64_t zeros[64];
+
+static void plan_deep(void) { answer = gougelily_plan_layout(&deep, &plan); }
+static void plan_transposed(void) { answer = gougelily_plan_layout(&transposed, &plan); }
+static void plan_wide(void) { answer = gougelily_plan_layout(&wide, &plan); }
+static void begin(void) { answer = gougelily_begin_walk(&plan, starts, plan.operands, &walk); }
+static void step(void) { answer = gougelily_next_block(&plan, &walk, &block); }
+static void find(void) { answer = gougelily_find_original(&wide, zeros, plan.rank, &told); }
+static void find_back(void) { answer = gougelily_find_in_plan(&wide, zeros, 64, &told); }
+static void mark(void) { answer = gougelily_repeat_mark(wide_extents, 64, wide_strides, 64); }
+static void list(void)
+{
+    answer = gougelily_walklist((const uint8_t *)text, strlen(text), (uint8_t *)room, sizeof room);
+}
+static void many(void)
+{
+    answer = gougelily_step_many(plan.rank, plan.operands, plan.extents, plan.blocks, plan.strides, &walk.ended,
+                                 walk.counters, walk.offsets, lengths, 64, offsets, 512);
+}
+static void nothing(void) { answer = 0; }
+
+/* ------------------------------------------------------------ measuring */
+
+static void *run(void *call)
+{
+    (*(void (**)(void))call)();
+    return NULL;
+}
+
+/* Bytes of stack that a call takes, with those of a thread that does nothing. */
+static size_t used(void (*call)(void))
+{
+    pthread_attr_t attributes;
+    pthread_t thread;
+    memset(stack, PAINT, STACK);
+    if (pthread_attr_init(&attributes) != 0 || pthread_attr_setstack(&attributes, stack, STACK) != 0 ||
+        pthread_create(&thread, &attributes, run, &call) != 0 || pthread_join(thread, NULL) != 0)
+        end("no thread");
+    pthread_attr_destroy(&attributes);
+    size_t untouched = 0;
+    while (untouched < STACK && stack[untouched] == PAINT)
+        untouched++;
+    return STACK - untouched;
+}
+
+int main(void)
+{
+    static const struct {
+        const char *name;
+        void (*call)(void);
+    } calls[] = {
+        {"gougelily_plan, 58 axes, 8 operands, cutting as deep as it goes", plan_deep},
+        {"gougelily_plan, a transpose of 1,000", plan_transposed},
+        {"gougelily_plan, 64 axes, 8 operands", plan_wide},
+        {"gougelily_original_index", find},
+        {"gougelily_plan_index", find_back},
+        {"gougelily_begin", begin},
+        {"gougelily_step", step},
+        {"gougelily_step_many", many},
+        {"gougelily_repeat_mark", mark},
+        {"gougelily_walklist", list},
+    };
+    int status = 0;
+
+    stack = mmap(NULL, STACK, PROT_READ | PROT_WRITE, MAP_PRIVATE | MAP_ANONYMOUS, -1, 0);
+    if (stack == MAP_FAILED)
+        end("no memory");
+    make_layouts();
+    const size_t idle = used(nothing);
+    printf("| entry | KiB of stack |\n|---|---|\n");
+    for (size_t i = 0; i < sizeof calls / sizeof calls[0]; i++) {
+        const size_t bytes = used(calls[i].call) - idle;
+        if (answer < 0) {
+            fprintf(stderr, "stack: %s is refused with %" PRId64 "\n", calls[i].name, -answer);
+            return 2;
+        }
+        printf("| %s | %zu |\n", calls[i].name, (bytes + 1023) / 1024);
+        if (bytes > LIMIT) {
+            fprintf(stderr, "stack: %s takes more than 256 KiB\n", calls[i].name);
+            status = 1;
+        }
+    }
+    return status;
+}
