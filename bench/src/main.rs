@@ -6,6 +6,7 @@ mod counting;
 mod layouts;
 mod parts;
 mod planning;
+mod texts;
 mod timing;
 mod walking;
 
@@ -17,7 +18,8 @@ use tools::options::{end, unknown, Options};
 const HELP: &str = "\
 bench: times the port and the original, and prints the ratios as tables
 
-  --only WHAT      only this table: planning, walking or parts; may be repeated
+  --only WHAT      only this table: planning, walking, texts or parts; may
+                   be repeated
   --runs N         short runs of each side, of which the best counts (2000)
   --seed S         the seed of the layouts for parts (0)
   --instructions   count instructions of planning too, with valgrind
@@ -38,6 +40,14 @@ impl Asked {
     }
 }
 
+/// A ratio, with its first digits.
+fn shown(ratio: f64) -> String {
+    if ratio < 0.05 {
+        return format!("{ratio:.4}");
+    }
+    format!("{ratio:.2}")
+}
+
 fn planning_table(asked: &Asked, out: &mut impl Write) -> Result<(), String> {
     let rows = planning::times(asked.runs);
     let mut text = String::from("| layout | purpose | Rust ns | port ns | ratio |");
@@ -52,14 +62,18 @@ fn planning_table(asked: &Asked, out: &mut impl Write) -> Result<(), String> {
         let ratio = row.port / row.original;
         ratios.push(ratio);
         text += &format!(
-            "| {} | {} | {:.0} | {:.0} | {ratio:.2} |",
-            row.name, row.purpose, row.original, row.port
+            "| {} | {} | {:.0} | {:.0} | {} |",
+            row.name,
+            row.purpose,
+            row.original,
+            row.port,
+            shown(ratio)
         );
         if asked.instructions {
             let original = counting::instructions(Side::Original, at)?;
             let port = counting::instructions(Side::Port, at)?;
             let ratio = port as f64 / original as f64;
-            text += &format!(" {original} | {port} | {ratio:.2} |");
+            text += &format!(" {original} | {port} | {} |", shown(ratio));
         }
         text.push('\n');
     }
@@ -70,14 +84,27 @@ fn planning_table(asked: &Asked, out: &mut impl Write) -> Result<(), String> {
 }
 
 fn walking_table(asked: &Asked, out: &mut impl Write) -> Result<(), String> {
-    let mut text = String::from(
-        "## Walking, per block\n\n| plan | blocks | Rust ns | many steps ns | ratio | step ns | ratio |\n|---|---|---|---|---|---|---|\n",
-    );
+    let head = "| plan | blocks | Rust, writing, ns | many steps ns | ratio | Rust, summing, ns | step ns | ratio |";
+    let mut text = format!("## Walking, per block\n\n{head}\n|---|---|---|---|---|---|---|---|\n");
     for row in walking::times(asked.runs.div_ceil(20)) {
-        let (many, step) = (row.many / row.original, row.step / row.original);
+        let (many, step) = (row.many / row.written, row.step / row.summed);
         text += &format!(
-            "| {} | {} | {:.1} | {:.1} | {many:.2} | {:.0} | {step:.1} |\n",
-            row.name, row.blocks, row.original, row.many, row.step
+            "| {} | {} | {:.1} | {:.1} | {many:.2} | {:.1} | {:.0} | {step:.1} |\n",
+            row.name, row.blocks, row.written, row.many, row.summed, row.step
+        );
+    }
+    text.push('\n');
+    put(out, &text)
+}
+
+fn texts_table(asked: &Asked, out: &mut impl Write) -> Result<(), String> {
+    let mut text =
+        String::from("## Texts\n\n| text | bytes | answer | microseconds |\n|---|---|---|---|\n");
+    for row in texts::times(asked.runs) {
+        let micros = row.nanoseconds / 1000.0;
+        text += &format!(
+            "| {} | {} | {} | {micros:.1} |\n",
+            row.name, row.bytes, row.answer
         );
     }
     text.push('\n');
@@ -127,7 +154,10 @@ fn run() -> Result<(), String> {
             _ => return Err(unknown(&option)),
         }
     }
-    if asked.wants("planning") || asked.wants("walking") {
+    if ["planning", "walking", "texts"]
+        .iter()
+        .any(|what| asked.wants(what))
+    {
         port::gougelily::linked()?;
     }
     if asked.wants("planning") {
@@ -135,6 +165,9 @@ fn run() -> Result<(), String> {
     }
     if asked.wants("walking") {
         walking_table(&asked, &mut out)?;
+    }
+    if asked.wants("texts") {
+        texts_table(&asked, &mut out)?;
     }
     if asked.wants("parts") {
         port::parts::linked()?;

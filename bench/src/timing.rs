@@ -36,3 +36,10 @@ pub fn best(
     }
     (a, b)
 }
+
+/// The best time of one call, where there is nothing to compare it with.
+pub fn alone(runs: u64, function: &mut dyn FnMut() -> usize) -> f64 {
+    let calls = calls(function);
+    let times = (0..runs).map(|_| time(calls, function));
+    times.fold(f64::INFINITY, f64::min)
+}

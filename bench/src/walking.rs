@@ -1,5 +1,7 @@
 //! Walking to the end: the library's steps beside the original's closure walk.
-//! Both hand the length and the offsets of every block to the same sum.
+//! Single steps hand the length and the offsets of every block to a sum, as the
+//! original's closure does beside them; many steps write them into two slices, and
+//! so does the closure then.
 
 use crate::layouts;
 use crate::planning::empty_plan;
@@ -98,20 +100,61 @@ impl Case {
         sum
     }
 
-    fn many(&self) -> usize {
+    /// Many steps in one call; the sum is taken if asked for.
+    fn many(&self, records: &mut Records, summed: bool) -> usize {
         let mut state = self.begun();
-        let (mut lengths, mut offsets) = ([0; MANY], [0; 8 * MANY]);
-        let operands = self.strides.len();
-        let mut sum = 0usize;
+        let (operands, mut sum) = (self.strides.len(), 0usize);
         while state.ended[0] == 0 {
             let plan = black_box(&self.plan);
-            let count = gougelily::step_many(plan, &mut state, &mut lengths, &mut offsets);
-            let records = offsets.chunks(operands).zip(&lengths);
-            for (row, &length) in records.take(count as usize) {
-                sum = sum.wrapping_mul(31).wrapping_add(length as usize);
-                for &offset in row {
-                    sum = sum.wrapping_add(offset as usize);
-                }
+            let (lengths, offsets) = (&mut records.lengths, &mut records.offsets);
+            let count = gougelily::step_many(plan, &mut state, lengths, offsets);
+            black_box(&mut *records);
+            if summed {
+                sum = records.sum(sum, count as usize, operands);
+            }
+        }
+        sum
+    }
+
+    /// The original, its blocks written where many steps write them.
+    fn written(&self, records: &mut Records) -> usize {
+        let mut at = 0;
+        self.each(|offsets, length| {
+            records.lengths[at] = length as u64;
+            let row = &mut records.offsets[at * offsets.len()..(at + 1) * offsets.len()];
+            for (place, &offset) in row.iter_mut().zip(offsets) {
+                *place = offset as i64;
+            }
+            at += 1;
+            if at == MANY {
+                black_box(&mut *records);
+                at = 0;
+            }
+        });
+        at
+    }
+}
+
+/// The two slices that many steps fill.
+struct Records {
+    lengths: [u64; MANY],
+    offsets: [i64; 8 * MANY],
+}
+
+impl Records {
+    fn new() -> Records {
+        Records {
+            lengths: [0; MANY],
+            offsets: [0; 8 * MANY],
+        }
+    }
+
+    fn sum(&self, mut sum: usize, count: usize, operands: usize) -> usize {
+        let records = self.offsets.chunks(operands).zip(&self.lengths);
+        for (row, &length) in records.take(count) {
+            sum = sum.wrapping_mul(31).wrapping_add(length as usize);
+            for &offset in row {
+                sum = sum.wrapping_add(offset as usize);
             }
         }
         sum
@@ -125,9 +168,12 @@ const MANY: usize = 1024;
 pub struct Row {
     pub name: String,
     pub blocks: usize,
-    pub original: f64,
-    pub step: f64,
+    /// The original with the closure that writes, and many steps.
+    pub written: f64,
     pub many: f64,
+    /// The original with the closure that sums, and single steps.
+    pub summed: f64,
+    pub step: f64,
 }
 
 pub fn times(runs: u64) -> Vec<Row> {
@@ -146,16 +192,21 @@ pub fn times(runs: u64) -> Vec<Row> {
             "{}: other blocks",
             named.name
         );
-        assert_eq!(case.original(), case.many(), "{}: other blocks", named.name);
-        let (original, step) = timing::best(runs, &mut || case.original(), &mut || case.steps());
-        let (again, many) = timing::best(runs, &mut || case.original(), &mut || case.many());
-        let original = original.min(again);
+        let (mut first, mut second) = (Records::new(), Records::new());
+        let sum = case.many(&mut first, true);
+        assert_eq!(case.original(), sum, "{}: other blocks", named.name);
+        let (summed, step) = timing::best(runs, &mut || case.original(), &mut || case.steps());
+        let (written, many) = timing::best(runs, &mut || case.written(&mut first), &mut || {
+            case.many(&mut second, false)
+        });
+        let each = |time: f64| time / blocks as f64;
         found.push(Row {
             name: named.name,
             blocks,
-            original: original / blocks as f64,
-            step: step / blocks as f64,
-            many: many / blocks as f64,
+            written: each(written),
+            many: each(many),
+            summed: each(summed),
+            step: each(step),
         });
     }
     found

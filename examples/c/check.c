@@ -309,7 +309,14 @@ static void known_texts(void)
     CHECK(text_of(text, room, sizeof room) == (int64_t)length && memcmp(room, output, length) == 0);
     for (size_t i = length; i < sizeof room; i++)
         CHECK(room[i] == '#');
-    CHECK(text_of(text, room, length) == (int64_t)length && text_of(text, room, length - 1) == -GOUGELILY_ROOM);
+    /* Every length of the room, from none to past the output. */
+    for (size_t size = 0; size <= length + 16; size++) {
+        const size_t kept = size < length ? 0 : length;
+        memset(room, '#', sizeof room);
+        CHECK(text_of(text, room, size) == (size < length ? -GOUGELILY_ROOM : (int64_t)length));
+        for (size_t i = kept; i < size; i++)
+            CHECK(room[i] == '#');
+    }
     CHECK(gougelily_walklist((const uint8_t *)text, sizeof text - 1, NULL, 0) == -GOUGELILY_ROOM);
     CHECK(gougelily_walklist(NULL, 0, NULL, 0) == -GOUGELILY_FORM);
     CHECK(text_of("L,P,0,0,-\nE\n", room, sizeof room) == -GOUGELILY_OPERANDS);

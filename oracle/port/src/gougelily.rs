@@ -132,6 +132,12 @@ mod library {
             block_offsets: *mut i64,
             offset_count: usize,
         ) -> i64;
+        pub fn gougelily_walklist(
+            text: *const u8,
+            text_length: usize,
+            room: *mut u8,
+            room_length: usize,
+        ) -> i64;
         pub fn gougelily_repeat_mark(
             extents: *const u64,
             rank: usize,
@@ -273,6 +279,11 @@ faces! {
             offsets.as_mut_ptr(),
             offsets.len(),
         )
+    }
+
+    /// The listing of a layout's text: its length.
+    pub fn walklist(text: &[u8], room: &mut [u8]) -> i64 {
+        library::gougelily_walklist(text.as_ptr(), text.len(), room.as_mut_ptr(), room.len())
     }
 
     /// The repeat mark of an operand: 1 for yes, 0 for no.
