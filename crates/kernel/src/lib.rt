@@ -237,7 +237,7 @@ fn fold_plan<'a>(
     )
 }
 
-// Either, by the purpose.
+// The plan of a layout that is not refused, for any purpose, made in arrays of zeros: for whoever has checked the layout, as the text entry has.
 pub fn plan_into<'a>(
     extents: &'a [u64],
     sizes: &'a [u64],

@@ -1,5 +1,6 @@
 -- Many steps in one call, for hosts that pay for every call: two lent slices get as many of the next blocks as they have room for. The blocks
--- are those that repeated steps hand out, and the state handed back is theirs.
+-- are those that repeated steps hand out, and the state handed back is theirs. Document 01 does not name this entry; it adds nothing to what
+-- a step is.
 -- Assumes nothing.
 use mathlib.Core.List.{List, [], _∷_, _++_, map}
 use Prim.Native.Nat.{ℕ, zero, suc, _/_, min}

@@ -1,3 +1,4 @@
+-- `advance::advance` meets its contract. Assumes nothing.
 use Rattle.advance.proofs.Turns.{inside-done, tile-done}
 use native.Mathlib.Omega.{arith}
 use Prim.Native.Nat.{_≤_}

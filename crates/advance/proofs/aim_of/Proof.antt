@@ -1,3 +1,4 @@
+-- `advance::aim_of` meets its contract. Assumes nothing.
 use Rattle.advance.specs.Axis.{aimOf, insideAim, tileAim}
 use mathlib.Core.Path.{_≡_, refl, sym, ap, subst, _∙_}
 use borrow.Author.Needs.{needs}

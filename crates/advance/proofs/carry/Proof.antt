@@ -1,3 +1,4 @@
+-- `advance::carry` meets its contract. Assumes nothing.
 use Prim.Native.Nat.{_<_}
 use Prim.Native.Nat.{_≤_}
 use borrow.Author.Needs.{needs}

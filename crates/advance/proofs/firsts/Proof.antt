@@ -1,3 +1,4 @@
+-- `advance::firsts` meets its contract. Assumes nothing.
 use borrow.Author.Needs.{needs, sfits-of}
 use borrow.Author.Tests.{eq-eqb, ne-eqb}
 use mathlib.Core.Path.{_≡_, refl, sym, ap, _∙_, subst}

@@ -1,3 +1,4 @@
+-- `advance::inner_axes` meets its contract. Assumes nothing.
 use Rattle.advance.proofs.Turns.{single-all, single-more}
 use Rattle.advance.specs.Carry.{Single}
 use Prim.Native.Nat.{ℕ, _≤_, _-_}

@@ -1,3 +1,4 @@
+-- `advance::inside_aim` meets its contract. Assumes nothing.
 use Rattle.advance.proofs.Axis.{inside-ahead, inside-back, inside-last}
 use Prim.Native.Nat.{ℕ, _-_, _≤_}
 use mathlib.Core.Bool.{Bool, true, false, cond}

@@ -1,3 +1,4 @@
+-- `advance::length_of` meets its contract. Assumes nothing.
 use lib.ListN.{getD}
 use Prim.Native.Nat.{ℕ, _<_}
 use Rattle.advance.proofs.Axis.{length-cut, length-left}

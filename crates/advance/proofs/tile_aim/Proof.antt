@@ -1,3 +1,4 @@
+-- `advance::tile_aim` meets its contract. Assumes nothing.
 use Rattle.advance.proofs.Axis.{tile-ahead, tile-back}
 use Prim.Native.Nat.{ℕ, _≤_}
 use native.Mathlib.Omega.{arith}

@@ -1,3 +1,4 @@
+-- `advance::tile_start` meets its contract. Assumes nothing.
 use native.Mathlib.Nat.{lt-of-le-of-lt, div-mul-le-self}
 use borrow.Author.Needs.{needs}
 use Rattle.advance.proofs.tile_start.Statement.{statement}

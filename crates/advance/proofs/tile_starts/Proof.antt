@@ -1,3 +1,4 @@
+-- `advance::tile_starts` meets its contract. Assumes nothing.
 use Rattle.advance.specs.Axis.{tileAt, startsTo}
 use Rattle.advance.specs.Filled.{filled-none, filled-more}
 use Prim.Native.Nat.{ℕ, zero-le, _≤_, _-_}

@@ -1,3 +1,4 @@
+-- `advance::width_of` meets its contract. Assumes nothing.
 use Rattle.advance.specs.Axis.{widthOf}
 use mathlib.Core.Logic.{⊎-elim}
 use borrow.Author.Tests.{lt-ltb, le-ltb, le-leb, lt-leb, eq-eqb, ne-eqb}

@@ -1,3 +1,4 @@
+-- `advance::widths` meets its contract. Assumes nothing.
 use borrow.Author.Needs.{needs}
 use Rattle.advance.specs.Axis.{widthAt, widthsTo}
 use Rattle.advance.specs.Filled.{filled-none, filled-more}

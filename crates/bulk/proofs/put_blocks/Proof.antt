@@ -1,3 +1,4 @@
+-- `bulk::put_blocks` meets its contract. Assumes nothing.
 use Rattle.bulk.proofs.Turns.{Turned, turned-none, turned-roomy, turned-few, turned-place, turned-places, turned-many, turned-long, turned-next, wrote-last, wrote-full}
 use Rattle.states.specs.Reaches.{planOf, walkOf}
 use Rattle.walk.proofs.Stepping.{axes-few, widths-here}

@@ -1,3 +1,4 @@
+-- `bulk::put_offsets` meets its contract. Assumes nothing.
 use Rattle.bulk.proofs.Laying.{put-next}
 use borrow.Author.Needs.{needs, sfits-of}
 use mir.Facts.{toZ-ofZ}

@@ -1,3 +1,4 @@
+-- `decline::stride_size` meets its contract. Assumes nothing.
 use mathlib.Core.Path.{_≡_, ap, _∙_}
 use Prim.Native.Nat.{_+_, _*_}
 use lib.IntN.{ℤ, pos, natAbs}

@@ -1,3 +1,4 @@
+-- `states::begin` meets its contract. Assumes nothing.
 use Prim.Native.Nat.{ℕ, _≤_}
 use lib.ListN.{length}
 use Rattle.states.proofs.Table.{begun-refused, served-axes, served-starts, begun-served}

@@ -1,3 +1,4 @@
+-- `states::check_begin` meets its contract. Assumes nothing.
 use mathlib.Core.Path.{_≡_, refl, ap, _∙_}
 use mathlib.Core.Bool.{not}
 use mathlib.Core.List.{[]}

@@ -1,3 +1,4 @@
+-- `states::no_block` meets its contract. Assumes nothing.
 use mathlib.Core.Path.{_≡_, refl, sym, ap, subst, _∙_}
 use lib.ListN.{length-take}
 use native.Mathlib.Omega.{arith}

@@ -1,3 +1,4 @@
+-- `states::offsets_of` meets its contract. Assumes nothing.
 use Rattle.states.proofs.Blanks.{starts-padded}
 use Rattle.advance.specs.Filled.{filledTo, filled-none, filled-more}
 use borrow.Author.Needs.{sfits-of}

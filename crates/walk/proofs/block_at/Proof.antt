@@ -1,3 +1,4 @@
+-- `walk::block_at` meets its contract. Assumes nothing.
 use Rattle.advance.proofs.Turns.{single-all}
 use Rattle.walk.proofs.Stepping.{axes-few, operands-few, widths-here, tiled-here, roomy-here, block-step}
 use mathlib.Core.Path.{_≡_, refl, sym, ap, subst, _∙_}

@@ -1,3 +1,4 @@
+-- `l1::L1Sets::in_one_set` meets its contract. Assumes nothing.
 use mathlib.Core.Path.{_≡_, sym, ap}
 use mathlib.Core.Bool.{Bool, not, _&&_}
 use Prim.Native.Nat.{ℕ, _%_}

@@ -1,3 +1,4 @@
+-- `l1::L1Sets::live_axes` meets its contract. Assumes nothing.
 use native.Mathlib.Omega.{arith}
 use mathlib.Core.Path.{_≡_, sym, subst, _∙_}
 use Prim.Native.Nat.{ℕ, _<_, _≤_}

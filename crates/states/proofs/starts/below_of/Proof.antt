@@ -1,3 +1,4 @@
+-- `states::starts::below_of` meets its contract. Assumes nothing.
 use Rattle.laws.specs.Walk.Row9.{belowTerm}
 use Rattle.layout.proofs.Caps.{elem-read}
 use Prim.Native.Nat.{_<_, _*_, _^_}

@@ -1,3 +1,4 @@
+-- `states::starts::below_on` meets its contract. Assumes nothing.
 use Rattle.states.proofs.Ways.{back-le, ahead-le, back-is, ahead-is}
 use lib.IntN.{natAbs}
 use mir.Facts.{toZ-ofZ}

@@ -1,3 +1,4 @@
+-- `states::starts::leaves_at` meets its contract. Assumes nothing.
 use Prim.Native.Nat.{_≤_, _<_, _-_, _^_}
 use native.Mathlib.Omega.{arith}
 use Rattle.states.proofs.Ways.{placed-part, low-fits, low-le, high-fits, too-low, high-test}

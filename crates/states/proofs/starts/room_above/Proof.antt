@@ -1,3 +1,4 @@
+-- `states::starts::room_above` meets its contract. Assumes nothing.
 use Rattle.states.proofs.Rooms.{greatest-fits, compared-above, room-over}
 use borrow.Author.Needs.{needs}
 use Rattle.states.proofs.starts.room_above.Statement.{statement}

@@ -1,3 +1,4 @@
+-- `states::starts::room_below` meets its contract. Assumes nothing.
 use Rattle.states.proofs.Rooms.{least-fits, compared, room}
 use borrow.Author.Needs.{needs}
 use Rattle.states.proofs.starts.room_below.Statement.{statement}

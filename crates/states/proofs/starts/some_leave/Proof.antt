@@ -1,3 +1,4 @@
+-- `states::starts::some_leave` meets its contract. Assumes nothing.
 use Rattle.states.proofs.Ways.{stands-at}
 use Rattle.states.specs.Starts.{leavesAt}
 use Rattle.laws.specs.Refusals.Operands.{some-of-empty, some-of-step, some-of-found}

@@ -1,3 +1,4 @@
+-- `states::starts::starts_leave` meets its contract. Assumes nothing.
 use Rattle.states.proofs.Table.{standing-of}
 use Rattle.laws.specs.Refusals.Operands.{operands-zero, operands-some}
 use Rattle.states.specs.Starts.{someLeave, leavesAt}

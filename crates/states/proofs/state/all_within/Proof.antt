@@ -1,3 +1,4 @@
+-- `states::state::all_within` meets its contract. Assumes nothing.
 use Rattle.states.proofs.Blanks.{within-not, within-next, within-end}
 use Rattle.strided.specs.Layout.{within}
 use lib.ListN.{length, drop}

@@ -1,3 +1,4 @@
+-- `states::state::all_zero` meets its contract. Assumes nothing.
 use Rattle.states.proofs.Blanks.{blank-not, blank-next, blank-end}
 use Rattle.laws.specs.Base.Arrays.{blank-ℕ}
 use Rattle.strided.specs.Step.{blank, blankZ}

@@ -1,3 +1,4 @@
+-- `states::state::all_zero_signed` meets its contract. Assumes nothing.
 use lib.ListN.{getD}
 use lib.IntN.{pos}
 use Rattle.layout.proofs.Caps.{elem-read}

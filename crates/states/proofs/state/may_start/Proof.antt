@@ -1,3 +1,4 @@
+-- `states::state::may_start` meets its contract. Assumes nothing.
 use mathlib.Core.Bool.{not}
 use Rattle.states.specs.Reaches.{mayStart}
 use mathlib.Core.Path.{_≡_, refl, sym, ap, subst, _∙_}

@@ -1,3 +1,4 @@
+-- `states::state::on_start` meets its contract. Assumes nothing.
 use lib.ListN.{getD}
 use lib.Dec.{eqb}
 use Prim.Native.Nat.{ℕ, _%_}

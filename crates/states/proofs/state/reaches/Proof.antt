@@ -1,3 +1,4 @@
+-- `states::state::reaches` meets its contract. Assumes nothing.
 use Rattle.states.proofs.Table.{cut-length}
 use Rattle.states.proofs.Reaching.{blocks-long, counters-long, laid-here, untidy, may-not, stands-not, leave-last, begins-here}
 use native.Mathlib.Omega.{arith}

@@ -1,3 +1,4 @@
+-- `states::state::stands` meets its contract. Assumes nothing.
 use Rattle.states.proofs.Reaching.{stands-ended, stands-out, stands-on}
 use Rattle.states.proofs.Blanks.{blank-zeros, within-inside}
 use Rattle.states.specs.Reaches.{standing}

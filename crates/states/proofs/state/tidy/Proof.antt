@@ -1,3 +1,4 @@
+-- `states::state::tidy` meets its contract. Assumes nothing.
 use Rattle.states.proofs.Reaching.{tidy-not, tidy-last}
 use mathlib.Core.Path.{_≡_, refl, sym, ap, subst, _∙_}
 use borrow.Author.Needs.{needs}

@@ -1,3 +1,4 @@
+-- `writing::line::axis_len` meets its contract. Assumes nothing.
 use Rattle.writing.proofs.Lines.{line-measured, axis-fields}
 use borrow.Author.Needs.{needs}
 use Rattle.writing.proofs.line.axis_len.Statement.{statement}

@@ -1,3 +1,4 @@
+-- `writing::line::block_len` meets its contract. Assumes nothing.
 use Rattle.writing.proofs.Lines.{line-measured, block-fields}
 use borrow.Author.Needs.{needs}
 use Rattle.writing.proofs.line.block_len.Statement.{statement}

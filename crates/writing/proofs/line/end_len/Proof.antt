@@ -1,3 +1,4 @@
+-- `writing::line::end_len` meets its contract. Assumes nothing.
 use Rattle.writing.proofs.Lines.{line-measured, figures-fields}
 use borrow.Author.Needs.{needs}
 use Rattle.writing.proofs.line.end_len.Statement.{statement}

@@ -1,3 +1,4 @@
+-- `writing::line::line_len` meets its contract. Assumes nothing.
 use native.Mathlib.Omega.{arith}
 use lib.ListN.{length-append}
 use Rattle.strided.specs.Base.{over}

@@ -1,3 +1,4 @@
+-- `writing::line::put_axis` meets its contract. Assumes nothing.
 use Rattle.writing.proofs.Lines.{line-room, line-written, axis-fields}
 use borrow.Author.Needs.{needs}
 use Rattle.writing.proofs.line.put_axis.Statement.{statement}

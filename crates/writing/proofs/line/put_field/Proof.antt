@@ -1,3 +1,4 @@
+-- `writing::line::put_field` meets its contract. Assumes nothing.
 use native.Mathlib.Omega.{arith}
 use Rattle.writing.proofs.Putting.{wrote-then}
 use borrow.Author.Needs.{needs}

@@ -1,3 +1,4 @@
+-- `writing::line::put_line` meets its contract. Assumes nothing.
 use native.Mathlib.Omega.{arith}
 use mathlib.Core.List.{[], _∷_}
 use Rattle.strided.specs.Base.{over}

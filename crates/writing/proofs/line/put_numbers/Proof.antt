@@ -1,3 +1,4 @@
+-- `writing::line::put_numbers` meets its contract. Assumes nothing.
 use borrow.Author.Needs.{needs}
 use Prim.Native.Nat.{_+_, _-_}
 use lib.ListN.{length, getD, drop}

@@ -1,3 +1,4 @@
+-- `writing::line::put_signed` meets its contract. Assumes nothing.
 use borrow.Author.Needs.{needs}
 use mathlib.Core.Path.{ap}
 use Prim.Native.Nat.{_+_, _-_}

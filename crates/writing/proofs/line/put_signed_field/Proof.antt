@@ -1,3 +1,4 @@
+-- `writing::line::put_signed_field` meets its contract. Assumes nothing.
 use native.Mathlib.Omega.{arith}
 use mathlib.Core.Path.{ap}
 use mir.Facts.{toZ-ofZ}

@@ -1,3 +1,4 @@
+-- `writing::line::rank_len` meets its contract. Assumes nothing.
 use Rattle.writing.proofs.Lines.{line-measured, rank-fields}
 use borrow.Author.Needs.{needs}
 use Rattle.writing.proofs.line.rank_len.Statement.{statement}

@@ -1,3 +1,4 @@
+-- `writing::number::put_byte` meets its contract. Assumes nothing.
 use borrow.Author.Needs.{needs}
 use mathlib.Core.Path.{refl}
 use Rattle.writing.proofs.Putting.{put-one}

@@ -1,3 +1,4 @@
+-- `writing::number::put_i64` meets its contract. Assumes nothing.
 use native.Mathlib.Omega.{arith}
 use borrow.Author.Needs.{needs}
 use mathlib.Core.Path.{refl, sym, ap}

@@ -1,3 +1,4 @@
+-- `writing::number::put_u64` meets its contract. Assumes nothing.
 use borrow.Author.Needs.{needs}
 use native.Mathlib.Omega.{arith}
 use lib.ListN.{length-set}

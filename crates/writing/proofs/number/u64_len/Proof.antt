@@ -1,3 +1,4 @@
+-- `writing::number::u64_len` meets its contract. Assumes nothing.
 use native.Mathlib.Omega.{arith}
 use mathlib.Core.Path.{_≡_}
 use Prim.Native.Nat.{_+_}

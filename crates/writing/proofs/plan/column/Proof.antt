@@ -1,3 +1,4 @@
+-- `writing::plan::column` meets its contract. Assumes nothing.
 use borrow.Author.Needs.{needs}
 use borrow.Author.Needs.{needs, sfits-of}
 use native.Mathlib.Omega.{arith}

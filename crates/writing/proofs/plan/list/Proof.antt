@@ -1,3 +1,4 @@
+-- `writing::plan::list` meets its contract. Assumes nothing.
 use native.Mathlib.Omega.{arith}
 use mathlib.Core.Path.{ap, _∙_}
 use Prim.Native.Nat.{_^_, _<_}

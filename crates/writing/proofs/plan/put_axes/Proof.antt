@@ -1,3 +1,4 @@
+-- `writing::plan::put_axes` meets its contract. Assumes nothing.
 use borrow.Author.Needs.{needs}
 use Prim.Native.Nat.{_-_}
 use Rattle.strided.specs.Base.{over, run}

@@ -1,3 +1,4 @@
+-- `writing::plan::put_axis_at` meets its contract. Assumes nothing.
 use mathlib.Core.Path.{sym, ap, subst}
 use mathlib.Core.List.{List}
 use Prim.Native.Nat.{_+_, _≤_}

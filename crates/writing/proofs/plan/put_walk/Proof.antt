@@ -1,3 +1,4 @@
+-- `writing::plan::put_walk` meets its contract. Assumes nothing.
 use native.Mathlib.Omega.{arith}
 use mathlib.Core.Path.{sym, _∙_}
 use mathlib.Core.Bool.{Bool·not-not}

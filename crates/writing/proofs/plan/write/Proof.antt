@@ -1,3 +1,4 @@
+-- `writing::plan::write` meets its contract. Assumes nothing.
 use native.Mathlib.Omega.{arith}
 use mathlib.Core.Path.{sym}
 use mathlib.Core.List.{[], append-nil}
