@@ -3,6 +3,7 @@ pub mod Filled
 pub mod Moves
 pub mod Axis
 pub mod Carry
+pub mod Stretch
 pub mod Blocks
 pub mod Bridge
 pub mod Offsets

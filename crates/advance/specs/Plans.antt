@@ -6,6 +6,7 @@ use mathlib.Core.Bool.{Bool, true, false, cond, _&&_, _||_, not, false≢true}
 use mathlib.Core.List.{List, [], _∷_, map}
 use mathlib.Core.Option.{Option, none, some}
 use Prim.Native.Nat.{ℕ, zero, suc, _+_, _-_, _*_, _^_, _≤_, _<_, min}
+use native.Mathlib.Nat.{div-add-mod'}
 use native.Mathlib.Omega.{arith}
 use lib.Dec.{ltb, leb, eqb}
 use lib.IntN.{ℤ, pos, natAbs, _+ℤ_, _-ℤ_, _*ℤ_, +ℤ-negℤ-cancel}
@@ -109,6 +110,12 @@ length-any (suc n) e ws (s ∷ v) lc = rw (ne-eqb (suc n) 0 (λ q. bad n q)) (go
     go : (x : Bool) → ltb w (getD e 0 0 - s) ≡ x → cond x w (getD e 0 0 - s) ≡ min w (getD e 0 0 - s)
     go true q = omega (arith, ltb-true w (getD e 0 0 - s) q)
     go false q = omega (arith, ltb-false w (getD e 0 0 - s) q)
+
+-- axis 0 stands where a tile starts
+start-any : (rank : ℕ) (e ws c : List ℕ) → length c ≡ rank → OnStart (axesAt e ws 0 rank) c → 0 < rank → getD (padded 64 0 c) 0 0 ≡ startOf (getD ws 0 0) (getD (padded 64 0 c) 0 0)
+start-any zero e ws c lc o h = absurd (let z : ⊥ = omega arith in z)
+start-any (suc n) e ws [] lc o h = absurd (let z : ⊥ = omega arith in z)
+start-any (suc n) e ws (s ∷ v) lc o h = let d = div-add-mod' s (getD ws 0 0) in omega (arith, d, o)
 
 first-at : (ts : List ℤ) → firstOf ts ≡ getD ts 0 (pos 0)
 first-at [] = refl
@@ -288,3 +295,7 @@ module _ (p : Plan) (zs : List ℤ) (r : Ready p zs) (z : Sized p) where
         (subst (λ (l : List CutAxis). Inside l c) (sym axes) (h .0)) (subst (λ (l : List CutAxis). OnStart l c) (sym axes) (h .1))
         (λ y g. long-next y (ap (λ (l : List CutAxis). next l c) (sym axes) ∙ g))
         ∙ ap (λ (l : List CutAxis). put 64 (zeros l) (next l c)) axes
+
+    pub first-start : 0 < p .rank → getD (C c) 0 0 ≡ startOf (getD W 0 0) (getD (C c) 0 0)
+    first-start =
+        start-any (p .rank) (p .extents) W c long (subst (λ (l : List CutAxis). OnStart l c) (sym axes) (walk-reach (planCutAxes p) c (wide p zs r) .0 (n, e) .1))

@@ -9,6 +9,8 @@ ghost use Rattle.advance.specs.Axis.{widthOf, startOf, insideAim, tileAi
 ghost use Rattle.advance.specs.Carry.{Roomy, Tiled, Single, CarriedTo, AdvancedTo};
 ghost use Rattle.advance.specs.Blocks.{lengthOf, firstsOf};
 
+pub mod stretch;
+
 // The offset `o` after a move along an axis of stride `s`, from one counter to another. Where the stride is 0 the counters may be any.
 pub fn moved(o: i64, s: i64, from: u64, to: u64) -> i64
     requires { ⌜ Moves o s from to ⌝ }

@@ -8,9 +8,12 @@ ghost use Rattle.strided.specs.Bulk.{roomFor, SteppedMany, steppedMany};
 ghost use Rattle.states.specs.Reaches.{planOf, walkOf};
 ghost use Rattle.walk.specs.Lent.{Taken};
 ghost use Rattle.bulk.specs.Blocks.{notSeveral, handed, HasRoom, Wrote};
-use advance::advance;
 use advance::inner_axes;
 use advance::length_of;
+use advance::stretch::along;
+use advance::stretch::moves;
+use advance::stretch::onward;
+use advance::stretch::pace;
 use advance::tile_starts;
 use advance::widths;
 use layout::operands_wrong;
@@ -98,6 +101,9 @@ fn put_blocks<'a>(
 {
     let w = widths(rank, e, b);
     let inner = inner_axes(rank, &w);
+    let axis = along(inner);
+    let by = pace(axis, rank, e, &w);
+    let d = moves(operands, axis, by, s);
     let mut c = counters;
     let mut o = start;
     let mut t = tile_starts(rank, &w, &c);
@@ -107,7 +113,20 @@ fn put_blocks<'a>(
         lengths[n] = length;
         put_offsets(operands, n * operands, &o, &mut *offsets);
         n += 1;
-        let more = advance(rank, inner, operands, e, &w, s, &mut t, &mut c, &mut o);
+        let more = onward(
+            axis,
+            by,
+            rank,
+            inner,
+            operands,
+            e,
+            &w,
+            s,
+            &d,
+            &mut t,
+            &mut c,
+            &mut o,
+        );
         if !more {
             return blocks_written(n, true, c, o);
         }

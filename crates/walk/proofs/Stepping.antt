@@ -27,10 +27,10 @@ use Rattle.laws.specs.Base.Tests.{and-both, or-none}
 use Rattle.laws.specs.Walk.States.{stateAfter}
 use Rattle.laws.specs.Walk.Row10.{Sized, row10-exact}
 use Rattle.laws.specs.Walk.Steps.{Ready, ready, served-walk, at, raw, step-at, walk-state}
-use Rattle.advance.specs.Axis.{widthsTo, startsTo}
+use Rattle.advance.specs.Axis.{widthsTo, startOf, startsTo}
 use Rattle.advance.specs.Carry.{Roomy, Tiled, AdvancedTo}
 use Rattle.advance.specs.Blocks.{lengthOf, firstsOf}
-use Rattle.advance.specs.Plans.{W, C, O, length-is, firsts-are}
+use Rattle.advance.specs.Plans.{W, C, O, length-is, firsts-are, first-start}
 use Rattle.advance.specs.Plans as plans
 use Rattle.advance.specs.Reached.{widths-pos, tiled, roomy, advanced}
 use Rattle.states.specs.Reaches.{Arrays, planOf, walkOf, reaches}
@@ -188,6 +188,13 @@ module _ (p : Plan) (w : Walk) (k : Taken p w) where
     roomy-here =
         subst (λ (v : Walk). Roomy (p .rank) (p .operands) (p .extents) (p .strides) (v .counters) (v .offsets)) (sym (q .here))
         (roomy p zs r sized (k .reached .steps) (q .c) (q .is))
+
+    -- axis 0 stands where a tile starts
+    pub start-here : (v : List ℕ) → v ≡ ws → 0 < p .rank → getD (w .counters) 0 0 ≡ startOf (getD v 0 0) (getD (w .counters) 0 0)
+    start-here v is =
+        subst (λ (u : List ℕ). 0 < p .rank → getD (w .counters) 0 0 ≡ startOf (getD u 0 0) (getD (w .counters) 0 0)) (sym is)
+        (subst (λ (g : Walk). 0 < p .rank → getD (g .counters) 0 0 ≡ startOf (getD ws 0 0) (getD (g .counters) 0 0)) (sym (q .here))
+        (first-start p zs r sized (k .reached .steps) (q .c) (q .is)))
 
     -- THE STEP, out of what the functions on arrays gave
     pub block-step : (v : List ℕ) → v ≡ ws → {n : ℕ} {ts : List ℤ} {more : Bool} {t′ c′ : List ℕ} {o′ : List ℤ}

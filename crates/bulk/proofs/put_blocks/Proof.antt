@@ -1,7 +1,8 @@
 -- `bulk::put_blocks` meets its contract. Assumes nothing.
 use Rattle.bulk.proofs.Turns.{Turned, turned-none, turned-roomy, turned-few, turned-place, turned-places, turned-many, turned-long, turned-next, wrote-last, wrote-full}
 use Rattle.states.specs.Reaches.{planOf, walkOf}
-use Rattle.walk.proofs.Stepping.{axes-few, widths-here}
+use Rattle.walk.proofs.Stepping.{axes-few, widths-here, roomy-here, start-here}
+use Rattle.advance.proofs.Stretches.{along-at, moves-fit}
 use borrow.Author.Needs.{needs}
 use borrow.Author.Tests.{not-true, not-false}
 use native.Mathlib.Nat.{le-antisymm}
@@ -15,36 +16,39 @@ use Rattle.bulk.proofs.put_blocks.Statement.{statement}
 use Rattle.bulk.proofs.put_blocks.Tie as tie
 use Rattle.bulk.proofs.put_blocks.Reads as reads
 use Rattle.bulk.proofs.put_blocks.Lts as lts
-use Rattle.advance.proofs.advance.Reads as advance-reads
 use Rattle.advance.proofs.inner_axes.Reads as inner-axes-reads
 use Rattle.advance.proofs.length_of.Reads as length-of-reads
+use Rattle.advance.proofs.stretch.along.Reads as along-reads
+use Rattle.advance.proofs.stretch.moves.Reads as moves-reads
+use Rattle.advance.proofs.stretch.onward.Reads as onward-reads
+use Rattle.advance.proofs.stretch.pace.Reads as pace-reads
 use Rattle.advance.proofs.tile_starts.Reads as tile-starts-reads
 use Rattle.advance.proofs.widths.Reads as widths-reads
 use Rattle.bulk.proofs.blocks_written.Reads as blocks-written-reads
 use Rattle.bulk.proofs.put_offsets.Reads as put-offsets-reads
 
 abbrev Inv-loop : tie.InvT-loop
-Inv-loop room rank operands e b s lengths₀ offsets₀ w inner c₀ o₀ t₀ n₀ lengths offsets c o t n =
+Inv-loop room rank operands e b s lengths₀ offsets₀ w inner axis by d c₀ o₀ t₀ n₀ lengths offsets c o t n =
     (n ≤ room) × Turned (planOf rank operands e b s) (walkOf false c₀ o₀) w lengths₀ offsets₀ n t c o lengths offsets
 
 abbrev μ-loop : tie.MeasureT-loop
-μ-loop room rank operands e b s lengths₀ offsets₀ w inner c₀ o₀ t₀ n₀ lengths offsets c o t n = room - n
+μ-loop room rank operands e b s lengths₀ offsets₀ w inner axis by d c₀ o₀ t₀ n₀ lengths offsets c o t n = room - n
 
 -- what holds in a turn
 abbrev In : Type 0
 In = tie.In-loop Inv-loop μ-loop
 
-roomy : (c : In) → Roomy (c .before .before .before .before .before .before .before .before .before .args .rank) (c .before .before .before .before .before .before .before .before .before .args .operands) (c .before .before .before .before .before .before .before .before .before .args .e .now) (c .before .before .before .before .before .before .before .before .before .args .s .now) (c .before .loop .c) (c .before .loop .o)
-roomy c = turned-roomy _ _ _ _ _ (c .before .before .before .before .before .before .before .widths .ensures) _ _ _ _ _ _ _ (c .before .loop .inv .1) (c .before .before .before .before .before .before .before .before .before .pre .1) (c .loop-test .taken)
+roomy : (c : In) → Roomy (c .before .before .before .before .before .before .before .before .before .before .before .before .before .args .rank) (c .before .before .before .before .before .before .before .before .before .before .before .before .before .args .operands) (c .before .before .before .before .before .before .before .before .before .before .before .before .before .args .e .now) (c .before .before .before .before .before .before .before .before .before .before .before .before .before .args .s .now) (c .before .loop .c) (c .before .loop .o)
+roomy c = turned-roomy _ _ _ _ _ (c .before .before .before .before .before .before .before .before .before .before .before .widths .ensures) _ _ _ _ _ _ _ (c .before .loop .inv .1) (c .before .before .before .before .before .before .before .before .before .before .before .before .before .pre .1) (c .loop-test .taken)
 
-few : (c : In) → c .before .before .before .before .before .before .before .before .before .args .operands ≤ 8
-few c = turned-few _ _ _ _ _ (c .before .before .before .before .before .before .before .widths .ensures) _ _ _ _ _ _ _ (c .before .loop .inv .1) (c .before .before .before .before .before .before .before .before .before .pre .1) (c .loop-test .taken)
+few : (c : In) → c .before .before .before .before .before .before .before .before .before .before .before .before .before .args .operands ≤ 8
+few c = turned-few _ _ _ _ _ (c .before .before .before .before .before .before .before .before .before .before .before .widths .ensures) _ _ _ _ _ _ _ (c .before .loop .inv .1) (c .before .before .before .before .before .before .before .before .before .before .before .before .before .pre .1) (c .loop-test .taken)
 
 place : (c : In) → c .before .loop .n < length (c .before .loop .lengths)
-place c = turned-place _ _ _ _ _ (c .before .before .before .before .before .before .before .widths .ensures) _ _ _ _ _ _ _ (c .before .loop .inv .1) (c .before .before .before .before .before .before .before .before .before .pre .1) (c .loop-test .taken)
+place c = turned-place _ _ _ _ _ (c .before .before .before .before .before .before .before .before .before .before .before .widths .ensures) _ _ _ _ _ _ _ (c .before .loop .inv .1) (c .before .before .before .before .before .before .before .before .before .before .before .before .before .pre .1) (c .loop-test .taken)
 
-places : (c : In) → c .before .loop .n * c .before .before .before .before .before .before .before .before .before .args .operands + c .before .before .before .before .before .before .before .before .before .args .operands ≤ length (c .before .loop .offsets)
-places c = turned-places _ _ _ _ _ (c .before .before .before .before .before .before .before .widths .ensures) _ _ _ _ _ _ _ (c .before .loop .inv .1) (c .before .before .before .before .before .before .before .before .before .pre .1) (c .loop-test .taken)
+places : (c : In) → c .before .loop .n * c .before .before .before .before .before .before .before .before .before .before .before .before .before .args .operands + c .before .before .before .before .before .before .before .before .before .before .before .before .before .args .operands ≤ length (c .before .loop .offsets)
+places c = turned-places _ _ _ _ _ (c .before .before .before .before .before .before .before .before .before .before .before .widths .ensures) _ _ _ _ _ _ _ (c .before .loop .inv .1) (c .before .before .before .before .before .before .before .before .before .before .before .before .before .pre .1) (c .loop-test .taken)
 
 widths-requires : tie.Need-widths-requires Inv-loop μ-loop
 widths-requires c κs = axes-few _ _ (c .before .pre .0)
@@ -52,57 +56,77 @@ widths-requires c κs = axes-few _ _ (c .before .pre .0)
 inner-axes-requires : tie.Need-inner-axes-requires Inv-loop μ-loop
 inner-axes-requires c κs = axes-few _ _ (c .before .before .before .pre .0)
 
+along-requires : tie.Need-along-requires Inv-loop μ-loop
+along-requires c κs = tt
+
+pace-requires : tie.Need-pace-requires Inv-loop μ-loop
+pace-requires c κs = axes-few _ _ (c .before .before .before .before .before .before .pre .0)
+
+moves-requires : tie.Need-moves-requires Inv-loop μ-loop
+moves-requires c κs =
+    moves-fit _ (roomy-here _ _ (c .before .before .before .before .before .before .before .pre .0) refl) (along-at _ _ _ (c .before .before .before .inner-axes .ensures) (c .before .before .along .ensures) .most) (c .pace .ensures)
+
 tile-starts-requires : tie.Need-tile-starts-requires Inv-loop μ-loop
-tile-starts-requires c κs =
-    let s = c .before .before .before .before .before .before in
-    (axes-few _ _ (s .pre .0), widths-here _ _ (s .pre .0) _ (c .before .before .before .before .widths .ensures))
+tile-starts-requires c κs = (axes-few _ _ (c .before .before .before .before .before .before .before .before .before .before .pre .0), widths-here _ _ (c .before .before .before .before .before .before .before .before .before .before .pre .0) _ (c .before .before .before .before .before .before .before .before .widths .ensures))
 
 loop-holds : tie.Need-loop-holds Inv-loop μ-loop
-loop-holds c =
-    let s = c .before .before .before .before .before .before .before in
-    (omega arith, turned-none _ _ _ _ _ (c .before .before .before .before .before .widths .ensures) (s .pre .0) refl _ (c .tile-starts .ensures))
+loop-holds c = (omega arith, turned-none _ _ _ _ _ (c .before .before .before .before .before .before .before .before .before .widths .ensures) (c .before .before .before .before .before .before .before .before .before .before .before .pre .0) refl _ (c .tile-starts .ensures))
 
 length-of-requires : tie.Need-length-of-requires Inv-loop μ-loop
 length-of-requires c κs = roomy (c .before .before) .within 0
 
 mul-lengths : tie.Need-mul-lengths Inv-loop μ-loop
-mul-lengths c = let g = place (c .before .before .before) in search needs
+mul-lengths c = let s = c .before .before .before .before .before .before .before .before .before .before .before .before .before .before .before .before in let g = place (c .before .before .before) in search needs
 
 slice-write-lengths : tie.Need-slice-write-lengths Inv-loop μ-loop
 slice-write-lengths c = place (c .before .before .before)
 
 mul-put-offsets : tie.Need-mul-put-offsets Inv-loop μ-loop
-mul-put-offsets c = let g = places (c .before .before .before) in search needs
+mul-put-offsets c = let s = c .before .before .before .before .before .before .before .before .before .before .before .before .before .before .before .before in let g = places (c .before .before .before) in search needs
 
 put-offsets-requires : tie.Need-put-offsets-requires Inv-loop μ-loop
 put-offsets-requires c κs = let i = c .before .before .before .before .before in (few i, i .before .loop .inv .1 .taken .offsets-all, places i)
 
 add-n : tie.Need-add-n Inv-loop μ-loop
-add-n c = search needs
+add-n c = let s = c .before .before .before .before .before .before .before .before .before .before .before .before .before .before .before .before .before .before .before .before in let t = c .before .before .before .before .before .before .before .loop-test .taken in search needs
 
-advance-requires : tie.Need-advance-requires Inv-loop μ-loop
-advance-requires c κs =
-    let i = c .before .before .before .before .before .before .before .before .before .before .before in
-    (roomy i, (i .before .loop .inv .1 .tiles, i .before .before .before .before .before .inner-axes .ensures))
+onward-requires : tie.Need-onward-requires Inv-loop μ-loop
+onward-requires c κs =
+    let i = c .before .before .before .before .before .before .before .before .before .before .before .before in
+    let u = i .before .before .before .before .before .before .before .before .before .inner-axes .ensures in (
+      roomy i,
+      (
+        i .before .loop .inv .1 .tiles,
+        (
+          u,
+          record {
+            along = along-at _ _ _ u (i .before .before .before .before .before .before .before .before .along .ensures);
+            way = i .before .before .before .before .before .before .pace .ensures;
+            moves = i .before .before .before .before .before .moves .ensures;
+            start = start-here _ _ (i .before .loop .inv .1 .taken) refl _ (i .before .before .before .before .before .before .before .before .before .before .before .widths .ensures);
+          },
+        ),
+      ),
+    )
 
 blocks-written-requires : tie.Need-blocks-written-requires Inv-loop μ-loop
 blocks-written-requires c κs = tt
 
 same-length : tie.Need-same-length Inv-loop μ-loop
 same-length c =
-    let i = c .before .before .before .before .before .before .before .before .before .before .before .before .before .before in
-    turned-many _ _ _ _ _ (i .before .before .before .before .before .before .before .widths .ensures) _ _ _ _ _ _ _ (i .before .loop .inv .1) (i .before .before .before .before .before .before .before .before .before .pre .1) (i .loop-test .taken) _
+    let i = c .before .before .before .before .before .before .before .before .before .before .before .before .before .before .before in
+    turned-many _ _ _ _ _ (i .before .before .before .before .before .before .before .before .before .before .before .widths .ensures) _ _ _ _ _ _ _ (i .before .loop .inv .1) (i .before .before .before .before .before .before .before .before .before .before .before .before .before .pre .1) (i .loop-test .taken) _
 
 same-length-2 : tie.Need-same-length-2 Inv-loop μ-loop
 same-length-2 c =
-    let i = c .before .before .before .before .before .before .before .before .before .before .before .before .before .before in
-    turned-long _ _ _ _ _ (i .before .before .before .before .before .before .before .widths .ensures) _ _ _ _ _ _ _ (i .before .loop .inv .1) (i .before .before .before .before .before .before .before .before .before .pre .1) (i .loop-test .taken) (c .before .before .before .before .before .before .before .before .put-offsets .ensures)
+    let i = c .before .before .before .before .before .before .before .before .before .before .before .before .before .before .before in
+    turned-long _ _ _ _ _ (i .before .before .before .before .before .before .before .before .before .before .before .widths .ensures) _ _ _ _ _ _ _ (i .before .loop .inv .1) (i .before .before .before .before .before .before .before .before .before .before .before .before .before .pre .1) (i .loop-test .taken) (c .before .before .before .before .before .before .before .before .before .put-offsets .ensures)
 
 returns : tie.Need-returns Inv-loop μ-loop
 returns c =
-    let i = c .before .before .before .before .before .before .before .before .before .before .before .before .before .before in
-    wrote-last _ _ _ _ _ (i .before .before .before .before .before .before .before .widths .ensures) _ _ _ _ _ _ _ (i .before .loop .inv .1) (i .before .before .before .before .before .before .before .before .before .pre .1) (i .loop-test .taken)
-    (c .before .before .before .before .before .before .before .before .before .before .before .length-of .ensures) (c .before .before .advance .ensures) (not-true _ (c .before .if1 .taken)) (i .before .before .before .before .before .before .before .before .before .pre .0) refl refl (c .before .before .before .before .before .before .before .before .put-offsets .ensures)
+    let i = c .before .before .before .before .before .before .before .before .before .before .before .before .before .before .before in
+    wrote-last _ _ _ _ _ (i .before .before .before .before .before .before .before .before .before .before .before .widths .ensures) _ _ _ _ _ _ _ (i .before .loop .inv .1) (i .before .before .before .before .before .before .before .before .before .before .before .before .before .pre .1) (i .loop-test .taken)
+    (c .before .before .before .before .before .before .before .before .before .before .before .before .length-of .ensures) (c .before .before .onward .ensures) (not-true _ (c .before .if1 .taken)) (i .before .before .before .before .before .before .before .before .before .before .before .before .before .pre .0) refl refl (c .before .before .before .before .before .before .before .before .before .put-offsets .ensures)
     (c .blocks-written .ensures)
 
 loop-less : tie.Need-loop-less Inv-loop μ-loop
@@ -110,10 +134,10 @@ loop-less c = search needs
 
 loop-again : tie.Need-loop-again Inv-loop μ-loop
 loop-again c =
-    let i = c .before .before .before .before .before .before .before .before .before .before .before .before .before in (
+    let i = c .before .before .before .before .before .before .before .before .before .before .before .before .before .before in (
       omega arith,
-      turned-next _ _ _ _ _ (i .before .before .before .before .before .before .before .widths .ensures) _ _ _ _ _ _ _ (i .before .loop .inv .1) (i .before .before .before .before .before .before .before .before .before .pre .1) (i .loop-test .taken)
-          (c .before .before .before .before .before .before .before .before .before .before .length-of .ensures) (c .before .advance .ensures) (not-false _ (c .if1 .left)) refl (c .before .before .before .before .before .before .before .put-offsets .ensures),
+      turned-next _ _ _ _ _ (i .before .before .before .before .before .before .before .before .before .before .before .widths .ensures) _ _ _ _ _ _ _ (i .before .loop .inv .1) (i .before .before .before .before .before .before .before .before .before .before .before .before .before .pre .1) (i .loop-test .taken)
+          (c .before .before .before .before .before .before .before .before .before .before .before .length-of .ensures) (c .before .onward .ensures) (not-false _ (c .if1 .left)) refl (c .before .before .before .before .before .before .before .before .put-offsets .ensures),
     )
 
 blocks-written-requires-2 : tie.Need-blocks-written-requires-2 Inv-loop μ-loop
@@ -128,7 +152,7 @@ same-length-4 c = c .before .before .loop .inv .1 .as-long
 returns-2 : tie.Need-returns-2 Inv-loop μ-loop
 returns-2 c =
     let l = c .before .before .loop in
-    wrote-full _ _ _ _ _ _ _ _ _ _ _ _ (l .inv .1) (le-antisymm (l .inv .0) (c .before .loop-test .left)) (c .before .before .before .before .before .before .before .before .before .before .pre .0) refl (c .blocks-written2 .ensures)
+    wrote-full _ _ _ _ _ _ _ _ _ _ _ _ (l .inv .1) (le-antisymm (l .inv .0) (c .before .loop-test .left)) (c .before .before .before .before .before .before .before .before .before .before .before .before .before .before .pre .0) refl (c .blocks-written2 .ensures)
 
 pub put-blocks-spec : {M : Type 1} → statement M
 put-blocks-spec =
@@ -138,6 +162,9 @@ put-blocks-spec =
     μ-loop
     widths-requires
     inner-axes-requires
+    along-requires
+    pace-requires
+    moves-requires
     tile-starts-requires
     loop-holds
     length-of-requires
@@ -146,7 +173,7 @@ put-blocks-spec =
     mul-put-offsets
     put-offsets-requires
     add-n
-    advance-requires
+    onward-requires
     blocks-written-requires
     same-length
     same-length-2
