@@ -102,6 +102,10 @@ moves-fit {rank} {operands} {axis} {by} {e} w {s} r a is = record {
       };
 }
 
+pub moves-long : {axis by rank operands : ℕ} {e w : List ℕ} {s d : List ℤ} {c : List ℕ} → Stretched axis by rank operands e w s d c → length d ≡ 8
+moves-long {axis} {by} {rank} {operands} {e} {w} {s} y =
+    ap length (y .moves) ∙ filled-length (replicate 8 (pos 0)) (movedAt axis 0 by s (replicate 8 (pos 0))) operands ∙ length-replicate {A = ℤ} 8 (pos 0)
+
 -- ---- moving on
 
 module _ {rank operands axis by : ℕ} {e w : List ℕ} {s d : List ℤ} {t c : List ℕ} {o : List ℤ} (r : Roomy rank operands e s c o) (q : Tiled rank w c t)
@@ -187,46 +191,42 @@ module _ {rank operands axis by : ℕ} {e w : List ℕ} {s d : List ℤ} {t c : 
     advanced = by-lt 0 axis (λ g. on-second (omega (arith, g, y .along .most))) (λ g. on-first (omega (arith, g)))
 
   -- what `ahead` asks
-  pub paced-on : Paced axis operands by e w d t c o
+  pub paced-on : Paced axis by e w t c
   paced-on = record {
-    few = r .few;
     inside = omega (arith, y .along .most);
-    moves = ap length (y .moves) ∙ filled-length (replicate 8 (pos 0)) (movedAt axis 0 by s (replicate 8 (pos 0))) operands ∙ length-replicate {A = ℤ} 8 (pos 0);
-    offered = r .offered;
     wide = λ h. q .wide axis (some h .there);
     within = λ h. r .within axis (some h .there);
     start = λ h. q .start axis (some h .there);
-    fits = fits;
   }
 
-  -- what it leaves is the next block's
-  pub ahead-advanced : {more : Bool} {t′ c′ : List ℕ} {o′ : List ℤ} → Ahead axis operands by e w d t c o more t′ c′ o′ → more ≡ true → AdvancedTo rank operands e w s c o true t′ c′ o′
-  ahead-advanced {more} {t′} {c′} {o′} a h =
-      let b = and-both (ltb 0 by) (aim .more) (sym (a .answer) ∙ h) in
-      let x : set t axis (aim .start) ≡ t′ = sym (a .starts ∙ ap (λ (m : Bool). cond m (set t axis (aim .start)) t) h) in
-      let v : set c axis (aim .to) ≡ c′ = sym (a .counters ∙ ap (λ (m : Bool). cond m (set c axis (aim .to)) c) h) in
-      let z : added operands d o ≡ o′ = sym (a .offsets ∙ ap (λ (m : Bool). cond m (added operands d o) o) h) in
-      subst (λ (u : List ℕ). AdvancedTo rank operands e w s c o true u c′ o′) x
-      (subst (λ (u : List ℕ). AdvancedTo rank operands e w s c o true (set t axis (aim .start)) u o′) v
-      (subst (AdvancedTo rank operands e w s c o true (set t axis (aim .start)) (set c axis (aim .to))) z (advanced (ltb-true 0 by (b .0)) (b .1))))
+  module _ {more : Bool} {t′ c′ : List ℕ} (a : Ahead axis by e w t c more t′ c′) (h : more ≡ true) where
+    both : (ltb 0 by ≡ true) × (aim .more ≡ true)
+    both = and-both (ltb 0 by) (aim .more) (sym (a .answer) ∙ h)
+
+    -- then the moves stay within 64 bits
+    pub ahead-fits : (k : ℕ) → k < operands → SFits w64 (addedAt d o k)
+    ahead-fits = fits (ltb-true 0 by (both .0)) (both .1)
+
+    -- and what is left is the next block's
+    pub ahead-advanced : {o′ : List ℤ} → o′ ≡ added operands d o → AdvancedTo rank operands e w s c o true t′ c′ o′
+    ahead-advanced {o′} z =
+        let x : set t axis (aim .start) ≡ t′ = sym (a .starts ∙ ap (λ (m : Bool). cond m (set t axis (aim .start)) t) h) in
+        let v : set c axis (aim .to) ≡ c′ = sym (a .counters ∙ ap (λ (m : Bool). cond m (set c axis (aim .to)) c) h) in
+        transport (λ i. AdvancedTo rank operands e w s c o true (x i) (v i) (sym z i)) (advanced (ltb-true 0 by (both .0)) (both .1))
 
 -- if there is no block ahead, what is left is what was
-module _ {axis operands by : ℕ} {e w : List ℕ} {d : List ℤ} {t c : List ℕ} {o : List ℤ} {more : Bool} {t′ c′ : List ℕ} {o′ : List ℤ}
-    (a : Ahead axis operands by e w d t c o more t′ c′ o′) (h : more ≡ false) where
+module _ {axis by : ℕ} {e w t c : List ℕ} {more : Bool} {t′ c′ : List ℕ} (a : Ahead axis by e w t c more t′ c′) (h : more ≡ false) where
   starts : t′ ≡ t
   starts = a .starts ∙ ap (λ (m : Bool). cond m (set t axis (stretchAim axis e w c .start)) t) h
 
   counters : c′ ≡ c
   counters = a .counters ∙ ap (λ (m : Bool). cond m (set c axis (stretchAim axis e w c .to)) c) h
 
-  offsets : o′ ≡ o
-  offsets = a .offsets ∙ ap (λ (m : Bool). cond m (added operands d o) o) h
-
-  pub stays-roomy : {rank : ℕ} {s : List ℤ} → Roomy rank operands e s c o → Roomy rank operands e s c′ o′
-  stays-roomy {rank} {s} r = transport (λ i. Roomy rank operands e s (sym counters i) (sym offsets i)) r
+  pub stays-roomy : {rank operands : ℕ} {s o : List ℤ} → Roomy rank operands e s c o → Roomy rank operands e s c′ o
+  stays-roomy {rank} {operands} {s} {o} r = subst (λ (u : List ℕ). Roomy rank operands e s u o) (sym counters) r
 
   pub stays-tiled : {rank : ℕ} → Tiled rank w c t → Tiled rank w c′ t′
   stays-tiled {rank} q = transport (λ i. Tiled rank w (sym counters i) (sym starts i)) q
 
-  pub then-advanced : {rank : ℕ} {s : List ℤ} {m : Bool} {t″ c″ : List ℕ} {o″ : List ℤ} → AdvancedTo rank operands e w s c′ o′ m t″ c″ o″ → AdvancedTo rank operands e w s c o m t″ c″ o″
-  then-advanced {rank} {s} {m} {t″} {c″} {o″} p = transport (λ i. AdvancedTo rank operands e w s (counters i) (offsets i) m t″ c″ o″) p
+  pub then-advanced : {rank operands : ℕ} {s o : List ℤ} {m : Bool} {t″ c″ : List ℕ} {o″ : List ℤ} → AdvancedTo rank operands e w s c′ o m t″ c″ o″ → AdvancedTo rank operands e w s c o m t″ c″ o″
+  then-advanced {rank} {operands} {s} {o} {m} {t″} {c″} {o″} p = subst (λ (u : List ℕ). AdvancedTo rank operands e w s u o m t″ c″ o″) counters p

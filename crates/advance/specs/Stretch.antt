@@ -6,9 +6,7 @@ use mathlib.Core.List.{List}
 use Prim.Native.Nat.{ℕ, _<_, _≤_}
 use lib.Dec.{ltb}
 use lib.IntN.{ℤ, pos, _+ℤ_}
-use lib.ListN.{length, getD, set, replicate}
-use mir.Syntax.{w64}
-use mir.Val.{SFits}
+use lib.ListN.{getD, set, replicate}
 use Rattle.advance.specs.declared.Aim.{Aim}
 use Rattle.advance.specs.Axis.{startOf, aimOf}
 use Rattle.advance.specs.Filled.{filledTo}
@@ -42,23 +40,18 @@ pub record Along (axis rank : ℕ) (w : List ℕ) : Type 0 where
   pub most : axis ≤ 1
   pub alone : axis ≡ 0 → (i : ℕ) → 1 ≤ i → i < rank → getD w i 0 ≡ 1
 
--- the arrays are as long as arrays are, the axis is in a tile that starts where t says, and no sum leaves 64 bits
-pub record Paced (axis operands by : ℕ) (e w : List ℕ) (d : List ℤ) (t c : List ℕ) (o : List ℤ) : Type 0 where
-  pub few : operands ≤ 8
+-- the axis is in a tile that starts where t says
+pub record Paced (axis by : ℕ) (e w t c : List ℕ) : Type 0 where
   pub inside : axis < 64
-  pub moves : length d ≡ 8
-  pub offered : length o ≡ 8
   pub wide : 0 < by → 0 < getD w axis 0
   pub within : 0 < by → getD c axis 0 < getD e axis 0
   pub start : 0 < by → getD t axis 0 ≡ startOf (getD w axis 0) (getD c axis 0)
-  pub fits : 0 < by → stretchAim axis e w c .more ≡ true → (k : ℕ) → k < operands → SFits w64 (addedAt d o k)
 
--- what is left of the starts t, the counters c and the offsets o
-pub record Ahead (axis operands by : ℕ) (e w : List ℕ) (d : List ℤ) (t c : List ℕ) (o : List ℤ) (more : Bool) (t′ c′ : List ℕ) (o′ : List ℤ) : Type 0 where
+-- what is left of the starts t and the counters c
+pub record Ahead (axis by : ℕ) (e w t c : List ℕ) (more : Bool) (t′ c′ : List ℕ) : Type 0 where
   pub answer : more ≡ (ltb 0 by && stretchAim axis e w c .more)
   pub starts : t′ ≡ cond more (set t axis (stretchAim axis e w c .start)) t
   pub counters : c′ ≡ cond more (set c axis (stretchAim axis e w c .to)) c
-  pub offsets : o′ ≡ cond more (added operands d o) o
 
 -- what is worked out once about the stretches of a walk, at its counters c
 pub record Stretched (axis by rank operands : ℕ) (e w : List ℕ) (s d : List ℤ) (c : List ℕ) : Type 0 where

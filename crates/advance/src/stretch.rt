@@ -1,15 +1,11 @@
 // A STRETCH of blocks: one after another along one axis, while it goes ahead. Inside a tile stretches go along axis 1; where no other axis
 // is cut they go along axis 0, from tile to tile. The way from block to block is the same all along, so it is worked out once.
 ghost use mathlib.Core.Path.{_≡_};
-ghost use Prim.Native.Nat.{ℕ, _<_, _≤_};
+ghost use Prim.Native.Nat.{_≤_};
 ghost use lib.IntN.{pos};
-ghost use lib.ListN.{length, replicate};
-ghost use mir.Syntax.{w64};
-ghost use mir.Val.{SFits};
+ghost use lib.ListN.{replicate};
 ghost use Rattle.advance.specs.Moves.{Shifts, shifted};
-ghost use Rattle.advance.specs.Carry.{Roomy, Tiled, Single, AdvancedTo};
-ghost use Rattle.advance.specs.Stretch.{axisOf, paceOf, addedAt, added, Paced, Ahead, Stretched};
-use crate::advance;
+ghost use Rattle.advance.specs.Stretch.{axisOf, paceOf, Paced, Ahead};
 use crate::aim_of;
 use crate::shift;
 
@@ -51,36 +47,18 @@ pub fn moves(operands: usize, axis: usize, by: u64, s: &[i64; 512]) -> [i64; 8]
     d
 }
 
-// The offsets, each moved by what its operand moves.
-fn add_moves(operands: usize, d: &[i64; 8], o: &mut [i64; 8])
-    requires { ⌜ (operands ≤ 8) × (length (now d) ≡ 8) × (length (now o) ≡ 8) × ((k : ℕ) → k < operands → SFits w64 (addedAt (now d) (now o) k)) ⌝ }
-    ensures { λ _. ⌜ now (o .exit) ≡ added operands (now (d .entry)) (now (o .entry)) ⌝ }
-{
-    let mut k = 0;
-    while k < operands {
-        let x = o[k];
-        let y = d[k];
-        let z = x + y;
-        o[k] = z;
-        k += 1;
-    }
-}
-
-// The next block, if it is in the stretch: the axis goes ahead, and each operand moves as `d` says. Says whether it is; if not, nothing is
-// changed. `by` is what `pace` tells.
+// The next block's counter, if that block is in the stretch: the axis goes ahead. Says whether it is; if not, nothing is changed. `by` is
+// what `pace` tells.
 pub fn ahead<'a>(
     axis: usize,
-    operands: usize,
     by: u64,
     e: &'a [u64; 64],
     w: &'a [u64; 64],
-    d: &'a [i64; 8],
     t: &mut [u64; 64],
     c: &mut [u64; 64],
-    o: &mut [i64; 8],
 ) -> bool
-    requires { ⌜ Paced axis operands by (now e) (now w) (now d) (now t) (now c) (now o) ⌝ }
-    ensures { λ r. ⌜ Ahead axis operands by (now (e .entry)) (now (w .entry)) (now (d .entry)) (now (t .entry)) (now (c .entry)) (now (o .entry)) r (now (t .exit)) (now (c .exit)) (now (o .exit)) ⌝ }
+    requires { ⌜ Paced axis by (now e) (now w) (now t) (now c) ⌝ }
+    ensures { λ r. ⌜ Ahead axis by (now (e .entry)) (now (w .entry)) (now (t .entry)) (now (c .entry)) r (now (t .exit)) (now (c .exit)) ⌝ }
 {
     if by == 0 {
         return false;
@@ -88,7 +66,6 @@ pub fn ahead<'a>(
     let a = aim_of(0 < axis, e[axis], w[axis], t[axis], c[axis]);
     let more = a.more;
     if more {
-        add_moves(operands, d, &mut *o);
         let to = a.to;
         c[axis] = to;
         let start = a.start;
@@ -96,32 +73,4 @@ pub fn ahead<'a>(
         return true;
     }
     false
-}
-
-// Moves the counters and the offsets to the next block, as `advance` does: ahead in the stretch, or else by a carry.
-pub fn onward<'a>(
-    axis: usize,
-    by: u64,
-    rank: usize,
-    inner: usize,
-    operands: usize,
-    e: &'a [u64; 64],
-    w: &'a [u64; 64],
-    s: &'a [i64; 512],
-    d: &'a [i64; 8],
-    t: &mut [u64; 64],
-    c: &mut [u64; 64],
-    o: &mut [i64; 8],
-) -> bool
-    requires { ⌜ Roomy rank operands (now e) (now s) (now c) (now o) ⌝ }
-    requires { ⌜ Tiled rank (now w) (now c) (now t) ⌝ }
-    requires { ⌜ Single inner rank (now w) ⌝ }
-    requires { ⌜ Stretched axis by rank operands (now e) (now w) (now s) (now d) (now c) ⌝ }
-    ensures { λ r. ⌜ AdvancedTo rank operands (now (e .entry)) (now (w .entry)) (now (s .entry)) (now (c .entry)) (now (o .entry)) r (now (t .exit)) (now (c .exit)) (now (o .exit)) ⌝ }
-{
-    let near = ahead(axis, operands, by, e, w, d, &mut *t, &mut *c, &mut *o);
-    if near {
-        return true;
-    }
-    advance(rank, inner, operands, e, w, s, &mut *t, &mut *c, &mut *o)
 }

@@ -1,18 +1,22 @@
 // Many steps of a walk in one call, for hosts that pay for every call: row 10 is checked once, and the next blocks are written as numbers.
 ghost use mathlib.Core.Path.{_≡_};
 ghost use mathlib.Core.Bool.{false};
-ghost use Prim.Native.Nat.{_+_, _≤_, _<_};
+ghost use Prim.Native.Nat.{ℕ, _+_, _≤_, _<_};
 ghost use lib.ListN.{length};
 ghost use lib.Seq.{paste};
+ghost use mir.Syntax.{w64};
+ghost use mir.Val.{SFits};
+ghost use Rattle.advance.specs.Stretch.{addedAt, added};
 ghost use Rattle.strided.specs.Bulk.{roomFor, SteppedMany, steppedMany};
 ghost use Rattle.states.specs.Reaches.{planOf, walkOf};
 ghost use Rattle.walk.specs.Lent.{Taken};
 ghost use Rattle.bulk.specs.Blocks.{notSeveral, handed, HasRoom, Wrote};
+use advance::advance;
 use advance::inner_axes;
 use advance::length_of;
+use advance::stretch::ahead;
 use advance::stretch::along;
 use advance::stretch::moves;
-use advance::stretch::onward;
 use advance::stretch::pace;
 use advance::tile_starts;
 use advance::widths;
@@ -82,6 +86,28 @@ fn put_offsets(operands: usize, at: usize, o: &[i64; 8], offsets: &mut [i64])
     }
 }
 
+// The same, and each offset moves on by what its operand moves in a stretch. One loop does both.
+fn put_moving<'a>(
+    operands: usize,
+    at: usize,
+    d: &'a [i64; 8],
+    o: &mut [i64; 8],
+    offsets: &mut [i64],
+)
+    requires { ⌜ (operands ≤ 8) × (length (now d) ≡ 8) × (length (now o) ≡ 8) × (at + operands ≤ length (now offsets)) × ((k : ℕ) → k < operands → SFits w64 (addedAt (now d) (now o) k)) ⌝ }
+    ensures { λ _. ⌜ (now (offsets .exit) ≡ paste (now (offsets .entry)) at (now (o .entry)) operands) × (now (o .exit) ≡ added operands (now (d .entry)) (now (o .entry))) ⌝ }
+{
+    let mut k = 0;
+    while k < operands {
+        let x = o[k];
+        offsets[at + k] = x;
+        let y = d[k];
+        let z = x + y;
+        o[k] = z;
+        k += 1;
+    }
+}
+
 // Writes the next blocks, at most `room`, from a state that runs. It checks nothing.
 fn put_blocks<'a>(
     room: usize,
@@ -111,24 +137,17 @@ fn put_blocks<'a>(
     while n < room {
         let length = length_of(rank, e, &w, &c);
         lengths[n] = length;
-        put_offsets(operands, n * operands, &o, &mut *offsets);
-        n += 1;
-        let more = onward(
-            axis,
-            by,
-            rank,
-            inner,
-            operands,
-            e,
-            &w,
-            s,
-            &d,
-            &mut t,
-            &mut c,
-            &mut o,
-        );
-        if !more {
-            return blocks_written(n, true, c, o);
+        let near = ahead(axis, by, e, &w, &mut t, &mut c);
+        if near {
+            put_moving(operands, n * operands, &d, &mut o, &mut *offsets);
+            n += 1;
+        } else {
+            put_offsets(operands, n * operands, &o, &mut *offsets);
+            n += 1;
+            let more = advance(rank, inner, operands, e, &w, s, &mut t, &mut c, &mut o);
+            if !more {
+                return blocks_written(n, true, c, o);
+            }
         }
     }
     blocks_written(n, false, c, o)

@@ -2,7 +2,8 @@
 use Rattle.bulk.proofs.Turns.{Turned, turned-none, turned-roomy, turned-few, turned-place, turned-places, turned-many, turned-long, turned-next, wrote-last, wrote-full}
 use Rattle.states.specs.Reaches.{planOf, walkOf}
 use Rattle.walk.proofs.Stepping.{axes-few, widths-here, roomy-here, start-here}
-use Rattle.advance.proofs.Stretches.{along-at, moves-fit}
+use Rattle.advance.proofs.Stretches.{along-at, moves-fit, moves-long, paced-on, ahead-fits, ahead-advanced, stays-roomy, stays-tiled, then-advanced}
+use Rattle.advance.specs.Stretch.{Stretched}
 use borrow.Author.Needs.{needs}
 use borrow.Author.Tests.{not-true, not-false}
 use native.Mathlib.Nat.{le-antisymm}
@@ -18,13 +19,15 @@ use Rattle.bulk.proofs.put_blocks.Reads as reads
 use Rattle.bulk.proofs.put_blocks.Lts as lts
 use Rattle.advance.proofs.inner_axes.Reads as inner-axes-reads
 use Rattle.advance.proofs.length_of.Reads as length-of-reads
+use Rattle.advance.proofs.advance.Reads as advance-reads
+use Rattle.advance.proofs.stretch.ahead.Reads as ahead-reads
 use Rattle.advance.proofs.stretch.along.Reads as along-reads
 use Rattle.advance.proofs.stretch.moves.Reads as moves-reads
-use Rattle.advance.proofs.stretch.onward.Reads as onward-reads
 use Rattle.advance.proofs.stretch.pace.Reads as pace-reads
 use Rattle.advance.proofs.tile_starts.Reads as tile-starts-reads
 use Rattle.advance.proofs.widths.Reads as widths-reads
 use Rattle.bulk.proofs.blocks_written.Reads as blocks-written-reads
+use Rattle.bulk.proofs.put_moving.Reads as put-moving-reads
 use Rattle.bulk.proofs.put_offsets.Reads as put-offsets-reads
 
 abbrev Inv-loop : tie.InvT-loop
@@ -81,63 +84,92 @@ mul-lengths c = let s = c .before .before .before .before .before .before .befor
 slice-write-lengths : tie.Need-slice-write-lengths Inv-loop μ-loop
 slice-write-lengths c = place (c .before .before .before)
 
-mul-put-offsets : tie.Need-mul-put-offsets Inv-loop μ-loop
-mul-put-offsets c = let s = c .before .before .before .before .before .before .before .before .before .before .before .before .before .before .before .before in let g = places (c .before .before .before) in search needs
+-- what is worked out once about stretches
+stretched : (c : In) → Stretched (c .before .before .before .before .before .before .before .before .along .result) (c .before .before .before .before .before .before .pace .result) (c .before .before .before .before .before .before .before .before .before .before .before .before .before .args .rank) (c .before .before .before .before .before .before .before .before .before .before .before .before .before .args .operands) (c .before .before .before .before .before .before .before .before .before .before .before .before .before .args .e .now) (c .before .before .before .before .before .before .before .before .before .before .before .widths .result) (c .before .before .before .before .before .before .before .before .before .before .before .before .before .args .s .now) (c .before .before .before .before .before .moves .result) (c .before .loop .c)
+stretched c =
+    record {
+      along = along-at _ _ _ (c .before .before .before .before .before .before .before .before .before .inner-axes .ensures) (c .before .before .before .before .before .before .before .before .along .ensures);
+      way = c .before .before .before .before .before .before .pace .ensures;
+      moves = c .before .before .before .before .before .moves .ensures;
+      start = start-here _ _ (c .before .loop .inv .1 .taken) refl _ (c .before .before .before .before .before .before .before .before .before .before .before .widths .ensures);
+    }
 
-put-offsets-requires : tie.Need-put-offsets-requires Inv-loop μ-loop
-put-offsets-requires c κs = let i = c .before .before .before .before .before in (few i, i .before .loop .inv .1 .taken .offsets-all, places i)
+ahead-requires : tie.Need-ahead-requires Inv-loop μ-loop
+ahead-requires c κs = let i = c .before .before .before .before .before .before in paced-on (roomy i) (i .before .loop .inv .1 .tiles) (stretched i)
+
+mul-put-moving : tie.Need-mul-put-moving Inv-loop μ-loop
+mul-put-moving c = let s = c .before .before .before .before .before .before .before .before .before .before .before .before .before .before .before .before .before .before .before .before .before in let g = places (c .before .before .before .before .before .before .before .before) in search needs
+
+put-moving-requires : tie.Need-put-moving-requires Inv-loop μ-loop
+put-moving-requires c κs =
+    let i = c .before .before .before .before .before .before .before .before .before .before .before in
+    let l = i .before .loop .inv .1 in
+    (few i, moves-long (stretched i), l .taken .offsets-all, places i, ahead-fits (roomy i) (l .tiles) (stretched i) (c .before .before .before .before .ahead .ensures) (c .before .before .before .if1 .taken))
 
 add-n : tie.Need-add-n Inv-loop μ-loop
-add-n c = let s = c .before .before .before .before .before .before .before .before .before .before .before .before .before .before .before .before .before .before .before .before in let t = c .before .before .before .before .before .before .before .loop-test .taken in search needs
+add-n c = let s = c .before .before .before .before .before .before .before .before .before .before .before .before .before .before .before .before .before .before .before .before .before .before .before .before .before .before in let t = c .before .before .before .before .before .before .before .before .before .before .before .before .before .loop-test .taken in search needs
 
-onward-requires : tie.Need-onward-requires Inv-loop μ-loop
-onward-requires c κs =
-    let i = c .before .before .before .before .before .before .before .before .before .before .before .before in
-    let u = i .before .before .before .before .before .before .before .before .before .inner-axes .ensures in (
-      roomy i,
-      (
-        i .before .loop .inv .1 .tiles,
-        (
-          u,
-          record {
-            along = along-at _ _ _ u (i .before .before .before .before .before .before .before .before .along .ensures);
-            way = i .before .before .before .before .before .before .pace .ensures;
-            moves = i .before .before .before .before .before .moves .ensures;
-            start = start-here _ _ (i .before .loop .inv .1 .taken) refl _ (i .before .before .before .before .before .before .before .before .before .before .before .widths .ensures);
-          },
-        ),
-      ),
+loop-less : tie.Need-loop-less Inv-loop μ-loop
+loop-less c = let t = c .before .before .before .before .before .before .before .before .before .before .before .before .before .loop-test .taken in search needs
+
+-- the next block is in the stretch
+loop-again : tie.Need-loop-again Inv-loop μ-loop
+loop-again c =
+    let i = c .before .before .before .before .before .before .before .before .before .before .before .before .before in
+    let l = i .before .loop .inv .1 in
+    let p = c .before .put-moving .ensures in (
+      omega (arith, i .loop-test .taken),
+      turned-next _ _ _ _ _ (i .before .before .before .before .before .before .before .before .before .before .before .widths .ensures) _ _ _ _ _ _ _ l (i .before .before .before .before .before .before .before .before .before .before .before .before .before .pre .1) (i .loop-test .taken)
+          (c .before .before .before .before .before .before .before .before .before .before .length-of .ensures) (ahead-advanced (roomy i) (l .tiles) (stretched i) (c .before .before .before .before .before .before .ahead .ensures) (c .before .before .before .before .before .if1 .taken) (p .1)) refl refl (p .0),
     )
+
+mul-put-offsets : tie.Need-mul-put-offsets Inv-loop μ-loop
+mul-put-offsets c = let s = c .before .before .before .before .before .before .before .before .before .before .before .before .before .before .before .before .before .before .before .before .before in let g = places (c .before .before .before .before .before .before .before .before) in search needs
+
+put-offsets-requires : tie.Need-put-offsets-requires Inv-loop μ-loop
+put-offsets-requires c κs = let i = c .before .before .before .before .before .before .before .before .before .before in (few i, i .before .loop .inv .1 .taken .offsets-all, places i)
+
+add-n-2 : tie.Need-add-n-2 Inv-loop μ-loop
+add-n-2 c = let s = c .before .before .before .before .before .before .before .before .before .before .before .before .before .before .before .before .before .before .before .before .before .before .before .before .before in let t = c .before .before .before .before .before .before .before .before .before .before .before .before .loop-test .taken in search needs
+
+advance-requires : tie.Need-advance-requires Inv-loop μ-loop
+advance-requires c κs =
+    let i = c .before .before .before .before .before .before .before .before .before .before .before .before .before .before .before .before in
+    let a = c .before .before .before .before .before .before .before .before .before .ahead .ensures in
+    let n = c .before .before .before .before .before .before .before .before .if1 .left in
+    (stays-roomy a n (roomy i), (stays-tiled a n (i .before .loop .inv .1 .tiles), i .before .before .before .before .before .before .before .before .before .inner-axes .ensures))
 
 blocks-written-requires : tie.Need-blocks-written-requires Inv-loop μ-loop
 blocks-written-requires c κs = tt
 
 same-length : tie.Need-same-length Inv-loop μ-loop
 same-length c =
-    let i = c .before .before .before .before .before .before .before .before .before .before .before .before .before .before .before in
+    let i = c .before .before .before .before .before .before .before .before .before .before .before .before .before .before .before .before .before .before .before in
     turned-many _ _ _ _ _ (i .before .before .before .before .before .before .before .before .before .before .before .widths .ensures) _ _ _ _ _ _ _ (i .before .loop .inv .1) (i .before .before .before .before .before .before .before .before .before .before .before .before .before .pre .1) (i .loop-test .taken) _
 
 same-length-2 : tie.Need-same-length-2 Inv-loop μ-loop
 same-length-2 c =
-    let i = c .before .before .before .before .before .before .before .before .before .before .before .before .before .before .before in
-    turned-long _ _ _ _ _ (i .before .before .before .before .before .before .before .before .before .before .before .widths .ensures) _ _ _ _ _ _ _ (i .before .loop .inv .1) (i .before .before .before .before .before .before .before .before .before .before .before .before .before .pre .1) (i .loop-test .taken) (c .before .before .before .before .before .before .before .before .before .put-offsets .ensures)
+    let i = c .before .before .before .before .before .before .before .before .before .before .before .before .before .before .before .before .before .before .before in
+    turned-long _ _ _ _ _ (i .before .before .before .before .before .before .before .before .before .before .before .widths .ensures) _ _ _ _ _ _ _ (i .before .loop .inv .1) (i .before .before .before .before .before .before .before .before .before .before .before .before .before .pre .1) (i .loop-test .taken) (c .before .before .before .before .before .before .before .before .put-offsets .ensures)
 
+-- it was the last block
 returns : tie.Need-returns Inv-loop μ-loop
 returns c =
-    let i = c .before .before .before .before .before .before .before .before .before .before .before .before .before .before .before in
+    let i = c .before .before .before .before .before .before .before .before .before .before .before .before .before .before .before .before .before .before .before in
     wrote-last _ _ _ _ _ (i .before .before .before .before .before .before .before .before .before .before .before .widths .ensures) _ _ _ _ _ _ _ (i .before .loop .inv .1) (i .before .before .before .before .before .before .before .before .before .before .before .before .before .pre .1) (i .loop-test .taken)
-    (c .before .before .before .before .before .before .before .before .before .before .before .before .length-of .ensures) (c .before .before .onward .ensures) (not-true _ (c .before .if1 .taken)) (i .before .before .before .before .before .before .before .before .before .before .before .before .before .pre .0) refl refl (c .before .before .before .before .before .before .before .before .before .put-offsets .ensures)
+    (c .before .before .before .before .before .before .before .before .before .before .before .before .before .before .before .before .length-of .ensures) (then-advanced (c .before .before .before .before .before .before .before .before .before .before .before .before .ahead .ensures) (c .before .before .before .before .before .before .before .before .before .before .before .if1 .left) (c .before .before .advance .ensures)) (not-true _ (c .before .if2 .taken)) (i .before .before .before .before .before .before .before .before .before .before .before .before .before .pre .0) refl refl (c .before .before .before .before .before .before .before .before .put-offsets .ensures)
     (c .blocks-written .ensures)
 
-loop-less : tie.Need-loop-less Inv-loop μ-loop
-loop-less c = search needs
+loop-less-2 : tie.Need-loop-less-2 Inv-loop μ-loop
+loop-less-2 c = let t = c .before .before .before .before .before .before .before .before .before .before .before .before .before .before .before .before .before .before .loop-test .taken in search needs
 
-loop-again : tie.Need-loop-again Inv-loop μ-loop
-loop-again c =
-    let i = c .before .before .before .before .before .before .before .before .before .before .before .before .before .before in (
-      omega arith,
+-- the next block is elsewhere
+loop-again-2 : tie.Need-loop-again-2 Inv-loop μ-loop
+loop-again-2 c =
+    let i = c .before .before .before .before .before .before .before .before .before .before .before .before .before .before .before .before .before .before in (
+      omega (arith, i .loop-test .taken),
       turned-next _ _ _ _ _ (i .before .before .before .before .before .before .before .before .before .before .before .widths .ensures) _ _ _ _ _ _ _ (i .before .loop .inv .1) (i .before .before .before .before .before .before .before .before .before .before .before .before .before .pre .1) (i .loop-test .taken)
-          (c .before .before .before .before .before .before .before .before .before .before .before .length-of .ensures) (c .before .onward .ensures) (not-false _ (c .if1 .left)) refl (c .before .before .before .before .before .before .before .before .put-offsets .ensures),
+          (c .before .before .before .before .before .before .before .before .before .before .before .before .before .before .before .length-of .ensures) (then-advanced (c .before .before .before .before .before .before .before .before .before .before .before .ahead .ensures) (c .before .before .before .before .before .before .before .before .before .before .if1 .left) (c .before .advance .ensures)) (not-false _ (c .if2 .left)) refl (c .before .before .before .before .before .before .before .put-offsets .ensures),
     )
 
 blocks-written-requires-2 : tie.Need-blocks-written-requires-2 Inv-loop μ-loop
@@ -170,16 +202,22 @@ put-blocks-spec =
     length-of-requires
     mul-lengths
     slice-write-lengths
+    ahead-requires
+    mul-put-moving
+    put-moving-requires
+    add-n
+    loop-less
+    loop-again
     mul-put-offsets
     put-offsets-requires
-    add-n
-    onward-requires
+    add-n-2
+    advance-requires
     blocks-written-requires
     same-length
     same-length-2
     returns
-    loop-less
-    loop-again
+    loop-less-2
+    loop-again-2
     blocks-written-requires-2
     same-length-3
     same-length-4

@@ -7,39 +7,32 @@ use mathlib.Core.Bool.{Bool, true, false, cond, _&&_}
 use mathlib.Core.List.{List}
 use Prim.Native.Nat.{ℕ, _<_}
 use lib.Dec.{ltb}
-use lib.IntN.{ℤ}
 use lib.ListN.{set}
 use Rattle.advance.specs.declared.Aim.{Aim}
-use Rattle.advance.specs.Stretch.{stretchAim, added, Ahead}
+use Rattle.advance.specs.Stretch.{stretchAim, Ahead}
 use Rattle.advance.proofs.stretch.ahead.Statement.{statement}
 use Rattle.advance.proofs.stretch.ahead.Tie as tie
 use Rattle.advance.proofs.stretch.ahead.Reads as reads
 use Rattle.advance.proofs.stretch.ahead.Lts as lts
 use Rattle.advance.proofs.aim_of.Reads as aim-of-reads
-use Rattle.advance.proofs.stretch.add_moves.Reads as add-moves-reads
 
 -- a number that is not 0
 above : (n : ℕ) → (n ≡ 0 → ⊥) → 0 < n
 above n h = omega (arith, h)
 
 -- the axis went ahead, or did not
-module _ (axis operands by : ℕ) (e w : List ℕ) (d : List ℤ) (t c : List ℕ) (o : List ℤ) (h : 0 < by) (a : Aim) (is : a ≡ stretchAim axis e w c) where
+module _ (axis by : ℕ) (e w t c : List ℕ) (h : 0 < by) (a : Aim) (is : a ≡ stretchAim axis e w c) where
   answers : a .more ≡ (ltb 0 by && stretchAim axis e w c .more)
   answers = ap (λ (x : Aim). x .more) is ∙ sym (simp (lt-ltb _ _ h))
 
-  went : a .more ≡ true → {o′ : List ℤ} → o′ ≡ added operands d o → Ahead axis operands by e w d t c o true (set t axis (a .start)) (set c axis (a .to)) o′
-  went y q = record {
-    answer = sym y ∙ answers;
-    starts = ap (λ (x : Aim). set t axis (x .start)) is;
-    counters = ap (λ (x : Aim). set c axis (x .to)) is;
-    offsets = q;
-  }
+  went : a .more ≡ true → Ahead axis by e w t c true (set t axis (a .start)) (set c axis (a .to))
+  went y = record { answer = sym y ∙ answers; starts = ap (λ (x : Aim). set t axis (x .start)) is; counters = ap (λ (x : Aim). set c axis (x .to)) is }
 
-  stayed : a .more ≡ false → Ahead axis operands by e w d t c o false t c o
-  stayed n = record { answer = sym n ∙ answers; starts = refl; counters = refl; offsets = refl }
+  stayed : a .more ≡ false → Ahead axis by e w t c false t c
+  stayed n = record { answer = sym n ∙ answers; starts = refl; counters = refl }
 
 returns : tie.Need-returns
-returns c = record { answer = sym (simp (c .if1 .taken)); starts = refl; counters = refl; offsets = refl }
+returns c = record { answer = sym (simp (c .if1 .taken)); starts = refl; counters = refl }
 
 mul-aim-of : tie.Need-mul-aim-of
 mul-aim-of c = search needs
@@ -71,12 +64,6 @@ aim-of-requires c κs =
     let h = above _ (c .before .before .before .before .if1 .left) in
     (p .wide h, p .within h, p .start h)
 
-add-moves-requires : tie.Need-add-moves-requires
-add-moves-requires c κs =
-    let p = c .before .before .before .before .before .before .before .before .pre in
-    let h = above _ (c .before .before .before .before .before .before .before .if1 .left) in
-    (p .few, p .moves, p .offered, p .fits h (ap (λ (x : Aim). x .more) (sym (c .before .before .aim-of .ensures)) ∙ c .before .if2 .taken))
-
 mul-c : tie.Need-mul-c
 mul-c c = search needs
 
@@ -90,10 +77,10 @@ element-write-t : tie.Need-element-write-t
 element-write-t c = search needs
 
 returns-2 : tie.Need-returns-2
-returns-2 c = went _ _ _ _ _ _ _ _ _ (above _ (c .before .before .before .before .before .before .before .before .if1 .left)) _ (c .before .before .before .aim-of .ensures) (c .before .before .if2 .taken) (c .add-moves .ensures)
+returns-2 c = went _ _ _ _ _ _ (above _ (c .before .before .before .before .before .before .if1 .left)) _ (c .before .aim-of .ensures) (c .if2 .taken)
 
 returns-3 : tie.Need-returns-3
-returns-3 c = stayed _ _ _ _ _ _ _ _ _ (above _ (c .before .before .before .before .before .before .if1 .left)) _ (c .before .aim-of .ensures) (c .if2 .left)
+returns-3 c = stayed _ _ _ _ _ _ (above _ (c .before .before .before .before .before .before .if1 .left)) _ (c .before .aim-of .ensures) (c .if2 .left)
 
 pub ahead-spec : {M : Type 1} → statement M
 ahead-spec =
@@ -109,7 +96,6 @@ ahead-spec =
     mul-aim-of-4
     element-copy-out-aim-of-4
     aim-of-requires
-    add-moves-requires
     mul-c
     element-write-c
     mul-t
