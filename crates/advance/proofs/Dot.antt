@@ -124,6 +124,11 @@ module _ (rank operands : ℕ) (e : List ℕ) (s : List ℤ) (c : List ℕ) (o :
     reach = λ k h x w. subst (λ (z : ℤ). SFits w64 (z +ℤ dotTo rank k x s)) (sym (start-stays k h)) (r .reach k h x w);
   }
 
+-- the offsets are what the plan reaches at the counters
+pub roomy-offset : {rank operands : ℕ} {e : List ℕ} {s : List ℤ} {c : List ℕ} {o : List ℤ} → Roomy rank operands e s c o → (k : ℕ) → k < operands → SFits w64 (getD o k (pos 0))
+unfolding startAt
+roomy-offset {rank} {operands} {e} {s} {c} {o} r k h = subst (SFits w64) (-ℤ-+ℤ-cancel (getD o k (pos 0)) (dotTo rank k c s)) (r .reach k h c (r .within))
+
 -- a move to where the axis stands
 pub unmoved : (n axis at : ℕ) (s o : List ℤ) → n ≤ length o → o ≡ shifted n axis at at s o
 unfolding afterMove

@@ -222,11 +222,12 @@ module _ {axis by : ℕ} {e w t c : List ℕ} {more : Bool} {t′ c′ : List �
   counters : c′ ≡ c
   counters = a .counters ∙ ap (λ (m : Bool). cond m (set c axis (stretchAim axis e w c .to)) c) h
 
-  pub stays-roomy : {rank operands : ℕ} {s o : List ℤ} → Roomy rank operands e s c o → Roomy rank operands e s c′ o
-  stays-roomy {rank} {operands} {s} {o} r = subst (λ (u : List ℕ). Roomy rank operands e s u o) (sym counters) r
-
   pub stays-tiled : {rank : ℕ} → Tiled rank w c t → Tiled rank w c′ t′
   stays-tiled {rank} q = transport (λ i. Tiled rank w (sym counters i) (sym starts i)) q
 
-  pub then-advanced : {rank operands : ℕ} {s o : List ℤ} {m : Bool} {t″ c″ : List ℕ} {o″ : List ℤ} → AdvancedTo rank operands e w s c′ o m t″ c″ o″ → AdvancedTo rank operands e w s c o m t″ c″ o″
-  then-advanced {rank} {operands} {s} {o} {m} {t″} {c″} {o″} p = subst (λ (u : List ℕ). AdvancedTo rank operands e w s u o m t″ c″ o″) counters p
+  module _ {rank operands : ℕ} {s o o′ : List ℤ} (same : o′ ≡ o) where
+    pub stays-roomy : Roomy rank operands e s c o → Roomy rank operands e s c′ o′
+    stays-roomy r = transport (λ i. Roomy rank operands e s (sym counters i) (sym same i)) r
+
+    pub then-advanced : {m : Bool} {t″ c″ : List ℕ} {o″ : List ℤ} → AdvancedTo rank operands e w s c′ o′ m t″ c″ o″ → AdvancedTo rank operands e w s c o m t″ c″ o″
+    then-advanced {m} {t″} {c″} {o″} p = transport (λ i. AdvancedTo rank operands e w s (counters i) (same i) m t″ c″ o″) p

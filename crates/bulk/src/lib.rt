@@ -2,7 +2,8 @@
 ghost use mathlib.Core.Path.{_≡_};
 ghost use mathlib.Core.Bool.{false};
 ghost use Prim.Native.Nat.{ℕ, _+_, _≤_, _<_};
-ghost use lib.ListN.{length};
+ghost use lib.IntN.{pos};
+ghost use lib.ListN.{length, getD};
 ghost use lib.Seq.{paste};
 ghost use mir.Syntax.{w64};
 ghost use mir.Val.{SFits};
@@ -73,20 +74,7 @@ fn room_for(operands: usize, lengths: usize, offsets: usize) -> usize
     blocks
 }
 
-// A block's offsets, operand by operand, from place `at` on.
-fn put_offsets(operands: usize, at: usize, o: &[i64; 8], offsets: &mut [i64])
-    requires { ⌜ (operands ≤ 8) × (length (now o) ≡ 8) × (at + operands ≤ length (now offsets)) ⌝ }
-    ensures { λ _. ⌜ now (offsets .exit) ≡ paste (now (offsets .entry)) at (now (o .entry)) operands ⌝ }
-{
-    let mut k = 0;
-    while k < operands {
-        let x = o[k];
-        offsets[at + k] = x;
-        k += 1;
-    }
-}
-
-// The same, and each offset moves on by what its operand moves in a stretch. One loop does both.
+// A block's offsets, operand by operand, from place `at` on; then each moves on by its place of `d`. One loop does both.
 fn put_moving<'a>(
     operands: usize,
     at: usize,
@@ -106,6 +94,15 @@ fn put_moving<'a>(
         o[k] = z;
         k += 1;
     }
+}
+
+// The same for a block that no other of its stretch follows: the offsets stay.
+fn put_staying(operands: usize, at: usize, o: &mut [i64; 8], offsets: &mut [i64])
+    requires { ⌜ (operands ≤ 8) × (length (now o) ≡ 8) × (at + operands ≤ length (now offsets)) × ((k : ℕ) → k < operands → SFits w64 (getD (now o) k (pos 0))) ⌝ }
+    ensures { λ _. ⌜ (now (offsets .exit) ≡ paste (now (offsets .entry)) at (now (o .entry)) operands) × (now (o .exit) ≡ now (o .entry)) ⌝ }
+{
+    let still = [0i64; 8];
+    put_moving(operands, at, &still, &mut *o, &mut *offsets);
 }
 
 // Writes the next blocks, at most `room`, from a state that runs. It checks nothing.
@@ -142,7 +139,7 @@ fn put_blocks<'a>(
             put_moving(operands, n * operands, &d, &mut o, &mut *offsets);
             n += 1;
         } else {
-            put_offsets(operands, n * operands, &o, &mut *offsets);
+            put_staying(operands, n * operands, &mut o, &mut *offsets);
             n += 1;
             let more = advance(rank, inner, operands, e, &w, s, &mut t, &mut c, &mut o);
             if !more {

@@ -1,8 +1,9 @@
-// Planning from C.
+// Planning from C: rows 1 to 7, then the plan, made where the caller wants it.
 ghost use Rattle.strided.specs.Plan.{planned};
 ghost use Rattle.gougelily.specs.Handed.{purposeOf, Plans};
 use crate::purpose_of;
-use kernel::plan;
+use kernel::plan_into;
+use layout::check_layout;
 use layout::negated;
 use strided::Answer;
 
@@ -22,22 +23,24 @@ pub extern "C" fn gougelily_plan<'a>(
 ) -> i64
     ensures { λ r. ⌜ Plans (planned (now (extents .entry)) (now (sizes .entry)) (now (strides .entry)) (purposeOf purpose chosen)) (record { rank = now (rank .entry); operands = now (operands .entry); extents = now («plan_extents» .entry); blocks = now (blocks .entry); strides = now («plan_strides» .entry) }) (record { rank = now (rank .exit); operands = now (operands .exit); extents = now («plan_extents» .exit); blocks = now (blocks .exit); strides = now («plan_strides» .exit) }) r ⌝ }
 {
-    let planned = plan(extents, sizes, strides, purpose_of(purpose, chosen));
-    let answer = planned.answer;
+    let wanted = purpose_of(purpose, chosen);
+    let answer = check_layout(extents, sizes, strides, wanted);
     match answer {
         Answer::Refused(refusal) => negated(refusal),
         Answer::Served => {
-            let made = planned.plan;
-            let axes = made.rank;
-            let count = made.operands;
-            let e = made.extents;
-            let b = made.blocks;
-            let s = made.strides;
+            *plan_extents = [0u64; 64];
+            *plan_strides = [0i64; 512];
+            let axes = plan_into(
+                extents,
+                sizes,
+                strides,
+                wanted,
+                &mut *plan_extents,
+                &mut *blocks,
+                &mut *plan_strides,
+            );
             *rank = [axes];
-            *operands = [count];
-            *plan_extents = e;
-            *blocks = b;
-            *plan_strides = s;
+            *operands = [sizes.len()];
             0
         }
     }

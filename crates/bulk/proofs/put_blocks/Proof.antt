@@ -2,6 +2,7 @@
 use Rattle.bulk.proofs.Turns.{Turned, turned-none, turned-roomy, turned-few, turned-place, turned-places, turned-many, turned-long, turned-next, wrote-last, wrote-full}
 use Rattle.states.specs.Reaches.{planOf, walkOf}
 use Rattle.walk.proofs.Stepping.{axes-few, widths-here, roomy-here, start-here}
+use Rattle.advance.proofs.Dot.{roomy-offset}
 use Rattle.advance.proofs.Stretches.{along-at, moves-fit, moves-long, paced-on, ahead-fits, ahead-advanced, stays-roomy, stays-tiled, then-advanced}
 use Rattle.advance.specs.Stretch.{Stretched}
 use borrow.Author.Needs.{needs}
@@ -28,7 +29,7 @@ use Rattle.advance.proofs.tile_starts.Reads as tile-starts-reads
 use Rattle.advance.proofs.widths.Reads as widths-reads
 use Rattle.bulk.proofs.blocks_written.Reads as blocks-written-reads
 use Rattle.bulk.proofs.put_moving.Reads as put-moving-reads
-use Rattle.bulk.proofs.put_offsets.Reads as put-offsets-reads
+use Rattle.bulk.proofs.put_staying.Reads as put-staying-reads
 
 abbrev Inv-loop : tie.InvT-loop
 Inv-loop room rank operands e b s lengths₀ offsets₀ w inner axis by d c₀ o₀ t₀ n₀ lengths offsets c o t n =
@@ -123,11 +124,11 @@ loop-again c =
           (c .before .before .before .before .before .before .before .before .before .before .length-of .ensures) (ahead-advanced (roomy i) (l .tiles) (stretched i) (c .before .before .before .before .before .before .ahead .ensures) (c .before .before .before .before .before .if1 .taken) (p .1)) refl refl (p .0),
     )
 
-mul-put-offsets : tie.Need-mul-put-offsets Inv-loop μ-loop
-mul-put-offsets c = let s = c .before .before .before .before .before .before .before .before .before .before .before .before .before .before .before .before .before .before .before .before .before in let g = places (c .before .before .before .before .before .before .before .before) in search needs
+mul-put-staying : tie.Need-mul-put-staying Inv-loop μ-loop
+mul-put-staying c = let s = c .before .before .before .before .before .before .before .before .before .before .before .before .before .before .before .before .before .before .before .before .before in let g = places (c .before .before .before .before .before .before .before .before) in search needs
 
-put-offsets-requires : tie.Need-put-offsets-requires Inv-loop μ-loop
-put-offsets-requires c κs = let i = c .before .before .before .before .before .before .before .before .before .before in (few i, i .before .loop .inv .1 .taken .offsets-all, places i)
+put-staying-requires : tie.Need-put-staying-requires Inv-loop μ-loop
+put-staying-requires c κs = let i = c .before .before .before .before .before .before .before .before .before .before in (few i, i .before .loop .inv .1 .taken .offsets-all, places i, roomy-offset (roomy i))
 
 add-n-2 : tie.Need-add-n-2 Inv-loop μ-loop
 add-n-2 c = let s = c .before .before .before .before .before .before .before .before .before .before .before .before .before .before .before .before .before .before .before .before .before .before .before .before .before in let t = c .before .before .before .before .before .before .before .before .before .before .before .before .loop-test .taken in search needs
@@ -137,7 +138,7 @@ advance-requires c κs =
     let i = c .before .before .before .before .before .before .before .before .before .before .before .before .before .before .before .before in
     let a = c .before .before .before .before .before .before .before .before .before .ahead .ensures in
     let n = c .before .before .before .before .before .before .before .before .if1 .left in
-    (stays-roomy a n (roomy i), (stays-tiled a n (i .before .loop .inv .1 .tiles), i .before .before .before .before .before .before .before .before .before .inner-axes .ensures))
+    (stays-roomy a n (c .before .before .before .before .before .put-staying .ensures .1) (roomy i), (stays-tiled a n (i .before .loop .inv .1 .tiles), i .before .before .before .before .before .before .before .before .before .inner-axes .ensures))
 
 blocks-written-requires : tie.Need-blocks-written-requires Inv-loop μ-loop
 blocks-written-requires c κs = tt
@@ -150,14 +151,14 @@ same-length c =
 same-length-2 : tie.Need-same-length-2 Inv-loop μ-loop
 same-length-2 c =
     let i = c .before .before .before .before .before .before .before .before .before .before .before .before .before .before .before .before .before .before .before in
-    turned-long _ _ _ _ _ (i .before .before .before .before .before .before .before .before .before .before .before .widths .ensures) _ _ _ _ _ _ _ (i .before .loop .inv .1) (i .before .before .before .before .before .before .before .before .before .before .before .before .before .pre .1) (i .loop-test .taken) (c .before .before .before .before .before .before .before .before .put-offsets .ensures)
+    turned-long _ _ _ _ _ (i .before .before .before .before .before .before .before .before .before .before .before .widths .ensures) _ _ _ _ _ _ _ (i .before .loop .inv .1) (i .before .before .before .before .before .before .before .before .before .before .before .before .before .pre .1) (i .loop-test .taken) (c .before .before .before .before .before .before .before .before .put-staying .ensures .0)
 
 -- it was the last block
 returns : tie.Need-returns Inv-loop μ-loop
 returns c =
     let i = c .before .before .before .before .before .before .before .before .before .before .before .before .before .before .before .before .before .before .before in
     wrote-last _ _ _ _ _ (i .before .before .before .before .before .before .before .before .before .before .before .widths .ensures) _ _ _ _ _ _ _ (i .before .loop .inv .1) (i .before .before .before .before .before .before .before .before .before .before .before .before .before .pre .1) (i .loop-test .taken)
-    (c .before .before .before .before .before .before .before .before .before .before .before .before .before .before .before .before .length-of .ensures) (then-advanced (c .before .before .before .before .before .before .before .before .before .before .before .before .ahead .ensures) (c .before .before .before .before .before .before .before .before .before .before .before .if1 .left) (c .before .before .advance .ensures)) (not-true _ (c .before .if2 .taken)) (i .before .before .before .before .before .before .before .before .before .before .before .before .before .pre .0) refl refl (c .before .before .before .before .before .before .before .before .put-offsets .ensures)
+    (c .before .before .before .before .before .before .before .before .before .before .before .before .before .before .before .before .length-of .ensures) (then-advanced (c .before .before .before .before .before .before .before .before .before .before .before .before .ahead .ensures) (c .before .before .before .before .before .before .before .before .before .before .before .if1 .left) (c .before .before .before .before .before .before .before .before .put-staying .ensures .1) (c .before .before .advance .ensures)) (not-true _ (c .before .if2 .taken)) (i .before .before .before .before .before .before .before .before .before .before .before .before .before .pre .0) refl refl (c .before .before .before .before .before .before .before .before .put-staying .ensures .0)
     (c .blocks-written .ensures)
 
 loop-less-2 : tie.Need-loop-less-2 Inv-loop μ-loop
@@ -169,7 +170,7 @@ loop-again-2 c =
     let i = c .before .before .before .before .before .before .before .before .before .before .before .before .before .before .before .before .before .before in (
       omega (arith, i .loop-test .taken),
       turned-next _ _ _ _ _ (i .before .before .before .before .before .before .before .before .before .before .before .widths .ensures) _ _ _ _ _ _ _ (i .before .loop .inv .1) (i .before .before .before .before .before .before .before .before .before .before .before .before .before .pre .1) (i .loop-test .taken)
-          (c .before .before .before .before .before .before .before .before .before .before .before .before .before .before .before .length-of .ensures) (then-advanced (c .before .before .before .before .before .before .before .before .before .before .before .ahead .ensures) (c .before .before .before .before .before .before .before .before .before .before .if1 .left) (c .before .advance .ensures)) (not-false _ (c .if2 .left)) refl (c .before .before .before .before .before .before .before .put-offsets .ensures),
+          (c .before .before .before .before .before .before .before .before .before .before .before .before .before .before .before .length-of .ensures) (then-advanced (c .before .before .before .before .before .before .before .before .before .before .before .ahead .ensures) (c .before .before .before .before .before .before .before .before .before .before .if1 .left) (c .before .before .before .before .before .before .before .put-staying .ensures .1) (c .before .advance .ensures)) (not-false _ (c .if2 .left)) refl (c .before .before .before .before .before .before .before .put-staying .ensures .0),
     )
 
 blocks-written-requires-2 : tie.Need-blocks-written-requires-2 Inv-loop μ-loop
@@ -208,8 +209,8 @@ put-blocks-spec =
     add-n
     loop-less
     loop-again
-    mul-put-offsets
-    put-offsets-requires
+    mul-put-staying
+    put-staying-requires
     add-n-2
     advance-requires
     blocks-written-requires

@@ -1,26 +1,26 @@
--- `gougelily::plans::gougelily_plan` meets its contract. Assumes nothing.
+-- `gougelily::plans::gougelily_plan` meets its contract: what is made where rows 1 to 7 pass, and every lent byte kept where one applies.
+-- Assumes nothing.
 use borrow.Author.Needs.{needs}
-use mathlib.Core.Path.{_≡_, refl, _∙_}
+use mathlib.Core.Path.{_≡_, refl, sym, _∙_}
+use mathlib.Core.Option.{none}
 use mir.Facts.{toZ-ofZ}
 use Rattle.strided.specs.Plan.{planned}
-use Rattle.strided.specs.declared.Purpose.{Purpose}
+use Rattle.strided.specs.Refusals.{layoutRefused}
 use Rattle.strided.specs.declared.Planned.{Planned}
-use Rattle.gougelily.specs.Handed.{purposeOf, planMemory}
+use Rattle.laws.specs.Refusals.Accepted.{accepted}
+use Rattle.laws.specs.Refusals.Rows.{served-none, refused-some}
+use Rattle.laws.specs.Plan.Answers.{planned-refused}
+use Rattle.kernel.proofs.Plans.{serves}
+use Rattle.gougelily.specs.Handed.{planMemory}
 use Rattle.gougelily.proofs.Answers.{called, handed-refused, handed-served}
 use Rattle.gougelily.proofs.plans.gougelily_plan.Statement.{statement}
 use Rattle.gougelily.proofs.plans.gougelily_plan.Tie as tie
 
-made : (c : tie.After-plan) → let a = c .before .before .before .before .args in
-    c .plan .result ≡ planned (a .extents .now) (a .sizes .now) (a .strides .now) (purposeOf (a .purpose) (a .chosen))
-made c =
-    let a = c .before .before .before .before .args in
-    called (planned (a .extents .now) (a .sizes .now) (a .strides .now)) (c .plan .ensures) (c .before .purpose-of .ensures)
-
 purpose-of-requires : tie.Need-purpose-of-requires
 purpose-of-requires c κs = search needs
 
-plan-requires : tie.Need-plan-requires
-plan-requires c κs = search needs
+check-layout-requires : tie.Need-check-layout-requires
+check-layout-requires c κs = search needs
 
 enum-known-answer : tie.Need-enum-known-answer
 enum-known-answer c = search needs
@@ -31,24 +31,48 @@ negated-requires c κs = search needs
 enum-told : tie.Need-enum-told
 enum-told c = search needs
 
+-- rows 1 to 7 let the layout through
+passed : (c : tie.After-enum-told) → let a = c .before .before .before .before .before .before .args in
+    layoutRefused (a .extents .now) (a .sizes .now) (a .strides .now) (c .before .before .before .purpose-of .result) ≡ none
+passed c = served-none _ (sym (c .before .before .check-layout .ensures) ∙ c .enum-told .given .1)
+
+plan-into-requires : tie.Need-plan-into-requires
+plan-into-requires c κs =
+    let t = c .before .before .before .before .before in
+    let a = t .before .before .before .before .before .before .args in
+    (accepted (a .extents .now) (a .sizes .now) (a .strides .now) (t .before .before .before .purpose-of .result) (passed t), record { extents = refl; strides = refl })
+
 returns : tie.Need-returns
 returns c =
-    let k = c .before .before .before .before in
-    handed-refused (λ (p : Planned). p .answer) (λ (p : Planned). planMemory (p .plan)) (made k) (c .before .before .answer .given .1) (toZ-ofZ (record { sfits = c .negated .ok }) ∙ c .negated .ensures)
+    let g = c .before .before in
+    let l = g .before .before in
+    let a = l .before .before .before .before .args in
+    handed-refused (λ (p : Planned). p .answer) (λ (p : Planned). planMemory (p .plan))
+    (called (planned (a .extents .now) (a .sizes .now) (a .strides .now))
+    (sym (planned-refused (a .extents .now) (a .sizes .now) (a .strides .now) (l .before .purpose-of .result) _ (refused-some _ (sym (l .check-layout .ensures) ∙ g .answer .given .1))))
+    (l .before .purpose-of .ensures))
+    refl (toZ-ofZ (record { sfits = c .negated .ok }) ∙ c .negated .ensures)
 
 returns-2 : tie.Need-returns-2
 returns-2 c =
-    let e = c .before .before .before .before .before .before in
-    handed-served (λ (p : Planned). p .answer) (λ (p : Planned). planMemory (p .plan)) (made (e .before .before)) (e .enum-told .given .1) refl
+    let m = c .before .before in
+    let t = m .before .before .before .before .before .before in
+    let a = t .before .before .before .before .before .before .args in
+    handed-served (λ (p : Planned). p .answer) (λ (p : Planned). planMemory (p .plan))
+    (called (planned (a .extents .now) (a .sizes .now) (a .strides .now))
+    (serves (a .extents .now) (a .sizes .now) (a .strides .now) (t .before .before .before .purpose-of .result) (passed t) _ _ _ _ (m .plan-into .ensures) _ (t .enum-told .given .1))
+    (t .before .before .before .purpose-of .ensures))
+    (t .enum-told .given .1) refl
 
 pub gougelily-plan-spec : {M : Type 1} → statement M
 gougelily-plan-spec =
     tie.close
     (tie.spec
     purpose-of-requires
-    plan-requires
+    check-layout-requires
     enum-known-answer
     negated-requires
     enum-told
+    plan-into-requires
     returns
     returns-2)
