@@ -99,17 +99,23 @@ pub fn no_block(rank: usize, e: &[u64]) -> bool
     has_zero(&e[..rank])
 }
 
-// A WALK BEGINS on a plan, whatever its values: all counters 0, each operand at its start; with a zero extent it has ended at once.
-pub fn begin(plan: Plan, starts: &[i64]) -> Begun
-    ensures { λ r. ⌜ r ≡ begunAt plan (now (starts .entry)) ⌝ }
+// A walk's beginning on the arrays of a plan, whatever their values: all counters 0, each operand at its start; with a zero extent it has
+// ended at once. The block sizes `b` have no part in it.
+pub fn begin_on<'a, 'b>(
+    rank: usize,
+    operands: usize,
+    e: &'a [u64; 64],
+    b: &'a [u64; 64],
+    s: &'a [i64; 512],
+    starts: &'b [i64],
+) -> Begun
+    ensures { λ r. ⌜ r ≡ begunAt (planOf rank operands (now (e .entry)) (now (b .entry)) (now (s .entry))) (now (starts .entry)) ⌝ }
 {
-    let rank = plan.rank;
-    let operands = plan.operands;
-    let answer = check_begin(rank, operands, &plan.extents, &plan.strides, starts);
+    let answer = check_begin(rank, operands, e, s, starts);
     match answer {
         Answer::Refused(refusal) => refused(refusal),
         Answer::Served => {
-            let ended = no_block(rank, &plan.extents);
+            let ended = no_block(rank, e);
             let counters = [0u64; 64];
             let offsets = offsets_of(starts);
             Begun {
@@ -122,4 +128,20 @@ pub fn begin(plan: Plan, starts: &[i64]) -> Begun
             }
         }
     }
+}
+
+// A WALK BEGINS on a plan, whatever its values.
+pub fn begin(plan: Plan, starts: &[i64]) -> Begun
+    ensures { λ r. ⌜ r ≡ begunAt plan (now (starts .entry)) ⌝ }
+{
+    let rank = plan.rank;
+    let operands = plan.operands;
+    begin_on(
+        rank,
+        operands,
+        &plan.extents,
+        &plan.blocks,
+        &plan.strides,
+        starts,
+    )
 }
