@@ -84,13 +84,21 @@ fn planning_table(asked: &Asked, out: &mut impl Write) -> Result<(), String> {
 }
 
 fn walking_table(asked: &Asked, out: &mut impl Write) -> Result<(), String> {
-    let head = "| plan | blocks | Rust, writing, ns | many steps ns | ratio | Rust, summing, ns | step ns | ratio |";
-    let mut text = format!("## Walking, per block\n\n{head}\n|---|---|---|---|---|---|---|---|\n");
+    let head = "| plan | blocks | Rust, writing, ns | many steps ns | ratio | Rust, summing, ns | step ns | ratio | by value ns | lent ns |";
+    let rule = "|---|---|---|---|---|---|---|---|---|---|";
+    let mut text = format!("## Walking, per block\n\n{head}\n{rule}\n");
     for row in walking::times(asked.runs.div_ceil(20)) {
         let (many, step) = (row.many / row.written, row.step / row.summed);
         text += &format!(
-            "| {} | {} | {:.1} | {:.1} | {many:.2} | {:.1} | {:.0} | {step:.1} |\n",
-            row.name, row.blocks, row.written, row.many, row.summed, row.step
+            "| {} | {} | {:.1} | {:.1} | {many:.2} | {:.1} | {:.0} | {step:.1} | {:.0} | {:.0} |\n",
+            row.name,
+            row.blocks,
+            row.written,
+            row.many,
+            row.summed,
+            row.step,
+            row.by_value,
+            row.lent
         );
     }
     text.push('\n');
@@ -160,6 +168,9 @@ fn run() -> Result<(), String> {
     {
         port::gougelily::linked()?;
     }
+    if ["walking", "parts"].iter().any(|what| asked.wants(what)) {
+        port::parts::linked()?;
+    }
     if asked.wants("planning") {
         planning_table(&asked, &mut out)?;
     }
@@ -170,7 +181,6 @@ fn run() -> Result<(), String> {
         texts_table(&asked, &mut out)?;
     }
     if asked.wants("parts") {
-        port::parts::linked()?;
         parts_table(&asked, &mut out)?;
     }
     Ok(())

@@ -7,7 +7,7 @@ use crate::layouts;
 use crate::planning::empty_plan;
 use crate::timing;
 use port::gougelily::{self, Block, Plan, State};
-use port::Flat;
+use port::{parts, Flat};
 use std::hint::black_box;
 use strided_basic as original;
 use tools::layout::Layout;
@@ -82,7 +82,8 @@ impl Case {
         state
     }
 
-    fn steps(&self) -> usize {
+    /// The walk to the end by single steps.
+    fn steps(&self, step: impl Fn(&Plan, &mut State, &mut Block) -> i64) -> usize {
         let mut state = self.begun();
         let mut block = Block {
             counters: [0; 64],
@@ -91,7 +92,7 @@ impl Case {
             strides: [0; 8],
         };
         let mut sum = 0usize;
-        while gougelily::step(black_box(&self.plan), &mut state, &mut block) == 1 {
+        while step(black_box(&self.plan), &mut state, &mut block) == 1 {
             sum = sum.wrapping_mul(31).wrapping_add(block.length[0] as usize);
             for &offset in &block.offsets[..self.strides.len()] {
                 sum = sum.wrapping_add(offset as usize);
@@ -171,9 +172,12 @@ pub struct Row {
     /// The original with the closure that writes, and many steps.
     pub written: f64,
     pub many: f64,
-    /// The original with the closure that sums, and single steps.
+    /// The original with the closure that sums, and single steps: the library's, the
+    /// one by value and the lent one.
     pub summed: f64,
     pub step: f64,
+    pub by_value: f64,
+    pub lent: f64,
 }
 
 pub fn times(runs: u64) -> Vec<Row> {
@@ -186,16 +190,21 @@ pub fn times(runs: u64) -> Vec<Row> {
             case.plan.blocks[axis] = case.blocks[axis] as u64;
         }
         let blocks = case.blocks();
-        assert_eq!(
-            case.original(),
-            case.steps(),
-            "{}: other blocks",
-            named.name
-        );
         let (mut first, mut second) = (Records::new(), Records::new());
-        let sum = case.many(&mut first, true);
-        assert_eq!(case.original(), sum, "{}: other blocks", named.name);
-        let (summed, step) = timing::best(runs, &mut || case.original(), &mut || case.steps());
+        for sum in [
+            case.steps(gougelily::step),
+            case.steps(parts::step),
+            case.steps(parts::step_lent),
+            case.many(&mut first, true),
+        ] {
+            assert_eq!(case.original(), sum, "{}: other blocks", named.name);
+        }
+        let (summed, step) = timing::best(runs, &mut || case.original(), &mut || {
+            case.steps(gougelily::step)
+        });
+        let (by_value, lent) = timing::best(runs, &mut || case.steps(parts::step), &mut || {
+            case.steps(parts::step_lent)
+        });
         let (written, many) = timing::best(runs, &mut || case.written(&mut first), &mut || {
             case.many(&mut second, false)
         });
@@ -207,6 +216,8 @@ pub fn times(runs: u64) -> Vec<Row> {
             many: each(many),
             summed: each(summed),
             step: each(step),
+            by_value: each(by_value),
+            lent: each(lent),
         });
     }
     found

@@ -17,7 +17,8 @@ use Rattle.strided.specs.declared.Walk.{Walk}
 use Rattle.strided.specs.declared.Stepped.{Stepped}
 use Rattle.strided.specs.declared.Marked.{Marked}
 use Rattle.laws.specs.Walk.Bulk.{blocks-few, blocks-none}
-use Rattle.gougelily.specs.Handed.{flag, Handed, markCode, WalkMemory, walkMemory, StepMemory, stepMemory, Steps, ManyMemory, manyMemory, StepsMany}
+use Rattle.walk.specs.Memory.{flag, WalkMemory, walkMemory}
+use Rattle.gougelily.specs.Handed.{Handed, markCode, ManyMemory, manyMemory, StepsMany}
 
 -- a call's result x at an argument u, which is v
 pub called : {U X : Type 0} (f : U → X) {u v : U} {x : X} → x ≡ f u → u ≡ v → x ≡ f v
@@ -34,23 +35,6 @@ module _ {X A : Type 0} (answer : X → Answer) (memory : X → A) {x t : X} (is
   handed-served h e =
       let g : answer t ≡ Served = sym (ap answer is) ∙ h in
       record { code = rw g; memory = rw g (e ∙ ap memory is) }
-
--- a step
-module _ {x s : Stepped} (is : x ≡ s) {old : StepMemory} where
-  pub step-refused : {r : Refusal} {n : ℤ} → x .answer ≡ Rejected r → n ≡ negated r → Steps s old old n
-  step-refused {r} h e =
-      let g : s .answer ≡ Rejected r = sym (ap (λ (y : Stepped). y .answer) is) ∙ h in
-      record { code = rw g e; memory = rw g }
-
-  pub step-ended : x .answer ≡ Ended → Steps s old old (pos 0)
-  step-ended h =
-      let g : s .answer ≡ Ended = sym (ap (λ (y : Stepped). y .answer) is) ∙ h in
-      record { code = rw g; memory = rw g }
-
-  pub step-block : {new : StepMemory} → x .answer ≡ Block → new ≡ stepMemory x → Steps s old new (pos 1)
-  step-block h e =
-      let g : s .answer ≡ Block = sym (ap (λ (y : Stepped). y .answer) is) ∙ h in
-      record { code = rw g; memory = rw g (e ∙ ap stepMemory is) }
 
 -- the repeat mark
 module _ {x m : Marked} (is : x ≡ m) where

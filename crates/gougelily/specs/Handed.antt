@@ -2,12 +2,11 @@
 -- refused, and then every lent byte as it was.
 -- Assumes nothing.
 use mathlib.Core.Path.{_≡_}
-use mathlib.Core.Bool.{Bool, cond, not}
+use mathlib.Core.Bool.{cond}
 use mathlib.Core.List.{List, [], _∷_}
 use Prim.Native.Nat.{ℕ}
 use lib.Dec.{eqb}
 use lib.IntN.{ℤ, pos}
-use lib.ListN.{getD}
 use Rattle.strided.specs.Refusals.{negated}
 use Rattle.strided.specs.Bulk.{SteppedMany}
 use Rattle.strided.specs.declared.Purpose.{Purpose}
@@ -19,23 +18,15 @@ use Rattle.strided.specs.declared.Outcome.the-variants.{Block, Ended, Rejected}
 use Rattle.strided.specs.declared.Plan.{Plan}
 use Rattle.strided.specs.declared.Planned.{Planned}
 use Rattle.strided.specs.declared.Told.{Told}
-use Rattle.strided.specs.declared.Walk.{Walk}
 use Rattle.strided.specs.declared.Begun.{Begun}
-use Rattle.strided.specs.declared.Stepped.{Stepped}
 use Rattle.strided.specs.declared.Marked.{Marked}
+use Rattle.walk.specs.Memory.{flag, WalkMemory, walkMemory, keptStep}
 
 -- ---- numbers for what C has no word for
 
 -- a purpose is two numbers: 0 is pointwise with no chosen operand, 1 pointwise into the chosen one, and any other number a fold
 abbrev pub purposeOf : ℕ → ℕ → Purpose
 purposeOf kind chosen = cond (eqb kind 0) Pointwise (cond (eqb kind 1) (PointwiseInto chosen) (Fold chosen))
-
--- a flag is 1 for yes and 0 for no; read back, any number but 0 is yes
-abbrev pub flag : Bool → ℕ
-flag b = cond b 1 0
-
-abbrev pub isSet : ℕ → Bool
-isSet n = not (eqb n 0)
 
 -- ---- an answer and its lent memory
 
@@ -80,54 +71,12 @@ abbrev pub Tells : Told → IndexMemory → IndexMemory → ℤ → Type 0
 Tells t old new r = Handed (t .answer) (indexMemory t) old new r
 
 -- a walk's state
-pub record WalkMemory : Type 0 where
-  pub ended : List ℕ
-  pub counters : List ℕ
-  pub offsets : List ℤ
-
-abbrev pub walkMemory : Walk → WalkMemory
-walkMemory w = record { ended = flag (w .ended) ∷ []; counters = w .counters; offsets = w .offsets }
-
--- the state that such memory tells
-abbrev pub walkIn : WalkMemory → Walk
-walkIn m = record { ended = isSet (getD (m .ended) 0 0); counters = m .counters; offsets = m .offsets }
-
 abbrev pub Begins : Begun → WalkMemory → WalkMemory → ℤ → Type 0
 Begins b old new r = Handed (b .answer) (walkMemory (b .walk)) old new r
 
 -- the repeat mark is 1 for yes and 0 for no
 abbrev pub markCode : Marked → ℤ
 markCode m = codeOr (m .answer) (pos (flag (m .repeats)))
-
--- ---- a step
-
--- 1 for a block and 0 for the end
-abbrev pub stepCode : Outcome → ℤ
-stepCode Block = pos 1
-stepCode Ended = pos 0
-stepCode (Rejected r) = negated r
-
--- at the end, as on a refusal, memory stays as it was
-abbrev pub keptStep : {A : Type 0} → Outcome → A → A → A
-keptStep Block value old = value
-keptStep Ended value old = old
-keptStep (Rejected r) value old = old
-
--- the state, and the block: the plan index of its first cell, its length, and for each operand the first offset and the stride of axis 0
-pub record StepMemory : Type 0 where
-  pub walk : WalkMemory
-  pub counters : List ℕ
-  pub length : List ℕ
-  pub offsets : List ℤ
-  pub strides : List ℤ
-
-abbrev pub stepMemory : Stepped → StepMemory
-stepMemory s =
-    record { walk = walkMemory (s .walk); counters = s .counters; length = s .length ∷ []; offsets = s .offsets; strides = s .strides }
-
-pub record Steps (s : Stepped) (old new : StepMemory) (r : ℤ) : Type 0 where
-  pub code : r ≡ stepCode (s .answer)
-  pub memory : new ≡ keptStep (s .answer) (stepMemory s) old
 
 -- ---- many steps
 

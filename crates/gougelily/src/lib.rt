@@ -2,7 +2,7 @@
 // declares them. None has a precondition on its numbers. Each answers 0 or more, or the refusal's number negated, and then every lent byte
 // is as it was.
 ghost use mathlib.Core.Path.{_≡_};
-ghost use Rattle.gougelily.specs.Handed.{purposeOf, flag as flagOf};
+ghost use Rattle.gougelily.specs.Handed.{purposeOf};
 use strided::Purpose;
 
 pub mod indices;
@@ -23,11 +23,4 @@ fn purpose_of(kind: u64, chosen: u64) -> Purpose
         return Purpose::PointwiseInto(chosen);
     }
     Purpose::Fold(chosen)
-}
-
-// 1 for yes, 0 for no.
-fn flag(b: bool) -> u64
-    ensures { λ r. ⌜ r ≡ flagOf b ⌝ }
-{
-    if b { 1 } else { 0 }
 }

@@ -1,12 +1,13 @@
 // Many steps of a walk in one call from C.
 ghost use Rattle.strided.specs.Bulk.{steppedMany};
 ghost use Rattle.states.specs.Reaches.{planOf};
-ghost use Rattle.gougelily.specs.Handed.{walkIn, StepsMany};
-use crate::flag;
+ghost use Rattle.walk.specs.Memory.{walkIn};
+ghost use Rattle.gougelily.specs.Handed.{StepsMany};
 use bulk::step_many_on;
 use layout::negated;
 use strided::Outcome;
 use strided::Walk;
+use walk::memory::flag;
 
 // Many steps of a lent walk: as many of its next blocks as both slices have room for.
 #[no_mangle]

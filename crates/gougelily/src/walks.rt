@@ -3,37 +3,14 @@ ghost use mathlib.Core.Path.{_≡_};
 ghost use Rattle.strided.specs.Begin.{begunAt};
 ghost use Rattle.strided.specs.Step.{stepped};
 ghost use Rattle.states.specs.Reaches.{planOf};
-ghost use Rattle.gougelily.specs.Handed.{Begins, walkIn, Steps};
-use crate::flag;
+ghost use Rattle.walk.specs.Memory.{walkIn, Steps};
+ghost use Rattle.gougelily.specs.Handed.{Begins};
 use layout::negated;
 use strided::Answer;
-use strided::Outcome;
-use strided::Plan;
-use strided::Walk;
 use walk::begin;
-use walk::step_on;
-
-// A plan from its numbers and arrays.
-fn plan_of<'a>(
-    rank: usize,
-    operands: usize,
-    extents: &'a [u64; 64],
-    blocks: &'a [u64; 64],
-    strides: &'a [i64; 512],
-) -> Plan
-    ensures { λ r. ⌜ r ≡ planOf rank operands (now (extents .entry)) (now (blocks .entry)) (now (strides .entry)) ⌝ }
-{
-    let e = *extents;
-    let b = *blocks;
-    let s = *strides;
-    Plan {
-        rank: rank,
-        operands: operands,
-        extents: e,
-        blocks: b,
-        strides: s,
-    }
-}
+use walk::memory::flag;
+use walk::memory::plan_of;
+use walk::memory::step_into;
 
 // A walk's beginning.
 #[no_mangle]
@@ -85,36 +62,18 @@ pub extern "C" fn gougelily_step<'a>(
 ) -> i64
     ensures { λ r. ⌜ Steps (stepped (planOf rank operands (now (extents .entry)) (now (blocks .entry)) (now (strides .entry))) (walkIn (record { ended = now (ended .entry); counters = now (counters .entry); offsets = now (offsets .entry) }))) (record { walk = record { ended = now (ended .entry); counters = now (counters .entry); offsets = now (offsets .entry) }; counters = now («block_counters» .entry); length = now (length .entry); offsets = now («block_offsets» .entry); strides = now («block_strides» .entry) }) (record { walk = record { ended = now (ended .exit); counters = now (counters .exit); offsets = now (offsets .exit) }; counters = now («block_counters» .exit); length = now (length .exit); offsets = now («block_offsets» .exit); strides = now («block_strides» .exit) }) r ⌝ }
 {
-    let over = ended[0] != 0;
-    let c = *counters;
-    let o = *offsets;
-    let walk = Walk {
-        ended: over,
-        counters: c,
-        offsets: o,
-    };
-    let stepped = step_on(rank, operands, extents, blocks, strides, walk);
-    let answer = stepped.answer;
-    match answer {
-        Outcome::Rejected(refusal) => negated(refusal),
-        Outcome::Ended => 0,
-        Outcome::Block => {
-            let next = stepped.walk;
-            let e = flag(next.ended);
-            let nc = next.counters;
-            let no = next.offsets;
-            let bc = stepped.counters;
-            let bl = stepped.length;
-            let bo = stepped.offsets;
-            let bs = stepped.strides;
-            *ended = [e];
-            *counters = nc;
-            *offsets = no;
-            *block_counters = bc;
-            *length = [bl];
-            *block_offsets = bo;
-            *block_strides = bs;
-            1
-        }
-    }
+    step_into(
+        rank,
+        operands,
+        extents,
+        blocks,
+        strides,
+        ended,
+        counters,
+        offsets,
+        block_counters,
+        length,
+        block_offsets,
+        block_strides,
+    )
 }

@@ -18,17 +18,21 @@ pub fn magnitude(s: i64) -> u64
     }
 }
 
-// The product, or the cap where that is less.
+// The product, or the cap where that is less. The first test is the machine's own for a product that is too large: no division is left of it.
 pub fn mul_cap(a: u64, b: u64, cap: u64) -> u64
     ensures { λ r. ⌜ r ≡ min (a * b) cap ⌝ }
 {
     if a == 0 {
         return 0;
     }
-    if cap / a < b {
+    if 18446744073709551615 / a < b {
         return cap;
     }
-    a * b
+    let product = a * b;
+    if cap < product {
+        return cap;
+    }
+    product
 }
 
 // The sum, or the cap where that is less.

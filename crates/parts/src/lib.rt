@@ -35,6 +35,8 @@ use strided::Answer;
 use strided::Purpose;
 use strided::Refusal;
 
+pub mod steps;
+
 fn purpose_of(kind: u64, chosen: u64) -> Purpose
     ensures { λ r. ⌜ r ≡ purposeOf kind chosen ⌝ }
 {

@@ -222,7 +222,7 @@ module _ (p : Plan) (w : Walk) (k : Taken p w) where
 
 -- ---- a state that runs, put together anew from its parts
 
-running : (w : Walk) → w .ended ≡ false → w ≡ walkOf false (w .counters) (w .offsets)
+pub running : (w : Walk) → w .ended ≡ false → w ≡ walkOf false (w .counters) (w .offsets)
 running w h = λ i. record { ended = h i; counters = w .counters; offsets = w .offsets }
 
 pub taken-parts : (p : Plan) (w : Walk) → w .ended ≡ false → Taken p w → Taken p (walkOf false (w .counters) (w .offsets))

@@ -1,12 +1,13 @@
 -- What the functions of a step ask and leave.
 -- Assumes nothing.
 use mathlib.Core.Path.{_≡_}
+use mathlib.Core.Bool.{false}
 use mathlib.Core.Option.{none}
 use Prim.Native.Nat.{ℕ}
 use lib.IntN.{pos}
 use lib.ListN.{length, replicate}
 use Rattle.strided.specs.Refusals.{refusedBy}
-use Rattle.strided.specs.Step.{stepRows, Reached}
+use Rattle.strided.specs.Step.{notStepped, stepRows, stepped, Reached}
 use Rattle.strided.specs.declared.Outcome.{Outcome}
 use Rattle.strided.specs.declared.Outcome.the-variants.{Block, Ended, Rejected}
 use Rattle.strided.specs.declared.Plan.{Plan}
@@ -27,6 +28,12 @@ pub record Taken (p : Plan) (w : Walk) : Type 0 where
   pub offsets-all : length (w .offsets) ≡ 8
   pub rows : refusedBy (stepRows p) ≡ none
   pub reached : Reached p w
+
+-- the answer r is the step's: what is refused and what has ended is known with it, and of a block that the state is taken
+abbrev pub Answers : Plan → Walk → Outcome → Type 0
+Answers p w Block = Taken p w × (w .ended ≡ false)
+Answers p w Ended = overStep w ≡ stepped p w
+Answers p w (Rejected r) = notStepped r ≡ stepped p w
 
 -- "A lent step .. leaves the state that one returns, or, if refused, the state it was lent."
 abbrev pub leftBy : Outcome → Walk → Walk → Walk

@@ -3,7 +3,7 @@ ghost use mathlib.Core.Path.{_≡_};
 ghost use mathlib.Core.Bool.{false};
 ghost use Rattle.strided.specs.Step.{notStepped, stepped};
 ghost use Rattle.states.specs.Reaches.{planOf, walkOf};
-ghost use Rattle.walk.specs.Lent.{Taken, overStep, left};
+ghost use Rattle.walk.specs.Lent.{Taken, Answers, overStep, left};
 use advance::advance;
 use advance::firsts;
 use advance::length_of;
@@ -18,6 +18,8 @@ use strided::Plan;
 use strided::Refusal;
 use strided::Stepped;
 use strided::Walk;
+
+pub mod memory;
 
 // "A refusal carries its number and nothing else."
 fn rejected(refusal: Refusal) -> Stepped
@@ -90,8 +92,36 @@ fn block_at<'a>(
     }
 }
 
-// One step, on the arrays of a plan: rows 1 and 2, then row 10, whatever their values. The plan is lent, since it is 5 KB to copy.
-pub fn step_on<'a>(
+// Which answer a step gives: rows 1 and 2, then row 10, whatever the values.
+pub fn answer_of<'a>(
+    ended: bool,
+    rank: usize,
+    operands: usize,
+    e: &'a [u64; 64],
+    b: &'a [u64; 64],
+    s: &'a [i64; 512],
+    c: &'a [u64; 64],
+    o: &'a [i64; 8],
+) -> Outcome
+    ensures { λ r. ⌜ Answers (planOf rank operands (now (e .entry)) (now (b .entry)) (now (s .entry))) (walkOf ended (now (c .entry)) (now (o .entry))) r ⌝ }
+{
+    if rank_over(rank) {
+        return Outcome::Rejected(Refusal::Rank);
+    }
+    if operands_wrong(operands) {
+        return Outcome::Rejected(Refusal::Operands);
+    }
+    if reaches(ended, rank, operands, e, b, s, c, o) {
+        if ended {
+            return Outcome::Ended;
+        }
+        return Outcome::Block;
+    }
+    Outcome::Rejected(Refusal::State)
+}
+
+// One step, on the arrays of a plan.
+fn step_on<'a>(
     rank: usize,
     operands: usize,
     e: &'a [u64; 64],
@@ -101,22 +131,14 @@ pub fn step_on<'a>(
 ) -> Stepped
     ensures { λ r. ⌜ r ≡ stepped (planOf rank operands (now (e .entry)) (now (b .entry)) (now (s .entry))) walk ⌝ }
 {
-    if rank_over(rank) {
-        return rejected(Refusal::Rank);
-    }
-    if operands_wrong(operands) {
-        return rejected(Refusal::Operands);
-    }
-    let ended = walk.ended;
     let c = walk.counters;
     let o = walk.offsets;
-    if reaches(ended, rank, operands, e, b, s, &c, &o) {
-        if ended {
-            return ended_again(walk);
-        }
-        return block_at(rank, operands, e, b, s, c, o);
+    let answer = answer_of(walk.ended, rank, operands, e, b, s, &c, &o);
+    match answer {
+        Outcome::Rejected(refusal) => rejected(refusal),
+        Outcome::Ended => ended_again(walk),
+        Outcome::Block => block_at(rank, operands, e, b, s, c, o),
     }
-    rejected(Refusal::State)
 }
 
 // ONE STEP of a walk, whatever the values of plan and state.

@@ -58,7 +58,7 @@ const SUBJECTS: [Subject; 6] = [
     },
     Subject {
         name: "walks",
-        linked: port::gougelily::linked,
+        linked: || port::parts::linked().and(port::gougelily::linked()),
         compare: walks::compare,
     },
     Subject {

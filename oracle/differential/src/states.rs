@@ -4,7 +4,7 @@
 
 use crate::compare::{same, same_array, Counts};
 use crate::values::{distance, held_block, plan_of, state_of};
-use crate::values::{padded, padded_strides, same_block, same_state, HELD};
+use crate::values::{padded, padded_strides, same_block, same_state, step, HELD};
 use port::gougelily::{self, Block, Plan, State};
 use tools::generate::Random;
 use tools::layout::Walk;
@@ -124,7 +124,7 @@ fn compare_step(walk: &Walk, behind: u64, given: &State) -> Result<i64, String> 
     };
     let plan = plan_of(walk, behind);
     let (mut state, mut block) = (given.clone(), held_block());
-    let code = gougelily::step(&plan, &mut state, &mut block);
+    let code = step(&plan, &mut state, &mut block).map_err(told)?;
     same("code of step", code, verdict(walk, given)).map_err(told)?;
     compare_step_of_many(&plan, given, (code, &state, &block)).map_err(told)?;
     if code < 1 {

@@ -3,7 +3,7 @@
 
 use crate::compare::{same, same_array};
 use port::gougelily::{self, Block, Plan, State};
-use port::{Flat, Strides};
+use port::{parts, Flat, Strides};
 use strided_basic as original;
 use tools::layout::{Layout, Walk};
 
@@ -157,4 +157,21 @@ pub fn same_block(port: &Block, original: &Block) -> Result<(), String> {
     same("block, length", port.length, original.length)?;
     same_array("block, offsets", &port.offsets, &original.offsets)?;
     same_array("block, strides", &port.strides, &original.strides)
+}
+
+/// A step by the library, into a state and a block. The step by value and the lent
+/// step have to do the same from the same state.
+pub fn step(plan: &Plan, state: &mut State, block: &mut Block) -> Result<i64, String> {
+    let given = (state.clone(), block.clone());
+    let code = gougelily::step(plan, state, block);
+    let by_value: fn(&Plan, &mut State, &mut Block) -> i64 = parts::step;
+    for (name, step) in [("by value", by_value), ("lent", parts::step_lent)] {
+        let told = |error| format!("the step {name}: {error}");
+        let (mut other_state, mut other_block) = given.clone();
+        let other = step(plan, &mut other_state, &mut other_block);
+        same("code of step", other, code).map_err(told)?;
+        same_state(&other_state, state).map_err(told)?;
+        same_block(&other_block, block).map_err(told)?;
+    }
+    Ok(code)
 }

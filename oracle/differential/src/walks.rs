@@ -1,13 +1,14 @@
-//! Walks: begin, step and step_many against for_each_inner_block_preordered. The plans that
-//! are walked are planned ones, with their own blocks and with others, and plans
-//! made by hand: layouts taken as they are, and drawn ones of every low rank.
+//! Walks: begin, the three steps and step_many against
+//! for_each_inner_block_preordered. The plans that are walked are planned ones, with
+//! their own blocks and with others, and plans made by hand: layouts taken as they
+//! are, and drawn ones of every low rank.
 
 use crate::compare::{caught, same, same_array, Counts, Task};
 use crate::draws::walks;
 use crate::limits::{walk_limits, WALK_LIMITS};
 use crate::states::{compare_states, next, widths, STATES};
 use crate::values::{held_block, held_state, plan_of, starts_of, state_of};
-use crate::values::{padded, padded_strides, same_block, same_state, HELD};
+use crate::values::{padded, padded_strides, same_block, same_state, step, HELD};
 use port::gougelily::{self, Block, Plan, State};
 use strided_basic as original;
 use tools::generate::Random;
@@ -167,7 +168,7 @@ fn compare_blocks(
             strides: padded_strides(found.strides.iter().copied()),
         };
         let mut block = held_block();
-        let code = gougelily::step(plan, state, &mut block);
+        let code = step(plan, state, &mut block).map_err(at)?;
         same("code of step", code, 1).map_err(at)?;
         same_block(&block, &expected).map_err(at)?;
         let told = state_of(walk, Some(&here)).offsets;
@@ -235,7 +236,7 @@ fn compare_end(walk: &Walk, plan: &Plan, state: &mut State) -> Result<(), String
     same_array("offsets", &offsets, &[HELD as i64; 24]).map_err(at)?;
     for _ in 0..2 {
         let mut block = held_block();
-        let code = gougelily::step(plan, state, &mut block);
+        let code = step(plan, state, &mut block).map_err(at)?;
         same("code of step", code, 0).map_err(at)?;
         same_state(state, &state_of(walk, None)).map_err(at)?;
         same_block(&block, &held_block()).map_err(at)?;
@@ -328,7 +329,7 @@ fn compare_wrong_plans(walk: &Walk, behind: u64, met: &mut Counts) -> Result<(),
         same_state(&state, &held_state()).map_err(told)?;
         met.add(refusal_name(row));
         let mut block = held_block();
-        let code = gougelily::step(&plan, &mut state, &mut block);
+        let code = step(&plan, &mut state, &mut block).map_err(told)?;
         same("code of step", code, -i64::from(row)).map_err(told)?;
         same_state(&state, &held_state()).map_err(told)?;
         same_block(&block, &held_block()).map_err(told)?;

@@ -1,7 +1,8 @@
 //! The inner parts, from crate parts: not the port's public interface. Each
 //! function answers 0, or the refusal's number, and then its arrays are as they
-//! were.
+//! were. The two steps answer as the public library's does.
 
+use crate::gougelily::{Block, Plan, State};
 use crate::{Flat, Strides};
 
 /// The ranks, a row of 64 per operand.
@@ -77,4 +78,63 @@ functions! {
     axes = parts_axes(rank: &mut [usize; 1], extents: &mut [u64; 64], strides: &mut Strides);
     /// The costs of the plan's axes.
     costs = parts_costs(out: &mut [u64; 64]);
+}
+
+/// Declares the steps, with a safe face for each.
+macro_rules! steps {
+    ($($(#[$doc:meta])* $face:ident = $name:ident;)*) => {
+        #[cfg(parts_linked)]
+        extern "C" {
+            $(fn $name(
+                rank: usize,
+                operands: usize,
+                extents: *const [u64; 64],
+                blocks: *const [u64; 64],
+                strides: *const Strides,
+                ended: *mut [u64; 1],
+                counters: *mut [u64; 64],
+                offsets: *mut [i64; 8],
+                block_counters: *mut [u64; 64],
+                length: *mut [u64; 1],
+                block_offsets: *mut [i64; 8],
+                block_strides: *mut [i64; 8],
+            ) -> i64;)*
+        }
+
+        $($(#[$doc])*
+        #[cfg(parts_linked)]
+        #[inline]
+        pub fn $face(plan: &Plan, state: &mut State, block: &mut Block) -> i64 {
+            // The function reads the plan and writes at most the state and the block.
+            unsafe {
+                $name(
+                    plan.rank[0],
+                    plan.operands[0],
+                    &plan.extents,
+                    &plan.blocks,
+                    &plan.strides,
+                    &mut state.ended,
+                    &mut state.counters,
+                    &mut state.offsets,
+                    &mut block.counters,
+                    &mut block.length,
+                    &mut block.offsets,
+                    &mut block.strides,
+                )
+            }
+        }
+
+        $(#[$doc])*
+        #[cfg(not(parts_linked))]
+        pub fn $face(_: &Plan, _: &mut State, _: &mut Block) -> i64 {
+            unreachable!("a program asks `linked` first")
+        })*
+    };
+}
+
+steps! {
+    /// A step by value.
+    step = parts_step;
+    /// A lent step.
+    step_lent = parts_step_lent;
 }

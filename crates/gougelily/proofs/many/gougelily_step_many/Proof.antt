@@ -12,7 +12,7 @@ use Rattle.strided.specs.Bulk.{SteppedMany, steppedMany}
 use Rattle.strided.specs.declared.Plan.{Plan}
 use Rattle.strided.specs.declared.Walk.{Walk}
 use Rattle.states.specs.Reaches.{planOf}
-use Rattle.gougelily.specs.Handed.{walkIn}
+use Rattle.walk.specs.Memory.{walkIn}
 use Rattle.gougelily.proofs.Answers.{many-count, many-refused, many-ended, many-blocks}
 use Rattle.gougelily.proofs.many.gougelily_step_many.Statement.{statement}
 use Rattle.gougelily.proofs.many.gougelily_step_many.Tie as tie

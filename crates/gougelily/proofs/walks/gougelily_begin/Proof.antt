@@ -7,7 +7,7 @@ use Rattle.strided.specs.Begin.{begunAt}
 use Rattle.strided.specs.declared.Plan.{Plan}
 use Rattle.strided.specs.declared.Begun.{Begun}
 use Rattle.states.specs.Reaches.{planOf}
-use Rattle.gougelily.specs.Handed.{walkMemory}
+use Rattle.walk.specs.Memory.{walkMemory}
 use Rattle.gougelily.proofs.Answers.{called, handed-refused, handed-served}
 use Rattle.gougelily.proofs.walks.gougelily_begin.Statement.{statement}
 use Rattle.gougelily.proofs.walks.gougelily_begin.Tie as tie

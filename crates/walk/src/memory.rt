@@ -1,0 +1,140 @@
+// A walk in lent arrays, as C functions have it: a plan made of them, and one step of the state that lies in them.
+ghost use mathlib.Core.Path.{_≡_};
+ghost use mathlib.Core.Bool.{false};
+ghost use lib.IntN.{pos};
+ghost use Rattle.strided.specs.Step.{stepped};
+ghost use Rattle.states.specs.Reaches.{planOf, walkOf};
+ghost use Rattle.walk.specs.Lent.{Taken};
+ghost use Rattle.walk.specs.Memory.{flag as flagOf, walkIn, Steps};
+use crate::answer_of;
+use advance::advance;
+use advance::firsts;
+use advance::length_of;
+use advance::tile_starts;
+use advance::widths;
+use layout::negated;
+use strided::Outcome;
+use strided::Plan;
+
+// 1 for yes, 0 for no.
+pub fn flag(b: bool) -> u64
+    ensures { λ r. ⌜ r ≡ flagOf b ⌝ }
+{
+    if b { 1 } else { 0 }
+}
+
+// A plan from its numbers and arrays.
+pub fn plan_of<'a>(
+    rank: usize,
+    operands: usize,
+    extents: &'a [u64; 64],
+    blocks: &'a [u64; 64],
+    strides: &'a [i64; 512],
+) -> Plan
+    ensures { λ r. ⌜ r ≡ planOf rank operands (now (extents .entry)) (now (blocks .entry)) (now (strides .entry)) ⌝ }
+{
+    let e = *extents;
+    let b = *blocks;
+    let s = *strides;
+    Plan {
+        rank: rank,
+        operands: operands,
+        extents: e,
+        blocks: b,
+        strides: s,
+    }
+}
+
+// The block at the counters, and the state at the next one, in the lent arrays. It checks nothing.
+fn block_into<'a>(
+    rank: usize,
+    operands: usize,
+    extents: &'a [u64; 64],
+    blocks: &'a [u64; 64],
+    strides: &'a [i64; 512],
+    ended: &mut [u64; 1],
+    counters: &mut [u64; 64],
+    offsets: &mut [i64; 8],
+    block_counters: &mut [u64; 64],
+    length: &mut [u64; 1],
+    block_offsets: &mut [i64; 8],
+    block_strides: &mut [i64; 8],
+)
+    requires { ⌜ Taken (planOf rank operands (now extents) (now blocks) (now strides)) (walkOf false (now counters) (now offsets)) ⌝ }
+    ensures { λ _. ⌜ Steps (stepped (planOf rank operands (now (extents .entry)) (now (blocks .entry)) (now (strides .entry))) (walkOf false (now (counters .entry)) (now (offsets .entry)))) (record { walk = record { ended = now (ended .entry); counters = now (counters .entry); offsets = now (offsets .entry) }; counters = now («block_counters» .entry); length = now (length .entry); offsets = now («block_offsets» .entry); strides = now («block_strides» .entry) }) (record { walk = record { ended = now (ended .exit); counters = now (counters .exit); offsets = now (offsets .exit) }; counters = now («block_counters» .exit); length = now (length .exit); offsets = now («block_offsets» .exit); strides = now («block_strides» .exit) }) (pos 1) ⌝ }
+{
+    let w = widths(rank, extents, blocks);
+    let mut t = tile_starts(rank, &w, counters);
+    let bl = length_of(rank, extents, &w, counters);
+    let bs = firsts(rank, operands, strides);
+    let bc = *counters;
+    let bo = *offsets;
+    *block_counters = bc;
+    *length = [bl];
+    *block_offsets = bo;
+    *block_strides = bs;
+    let more = advance(
+        rank,
+        rank,
+        operands,
+        extents,
+        &w,
+        strides,
+        &mut t,
+        counters,
+        offsets,
+    );
+    let e = flag(!more);
+    *ended = [e];
+}
+
+// One step in the lent arrays. It copies neither the plan nor the state: the block's counters are all that is copied.
+pub fn step_into<'a>(
+    rank: usize,
+    operands: usize,
+    extents: &'a [u64; 64],
+    blocks: &'a [u64; 64],
+    strides: &'a [i64; 512],
+    ended: &mut [u64; 1],
+    counters: &mut [u64; 64],
+    offsets: &mut [i64; 8],
+    block_counters: &mut [u64; 64],
+    length: &mut [u64; 1],
+    block_offsets: &mut [i64; 8],
+    block_strides: &mut [i64; 8],
+) -> i64
+    ensures { λ r. ⌜ Steps (stepped (planOf rank operands (now (extents .entry)) (now (blocks .entry)) (now (strides .entry))) (walkIn (record { ended = now (ended .entry); counters = now (counters .entry); offsets = now (offsets .entry) }))) (record { walk = record { ended = now (ended .entry); counters = now (counters .entry); offsets = now (offsets .entry) }; counters = now («block_counters» .entry); length = now (length .entry); offsets = now («block_offsets» .entry); strides = now («block_strides» .entry) }) (record { walk = record { ended = now (ended .exit); counters = now (counters .exit); offsets = now (offsets .exit) }; counters = now («block_counters» .exit); length = now (length .exit); offsets = now («block_offsets» .exit); strides = now («block_strides» .exit) }) r ⌝ }
+{
+    let over = ended[0] != 0;
+    let answer = answer_of(
+        over,
+        rank,
+        operands,
+        extents,
+        blocks,
+        strides,
+        counters,
+        offsets,
+    );
+    match answer {
+        Outcome::Rejected(refusal) => negated(refusal),
+        Outcome::Ended => 0,
+        Outcome::Block => {
+            block_into(
+                rank,
+                operands,
+                extents,
+                blocks,
+                strides,
+                ended,
+                counters,
+                offsets,
+                block_counters,
+                length,
+                block_offsets,
+                block_strides,
+            );
+            1
+        }
+    }
+}
