@@ -6,10 +6,9 @@ ghost use Rattle.states.specs.Reaches.{planOf};
 ghost use Rattle.walk.specs.Memory.{walkIn, Steps};
 ghost use Rattle.gougelily.specs.Handed.{Begins};
 use layout::negated;
+use states::begin_on;
 use strided::Answer;
-use walk::begin;
 use walk::memory::flag;
-use walk::memory::plan_of;
 use walk::memory::step_into;
 
 // A walk's beginning.
@@ -27,7 +26,7 @@ pub extern "C" fn gougelily_begin<'a>(
 ) -> i64
     ensures { λ r. ⌜ Begins (begunAt (planOf rank operands (now (extents .entry)) (now (blocks .entry)) (now (strides .entry))) (now (starts .entry))) (record { ended = now (ended .entry); counters = now (counters .entry); offsets = now (offsets .entry) }) (record { ended = now (ended .exit); counters = now (counters .exit); offsets = now (offsets .exit) }) r ⌝ }
 {
-    let begun = begin(plan_of(rank, operands, extents, blocks, strides), starts);
+    let begun = begin_on(rank, operands, extents, blocks, strides, starts);
     let answer = begun.answer;
     match answer {
         Answer::Refused(refusal) => negated(refusal),
