@@ -88,7 +88,7 @@ fn block_into<'a>(
     *ended = [e];
 }
 
-// One step in the lent arrays. It copies neither the plan nor the state: the block's counters are all that is copied.
+// One step in the lent arrays. Neither the plan nor the state is copied.
 pub fn step_into<'a>(
     rank: usize,
     operands: usize,
