@@ -24,12 +24,15 @@ const CALLS: usize = 8;
 const TURNS: u64 = 1000;
 
 /// What is counted, beside the sorts of states.
-const COUNTED: [&str; 44] = [
+const COUNTED: [&str; 47] = [
     "walks",
     "walks to the end",
     "walks left after 300 blocks",
     "walks without a block: zero extent",
     "blocks",
+    "many steps: along axis 1 in a tile",
+    "many steps: along axis 0 from tile to tile",
+    "many steps: elsewhere",
     "walks of rank 0",
     "walks of rank 1",
     "walks of rank 2",
@@ -179,6 +182,26 @@ fn compare_blocks(
     Ok(counters)
 }
 
+/// How many steps get from a block to the next one: in a stretch along one axis, or
+/// by a carry.
+fn way(widths: &[usize], here: &[usize], next: Option<&[usize]>) -> &'static str {
+    let moves = |axis: &usize| next.is_some_and(|next| next[*axis] > here[*axis]);
+    let others_stay = |axis: usize| {
+        let same = |other: usize| next.is_some_and(|next| next[other] == here[other]);
+        (0..here.len()).all(|other| other == axis || same(other))
+    };
+    let cut = widths.iter().skip(1).any(|&width| width > 1);
+    let axis = usize::from(cut);
+    match (0..here.len()).find(moves) {
+        Some(moved) if moved == axis && others_stay(axis) => match axis {
+            1 if here[1] % widths[1] + 1 < widths[1] => "many steps: along axis 1 in a tile",
+            0 => "many steps: along axis 0 from tile to tile",
+            _ => "many steps: elsewhere",
+        },
+        _ => "many steps: elsewhere",
+    }
+}
+
 /// Many steps in one call over the original's blocks, with any room. `ended` says
 /// whether the blocks are all.
 fn compare_many(
@@ -187,6 +210,7 @@ fn compare_many(
     blocks: &[Found],
     ended: bool,
     random: &mut Random,
+    met: &mut Counts,
 ) -> Result<(), String> {
     let (widths, operands) = (widths(walk), walk.strides.len());
     let mut counters = Some(vec![0; walk.extents.len()]);
@@ -214,6 +238,7 @@ fn compare_many(
             }
             let here = counters.ok_or_else(|| at("the model has ended".to_string()))?;
             counters = next(&walk.extents, &widths, &here);
+            met.add(way(&widths, &here, counters.as_deref()));
         }
         let code = gougelily::step_many(plan, &mut state, &mut lengths, &mut offsets);
         same("code of step_many", code, now.len() as i64).map_err(at)?;
@@ -279,7 +304,7 @@ fn compare_walk(
     let counters = compare_blocks(walk, &plan, &mut state, &blocks)?;
     met.add_many("blocks", blocks.len() as u64);
     same("the model has ended", counters.is_none(), ended)?;
-    compare_many(walk, &plan, &blocks, ended, random)?;
+    compare_many(walk, &plan, &blocks, ended, random, met)?;
     if !ended {
         met.add("walks left after 300 blocks");
         return Ok(());
