@@ -50,8 +50,8 @@ fn shown(ratio: f64) -> String {
 
 fn planning_table(asked: &Asked, out: &mut impl Write) -> Result<(), String> {
     let rows = planning::times(asked.runs);
-    let mut text = String::from("| layout | purpose | Rust ns | port ns | ratio |");
-    let mut rule = String::from("|---|---|---|---|---|");
+    let mut text = String::from("| layout | purpose | Rust ns | port ns | ratio | by value ns |");
+    let mut rule = String::from("|---|---|---|---|---|---|");
     if asked.instructions {
         text.push_str(" Rust instructions | port instructions | ratio |");
         rule.push_str("---|---|---|");
@@ -62,12 +62,13 @@ fn planning_table(asked: &Asked, out: &mut impl Write) -> Result<(), String> {
         let ratio = row.port / row.original;
         ratios.push(ratio);
         text += &format!(
-            "| {} | {} | {:.0} | {:.0} | {} |",
+            "| {} | {} | {:.0} | {:.0} | {} | {:.0} |",
             row.name,
             row.purpose,
             row.original,
             row.port,
-            shown(ratio)
+            shown(ratio),
+            row.by_value
         );
         if asked.instructions {
             let original = counting::instructions(Side::Original, at)?;

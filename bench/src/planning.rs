@@ -1,10 +1,9 @@
-//! Planning: the library's `gougelily_plan` beside the original's `total_len`
-//! and `pointwise_plan` or `fold_plan`.
+//! Planning: the library's `gougelily_plan`, and planning by value, beside the
+//! original's `total_len` and `pointwise_plan` or `fold_plan`.
 
 use crate::layouts;
 use crate::timing;
-use port::gougelily;
-use port::Flat;
+use port::{gougelily, parts, Flat};
 use std::hint::black_box;
 use strided_basic as original;
 use tools::answer::rows;
@@ -49,6 +48,21 @@ impl<'a> Case<'a> {
         assert_eq!(answer, 0, "the layouts are served");
         self.plan.rank[0] + self.plan.blocks[0] as usize
     }
+
+    /// Planning by the entry that returns the plan by value.
+    pub fn by_value(&mut self) -> usize {
+        let plan = &mut self.plan;
+        let answer = parts::plan(
+            black_box(&self.flat),
+            &mut plan.rank,
+            &mut plan.operands,
+            &mut plan.extents,
+            &mut plan.blocks,
+            &mut plan.strides,
+        );
+        assert_eq!(answer, 0, "the layouts are served");
+        self.plan.rank[0] + self.plan.blocks[0] as usize
+    }
 }
 
 pub fn empty_plan() -> gougelily::Plan {
@@ -67,6 +81,7 @@ pub struct Row {
     pub purpose: &'static str,
     pub original: f64,
     pub port: f64,
+    pub by_value: f64,
 }
 
 /// Every layout as a copy and as a sum.
@@ -86,12 +101,15 @@ pub fn times(runs: u64) -> Vec<Row> {
         let first = Case::of(&layout);
         let mut second = Case::of(&layout);
         assert_eq!(first.original(), second.port(), "{name}: another plan");
+        assert_eq!(first.original(), second.by_value(), "{name}: another plan");
         let (original, port) = timing::best(runs, &mut || first.original(), &mut || second.port());
+        let by_value = timing::alone(runs, &mut || second.by_value());
         found.push(Row {
             name,
             purpose,
             original,
             port,
+            by_value,
         });
     }
     found

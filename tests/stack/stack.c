@@ -95,6 +95,31 @@ static void many(void)
 }
 static void nothing(void) { answer = 0; }
 
+/* Entries that take and return values, by the C functions of crate parts. */
+uint64_t parts_plan(const uint64_t *, size_t, const uint64_t *, size_t, const int64_t *, size_t, uint64_t, uint64_t,
+                    size_t[1], size_t[1], uint64_t[64], uint64_t[64], int64_t[512]);
+int64_t parts_step(size_t, size_t, const uint64_t[64], const uint64_t[64], const int64_t[512], uint64_t[1],
+                   uint64_t[64], int64_t[8], uint64_t[64], uint64_t[1], int64_t[8], int64_t[8]);
+int64_t parts_step_lent(size_t, size_t, const uint64_t[64], const uint64_t[64], const int64_t[512], uint64_t[1],
+                        uint64_t[64], int64_t[8], uint64_t[64], uint64_t[1], int64_t[8], int64_t[8]);
+
+static void plan_value(void)
+{
+    answer = -(int64_t)parts_plan(deep.extents, deep.rank, deep.sizes, deep.operands, deep.strides, deep.stride_count,
+                                  deep.purpose, deep.chosen, &plan.rank, &plan.operands, plan.extents, plan.blocks,
+                                  plan.strides);
+}
+static void step_value(void)
+{
+    answer = parts_step(plan.rank, plan.operands, plan.extents, plan.blocks, plan.strides, &walk.ended, walk.counters,
+                        walk.offsets, block.counters, &block.length, block.offsets, block.strides);
+}
+static void step_lent(void)
+{
+    answer = parts_step_lent(plan.rank, plan.operands, plan.extents, plan.blocks, plan.strides, &walk.ended,
+                             walk.counters, walk.offsets, block.counters, &block.length, block.offsets, block.strides);
+}
+
 /* ------------------------------------------------------------ measuring */
 
 static void *run(void *call)
@@ -126,12 +151,15 @@ int main(void)
         void (*call)(void);
     } calls[] = {
         {"gougelily_plan, 58 axes, 8 operands, cutting as deep as it goes", plan_deep},
+        {"plan by value, the same", plan_value},
         {"gougelily_plan, a transpose of 1,000", plan_transposed},
         {"gougelily_plan, 64 axes, 8 operands", plan_wide},
         {"gougelily_original_index", find},
         {"gougelily_plan_index", find_back},
         {"gougelily_begin", begin},
         {"gougelily_step", step},
+        {"step by value", step_value},
+        {"step_lent", step_lent},
         {"gougelily_step_many", many},
         {"gougelily_repeat_mark", mark},
         {"gougelily_walklist", list},

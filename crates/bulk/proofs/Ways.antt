@@ -1,7 +1,7 @@
 -- The ways out of many steps: a refusal, a walk that has ended, and blocks written.
 -- Assumes nothing.
 use mathlib.Core.Path.{_≡_, refl, sym, ap, _∙_, subst}
-use mathlib.Core.Bool.{true, false}
+use mathlib.Core.Bool.{false}
 use mathlib.Core.List.{List, []}
 use Prim.Native.Nat.{ℕ, _/_, _≤_}
 use native.Mathlib.Nat.{le-trans, mul-le-mul-right, div-mul-le-self}
@@ -19,10 +19,8 @@ use Rattle.strided.specs.declared.Stepped.{Stepped}
 use Rattle.strided.specs.declared.Several.{Several}
 use Rattle.laws.specs.Walk.Bulk.{blocks-none}
 use Rattle.states.specs.Reaches.{walkOf}
-use Rattle.walk.specs.Lent.{Taken, overStep}
-use Rattle.walk.proofs.Stepping.{ended-step}
+use Rattle.walk.specs.Lent.{overStep}
 use Rattle.bulk.specs.Blocks.{notSeveral, HasRoom, Wrote}
-use Rattle.bulk.proofs.Turns.{ended-none}
 
 -- so many blocks fit into slices of so many places
 pub has-room : (operands n : ℕ) (ls : List ℕ) (os : List ℤ) → n ≡ roomFor operands (length ls) (length os) → HasRoom n operands ls os
@@ -48,11 +46,11 @@ module _ (p : Plan) (w : Walk) (ls : List ℕ) (os : List ℤ) where
       nothing (blocks-none p room w (λ b. let z : _≡_ {A = ℕ} 0 1 = cc (a, b) in omega arith))
       (q ∙ ap {B = Several} (λ (o : Outcome). record { answer = o; count = 0; walk = keptBy o w }) a)
 
-  pub ended-many : Taken p w → w .ended ≡ true
+  pub ended-many : overStep w ≡ stepped p w
       → _≡_ {A = SteppedMany} (record { several = record { answer = Ended; count = 0; walk = w }; lengths = ls; offsets = os }) (steppedMany p w ls os)
-  ended-many k h =
-      let e : Ended ≡ stepped p w .answer = ap (λ (s : Stepped). s .answer) (ended-step p w k h {s = overStep w} refl) in
-      nothing (ended-none p room w k h) (ap {B = Several} (λ (o : Outcome). record { answer = o; count = 0; walk = keptBy o w }) e)
+  ended-many h =
+      let e : Ended ≡ stepped p w .answer = ap (λ (s : Stepped). s .answer) h in
+      nothing (blocks-none p room w (λ a. let z : _≡_ {A = ℕ} 0 1 = cc (e, a) in omega arith)) (ap {B = Several} (λ (o : Outcome). record { answer = o; count = 0; walk = keptBy o w }) e)
 
   pub wrote-many : (n : ℕ) → n ≡ room → w .ended ≡ false → {v : Several} {ls′ : List ℕ} {os′ : List ℤ} → Wrote n p (walkOf false (w .counters) (w .offsets)) ls os v ls′ os′
       → _≡_ {A = SteppedMany} (record { several = v; lengths = ls′; offsets = os′ }) (steppedMany p w ls os)

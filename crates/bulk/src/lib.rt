@@ -21,14 +21,12 @@ use advance::stretch::moves;
 use advance::stretch::pace;
 use advance::tile_starts;
 use advance::widths;
-use layout::operands_wrong;
-use layout::rank_over;
-use states::reaches;
 use strided::Outcome;
 use strided::Plan;
 use strided::Refusal;
 use strided::Several;
 use strided::Walk;
+use walk::answer_of;
 
 // "A refusal carries its number and nothing else."
 fn rejected(refusal: Refusal) -> Several
@@ -164,38 +162,32 @@ pub fn step_many_on<'a>(
 ) -> Several
     ensures { λ r. ⌜ _≡_ {A = SteppedMany} (record { several = r; lengths = now (lengths .exit); offsets = now (offsets .exit) }) (steppedMany (planOf rank operands (now (e .entry)) (now (b .entry)) (now (s .entry))) walk (now (lengths .entry)) (now (offsets .entry))) ⌝ }
 {
-    if rank_over(rank) {
-        return rejected(Refusal::Rank);
-    }
-    if operands_wrong(operands) {
-        return rejected(Refusal::Operands);
-    }
-    let ended = walk.ended;
     let c = walk.counters;
     let o = walk.offsets;
-    if reaches(ended, rank, operands, e, b, s, &c, &o) {
-        if ended {
-            return Several {
-                answer: Outcome::Ended,
-                count: 0,
-                walk: walk,
-            };
+    let answer = answer_of(walk.ended, rank, operands, e, b, s, &c, &o);
+    match answer {
+        Outcome::Rejected(refusal) => rejected(refusal),
+        Outcome::Ended => Several {
+            answer: Outcome::Ended,
+            count: 0,
+            walk: walk,
+        },
+        Outcome::Block => {
+            let room = room_for(operands, lengths.len(), offsets.len());
+            put_blocks(
+                room,
+                rank,
+                operands,
+                e,
+                b,
+                s,
+                c,
+                o,
+                &mut *lengths,
+                &mut *offsets,
+            )
         }
-        let room = room_for(operands, lengths.len(), offsets.len());
-        return put_blocks(
-            room,
-            rank,
-            operands,
-            e,
-            b,
-            s,
-            c,
-            o,
-            &mut *lengths,
-            &mut *offsets,
-        );
     }
-    rejected(Refusal::State)
 }
 
 // MANY STEPS of a walk, whatever the values of plan and state.

@@ -15,11 +15,11 @@ use Rattle.strided.specs.declared.Answer.{Answer}
 use Rattle.strided.specs.declared.Answer.the-variants.{Served, Refused}
 use Rattle.strided.specs.declared.Outcome.{Outcome}
 use Rattle.strided.specs.declared.Outcome.the-variants.{Block, Ended, Rejected}
-use Rattle.strided.specs.declared.Plan.{Plan}
 use Rattle.strided.specs.declared.Planned.{Planned}
 use Rattle.strided.specs.declared.Told.{Told}
 use Rattle.strided.specs.declared.Begun.{Begun}
 use Rattle.strided.specs.declared.Marked.{Marked}
+use Rattle.kernel.specs.Made.{PlanMemory, planMemory}
 use Rattle.walk.specs.Memory.{flag, WalkMemory, walkMemory, keptStep}
 
 -- ---- numbers for what C has no word for
@@ -46,16 +46,6 @@ pub record Handed {A : Type 0} (answer : Answer) (value old new : A) (r : ℤ) :
   pub memory : new ≡ kept answer value old
 
 -- a plan
-pub record PlanMemory : Type 0 where
-  pub rank : List ℕ
-  pub operands : List ℕ
-  pub extents : List ℕ
-  pub blocks : List ℕ
-  pub strides : List ℤ
-
-abbrev pub planMemory : Plan → PlanMemory
-planMemory p = record { rank = p .rank ∷ []; operands = p .operands ∷ []; extents = p .extents; blocks = p .blocks; strides = p .strides }
-
 abbrev pub Plans : Planned → PlanMemory → PlanMemory → ℤ → Type 0
 Plans p old new r = Handed (p .answer) (planMemory (p .plan)) old new r
 

@@ -1,7 +1,7 @@
 // The planner's inner parts as C functions, for differential runs and benchmarks. This is not the public interface.
 // Each takes any layout, and answers 0 and writes its part into the lent array, or answers a refusal's number and leaves the array as it
 // was. The purpose is two numbers: 0 for pointwise with no chosen operand, 1 for pointwise into the chosen one, 2 for a fold by it.
-// The steps of a walk are in steps.rt.
+// Planning by value is in plans.rt, the steps of a walk are in steps.rt.
 ghost use mathlib.Core.Path.{_≡_};
 ghost use mathlib.Core.List.{map, [], _∷_};
 ghost use Prim.Native.Nat.{_<_};
@@ -36,6 +36,7 @@ use strided::Answer;
 use strided::Purpose;
 use strided::Refusal;
 
+pub mod plans;
 pub mod steps;
 
 fn purpose_of(kind: u64, chosen: u64) -> Purpose

@@ -167,6 +167,12 @@ module _ (p : Plan) (w : Walk) (k : Taken p w) where
   pub axes-few : p .rank ≤ 64
   axes-few = r .axes
 
+  pub operands-some : 0 < p .operands
+  unfolding NoneApplies
+  operands-some =
+      let h = eqb-false (p .operands) 0 (or-none (eqb (p .operands) 0) (ltb 8 (p .operands)) (none-applies (stepRows p) (k .rows) .1 .0) .0) in
+      omega (arith, h)
+
   pub operands-few : p .operands ≤ 8
   operands-few = r .few
 

@@ -93,7 +93,7 @@ fn block_at<'a>(
 }
 
 // Which answer a step gives: rows 1 and 2, then row 10, whatever the values.
-fn answer_of<'a>(
+pub fn answer_of<'a>(
     ended: bool,
     rank: usize,
     operands: usize,

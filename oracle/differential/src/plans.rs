@@ -1,4 +1,4 @@
-//! Plans: gougelily_plan against pointwise_plan and fold_plan, for each layout
+//! Plans: gougelily_plan and plan by value against pointwise_plan and fold_plan, for each layout
 //! with a chosen operand, with none, and as a fold.
 
 use crate::compare::{caught, same, same_array, Counts, Task};
@@ -6,7 +6,7 @@ use crate::limits::{limits, LAYOUT_LIMITS, WALK_LIMITS};
 use crate::parts::with_wrong_count;
 use crate::values::{held_plan, original_plan};
 use port::gougelily::{self, Plan};
-use port::Flat;
+use port::{parts, Flat};
 use std::fmt::Write as _;
 use strided_basic as original;
 use tools::answer::{rows, Axes};
@@ -33,11 +33,22 @@ pub fn by_model(layout: &Layout) -> original::Plan {
     }
 }
 
-/// Fails unless the port plans the layout so, or refuses it with this number.
+/// Fails unless the port plans the layout so, or refuses it with this number. Both
+/// entries are asked, in lent arrays and by value.
 pub fn same_plan(flat: &Flat, number: u32, expected: &Plan) -> Result<(), String> {
     let mut found = held_plan();
     let code = gougelily::plan(flat, &mut found);
     same("code of plan", code, -i64::from(number))?;
+    same_numbers(&found, expected)?;
+    let mut found = held_plan();
+    let (extents, blocks) = (&mut found.extents, &mut found.blocks);
+    let (rank, operands) = (&mut found.rank, &mut found.operands);
+    let code = parts::plan(flat, rank, operands, extents, blocks, &mut found.strides);
+    same("code of plan by value", code, u64::from(number))?;
+    same_numbers(&found, expected).map_err(|error| format!("by value, {error}"))
+}
+
+fn same_numbers(found: &Plan, expected: &Plan) -> Result<(), String> {
     same("rank", found.rank, expected.rank)?;
     same("operands", found.operands, expected.operands)?;
     same_array("plan extents", &found.extents, &expected.extents)?;

@@ -78,6 +78,8 @@ functions! {
     axes = parts_axes(rank: &mut [usize; 1], extents: &mut [u64; 64], strides: &mut Strides);
     /// The costs of the plan's axes.
     costs = parts_costs(out: &mut [u64; 64]);
+    /// The plan, by the entry that returns it by value.
+    plan = parts_plan(rank: &mut [usize; 1], operands: &mut [usize; 1], extents: &mut [u64; 64], blocks: &mut [u64; 64], strides: &mut Strides);
 }
 
 /// Declares the steps, with a safe face for each.

@@ -6,7 +6,7 @@ use Prim.Native.Nat.{ℕ}
 use native.Mathlib.Omega.{arith}
 use lib.IntN.{ℤ}
 use lib.ListN.{length}
-use Rattle.strided.specs.Refusals.{layoutRefused}
+use Rattle.strided.specs.Refusals.{answered, layoutRefused}
 use Rattle.strided.specs.Fuse.{planAxes}
 use Rattle.strided.specs.Plan.{planFrom, noPlan, plannedOr, planned}
 use Rattle.strided.specs.declared.Purpose.{Purpose}
@@ -18,6 +18,10 @@ use Rattle.strided.specs.declared.Planned.{Planned}
 served-plan : (o : Option Refusal) (q : Plan) → plannedOr o q .answer ≡ Served → o ≡ none
 served-plan none q h = refl
 served-plan (some r) q h = let z : _≡_ {A = ℕ} 0 1 = cc h in absurd (omega arith)
+
+answer-told : (o : Option Refusal) (q : Plan) → plannedOr o q .answer ≡ answered o
+answer-told none q = refl
+answer-told (some r) q = refl
 
 module _ (es sizes : List ℕ) (ss : List ℤ) (u : Purpose) where
   pub planned-served : layoutRefused es sizes ss u ≡ none
@@ -32,3 +36,8 @@ module _ (es sizes : List ℕ) (ss : List ℤ) (u : Purpose) where
   pub not-refused : planned es sizes ss u .answer ≡ Served → layoutRefused es sizes ss u ≡ none
   unfolding planned
   not-refused h = served-plan (layoutRefused es sizes ss u) _ h
+
+  -- the answer tells what the layout is refused for
+  pub planned-answer : planned es sizes ss u .answer ≡ answered (layoutRefused es sizes ss u)
+  unfolding planned
+  planned-answer = answer-told (layoutRefused es sizes ss u) _

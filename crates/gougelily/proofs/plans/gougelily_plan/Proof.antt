@@ -11,7 +11,7 @@ use Rattle.laws.specs.Refusals.Accepted.{accepted}
 use Rattle.laws.specs.Refusals.Rows.{served-none, refused-some}
 use Rattle.laws.specs.Plan.Answers.{planned-refused}
 use Rattle.kernel.proofs.Plans.{serves}
-use Rattle.gougelily.specs.Handed.{planMemory}
+use Rattle.kernel.specs.Made.{planMemory}
 use Rattle.gougelily.proofs.Answers.{called, handed-refused, handed-served}
 use Rattle.gougelily.proofs.plans.gougelily_plan.Statement.{statement}
 use Rattle.gougelily.proofs.plans.gougelily_plan.Tie as tie

@@ -1,0 +1,46 @@
+// Planning by the public entry that returns a plan by value. The plan, 5 KB, is then copied into the lent arrays.
+ghost use Rattle.strided.specs.Refusals.{layoutRefused};
+ghost use Rattle.strided.specs.Plan.{planned};
+ghost use Rattle.kernel.specs.Made.{planMemory};
+ghost use Rattle.parts.specs.Answers.{purposeOf, Part};
+use crate::purpose_of;
+use kernel::plan;
+use layout::number;
+use strided::Answer;
+
+// The plan of a layout, refused by rows 1 to 7.
+#[no_mangle]
+pub extern "C" fn parts_plan<'a>(
+    extents: &'a [u64],
+    sizes: &'a [u64],
+    strides: &'a [i64],
+    kind: u64,
+    chosen: u64,
+    rank: &mut [usize; 1],
+    operands: &mut [usize; 1],
+    plan_extents: &mut [u64; 64],
+    blocks: &mut [u64; 64],
+    plan_strides: &mut [i64; 512],
+) -> u64
+    ensures { λ r. ⌜ Part (layoutRefused (now (extents .entry)) (now (sizes .entry)) (now (strides .entry)) (purposeOf kind chosen)) (planMemory (planned (now (extents .entry)) (now (sizes .entry)) (now (strides .entry)) (purposeOf kind chosen) .plan)) (record { rank = now (rank .entry); operands = now (operands .entry); extents = now («plan_extents» .entry); blocks = now (blocks .entry); strides = now («plan_strides» .entry) }) (record { rank = now (rank .exit); operands = now (operands .exit); extents = now («plan_extents» .exit); blocks = now (blocks .exit); strides = now («plan_strides» .exit) }) r ⌝ }
+{
+    let planned = plan(extents, sizes, strides, purpose_of(kind, chosen));
+    let answer = planned.answer;
+    match answer {
+        Answer::Refused(refusal) => number(refusal),
+        Answer::Served => {
+            let made = planned.plan;
+            let axes = made.rank;
+            let count = made.operands;
+            let e = made.extents;
+            let b = made.blocks;
+            let s = made.strides;
+            *rank = [axes];
+            *operands = [count];
+            *plan_extents = e;
+            *blocks = b;
+            *plan_strides = s;
+            0
+        }
+    }
+}
