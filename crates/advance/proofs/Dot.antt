@@ -1,18 +1,15 @@
 -- Laws of offsets: a move along one axis changes the sum of counters times strides by the distance times the stride, so each operand's start stays, and no offset leaves what the plan reaches. Assumes nothing.
 use mathlib.Core.Path.{_≡_, refl, sym, ap, _∙_, subst}
-use mathlib.Core.Bool.{Bool, true, false}
 use mathlib.Core.List.{List}
-use Prim.Native.Nat.{ℕ, zero, suc, _+_, _-_, _*_, _^_, _≤_, _<_}
+use Prim.Native.Nat.{ℕ, zero, suc, _+_, _-_, _*_, _≤_, _<_}
 use native.Mathlib.Nat.{add-zero, add-suc, lt-of-le-of-lt, lt-of-lt-of-le, mul-le-mul-right, le-refl}
 use native.Mathlib.Omega.{arith}
 use lib.IntN.{ℤ, pos, negℤ, natAbs, subℕ, _+ℤ_, _-ℤ_, _*ℤ_, zero-*ℤ, sucℤ-*ℤ, +ℤ-idr, +ℤ-assoc, +ℤ-comm, negℤ-+ℤ, +ℤ-negℤ-cancel, -ℤ-+ℤ-cancel}
 use lib.ListN.{length, getD, set, length-set}
 use lib.Seq.{getD-set-same, getD-set-other}
-use lib.Dec.{ltb}
-use borrow.Author.Tests.{ltb-true, ltb-false}
 use mir.Syntax.{w64}
 use mir.Val.{SFits}
-use Rattle.advance.specs.Moves.{Moves, afterMove, Shifts, shifted, movedAt}
+use Rattle.advance.specs.Moves.{afterMove, Shifts, shifted, movedAt}
 use Rattle.advance.specs.Carry.{dotTo, startAt, Below, Roomy}
 use Rattle.advance.specs.Filled.{by-lt, filled-length, filled-at, filled-same}
 use Rattle.advance.proofs.Signed.{ahead, behind, neg-mul}

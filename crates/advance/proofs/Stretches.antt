@@ -20,7 +20,7 @@ use Rattle.advance.specs.Moves.{afterMove, movedAt, shifted, Shifts}
 use Rattle.advance.specs.Carry.{Roomy, Tiled, Single, CarriedTo, AdvancedTo}
 use Rattle.advance.specs.Stretch.{axisOf, wayOn, paceOf, stretchAim, addedAt, added, Along, Paced, Ahead, Stretched}
 use Rattle.advance.proofs.Signed as signed
-use Rattle.advance.proofs.Axis.{Lands, aim-lands}
+use Rattle.advance.proofs.Axis.{aim-lands}
 use Rattle.advance.proofs.Dot.{roomy-shifts}
 use Rattle.advance.proofs.Turns.{begins, ends, stops-at, inside-done, tile-done, single-all}
 

@@ -3,7 +3,7 @@
 use mathlib.Core.Path.{_≡_, refl, sym, ap, _∙_, subst}
 use mathlib.Core.Bool.{Bool, true, false, cond}
 use mathlib.Core.List.{List}
-use Prim.Native.Nat.{ℕ, zero, suc, _+_, _-_, _*_, _/_, _≤_, _<_}
+use Prim.Native.Nat.{ℕ, zero, suc, _+_, _-_, _*_, _≤_, _<_}
 use native.Mathlib.Nat.{div-one, mul-one}
 use native.Mathlib.Numerals.{add-one}
 use native.Mathlib.Omega.{arith}
@@ -14,7 +14,7 @@ use borrow.Author.Tests.{le-ltb}
 use Rattle.advance.specs.declared.Aim.{Aim}
 use Rattle.advance.specs.Axis.{startOf, back, insideAim, aimOf}
 use Rattle.advance.specs.Moves.{shifted, movedAt, Shifts}
-use Rattle.advance.specs.Carry.{Carried, carryOf, startAt, nextOf, Roomy, Tiled, Single, MovedTo, CarriedTo, AdvancedTo}
+use Rattle.advance.specs.Carry.{Carried, carryOf, startAt, nextOf, Roomy, Tiled, Single, CarriedTo, AdvancedTo}
 use Rattle.advance.specs.Filled.{by-lt, set-self, filled-above}
 use Rattle.advance.proofs.Axis.{Lands, aim-lands}
 use Rattle.advance.proofs.Dot.{roomy-shifts, roomy-moved, start-stays}

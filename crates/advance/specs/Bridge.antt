@@ -18,7 +18,6 @@ use Rattle.strided.specs.Walk.{CutAxis, ax, lenAt, nextIn, nextStart, nextInner
 use Rattle.laws.specs.Walk.States.{Inside, Wide}
 use Rattle.laws.specs.Walk.Cuts.{length-zeros}
 use Rattle.laws.specs.Base.Arrays.{length-padded, take-counted}
-use Rattle.advance.specs.declared.Aim.{Aim}
 use Rattle.advance.specs.Filled.{set-self}
 use Rattle.advance.specs.Axis.{startOf, ahead, back, insideAim, tileAim, aimOf}
 use Rattle.advance.specs.Carry.{Carried, carryOf, nextOf}

@@ -1,6 +1,6 @@
 -- What a move along one axis makes of an offset.
 -- Assumes nothing.
-use Prim.Native.Nat.{ℕ, zero, suc, _+_, _-_, _*_, _<_, _≤_, _^_}
+use Prim.Native.Nat.{ℕ, _+_, _-_, _*_, _<_, _≤_, _^_}
 use lib.IntN.{ℤ, pos, natAbs, subℕ, _+ℤ_, _*ℤ_}
 use lib.ListN.{length, getD}
 use mathlib.Core.List.{List}

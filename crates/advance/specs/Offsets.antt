@@ -5,11 +5,11 @@ use mathlib.Core.Bool.{Bool}
 use mathlib.Core.List.{List, [], _∷_}
 use Prim.Native.Nat.{ℕ, zero, suc, _+_, _*_, _≤_, _<_}
 use native.Mathlib.Omega.{arith}
-use lib.IntN.{ℤ, pos, _+ℤ_, _-ℤ_, _*ℤ_, +ℤ-comm, +ℤ-assoc, -ℤ-+ℤ-cancel}
+use lib.IntN.{ℤ, pos, _+ℤ_, _*ℤ_, +ℤ-comm, +ℤ-assoc, -ℤ-+ℤ-cancel}
 use lib.ListN.{length, getD}
 use lib.Seq.{ext-getD}
 use Rattle.strided.specs.Layout.{dot}
-use Rattle.advance.specs.Filled.{by-lt, filledTo, filled-length, filled-above, filled-at}
+use Rattle.advance.specs.Filled.{by-lt, filled-length, filled-above, filled-at}
 use Rattle.advance.specs.Carry.{Carried, dotTo, startAt, Roomy, MovedTo}
 use Rattle.advance.specs.Blocks.{offsetAt, offsetsAt}
 

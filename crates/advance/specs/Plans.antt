@@ -2,46 +2,38 @@
 -- that a move asks for, and after it they hold the machine's next state.
 -- Assumes nothing.
 use mathlib.Core.Path.{_≡_, refl, sym, ap, ap₂, _∙_, subst}
-use mathlib.Core.Bool.{Bool, true, false, cond, _&&_, _||_, not, false≢true}
+use mathlib.Core.Bool.{Bool, true, false, cond}
 use mathlib.Core.List.{List, [], _∷_, map}
-use mathlib.Core.Option.{Option, none, some}
-use Prim.Native.Nat.{ℕ, zero, suc, _+_, _-_, _*_, _^_, _≤_, _<_, min}
+use mathlib.Core.Option.{some}
+use Prim.Native.Nat.{ℕ, zero, suc, _+_, _-_, _*_, _≤_, _<_, min}
 use native.Mathlib.Nat.{div-add-mod'}
 use native.Mathlib.Omega.{arith}
 use lib.Dec.{ltb, leb, eqb}
-use lib.IntN.{ℤ, pos, natAbs, _+ℤ_, _-ℤ_, _*ℤ_, +ℤ-negℤ-cancel}
+use lib.IntN.{ℤ, pos, _+ℤ_, _-ℤ_, +ℤ-negℤ-cancel}
 use lib.ListN.{length, getD, take, drop, replicate, length-take, length-drop, length-replicate, List·getD-map, List·getD-eq-default}
 use lib.Seq.{ext-getD, getD-take, getD-drop}
-use lib.Signed.{mag}
-use borrow.Author.Tests.{ltb-true, ltb-false, eqb-true, ne-eqb, eq-eqb}
-use mir.Syntax.{w64}
-use mir.Val.{SFits}
-use Rattle.strided.specs.Base.{padded, run, andThen, some-of}
-use Rattle.strided.specs.Layout.{Within, NoZero, hasZero, dot, reach, inI64, maxI}
-use Rattle.strided.specs.Refusals.{someOperand, leaves}
-use Rattle.strided.specs.Walk.{CutAxis, ax, effective, cut, cutAxes, lengthAt, next, zeros, runStrides, firstOf}
-use Rattle.strided.specs.Begin.{planExtents, planBlocks, planRow, planRows, beginRows, beginRefused}
-use Rattle.strided.specs.Step.{offsetsFrom, planCutAxes, packed}
+use borrow.Author.Tests.{ltb-true, ltb-false, ne-eqb, eq-eqb}
+use Rattle.strided.specs.Base.{padded, andThen}
+use Rattle.strided.specs.Layout.{Within, dot}
+use Rattle.strided.specs.Walk.{CutAxis, ax, cut, cutAxes, lengthAt, next, zeros, runStrides, firstOf}
+use Rattle.strided.specs.Begin.{planExtents, planRow, planRows}
+use Rattle.strided.specs.Step.{offsetsFrom, planCutAxes}
 use Rattle.strided.specs.declared.Plan.{Plan}
-use Rattle.strided.specs.declared.Walk.{Walk}
 use Rattle.laws.specs.Base.Arrays.{length-padded, getD-padded}
-use Rattle.laws.specs.Base.Layouts.{within-at, at-within}
 use Rattle.laws.specs.Base.Lists.{getD-run}
-use Rattle.laws.specs.Base.Refusals.{NoneApplies, none-applies}
 use Rattle.laws.specs.Base.Trace.{after-suc}
 use Rattle.laws.specs.Walk.States.{stateAfter, Inside, OnStart, Wide}
-use Rattle.laws.specs.Walk.Cuts.{cut-inside, axes-wide, length-zeros}
+use Rattle.laws.specs.Walk.Cuts.{cut-inside}
 use Rattle.laws.specs.Walk.Reach.{reach as walk-reach}
 use Rattle.laws.specs.Walk.Machine.{length-offsets}
 use Rattle.laws.specs.Walk.Offsets.{getD-offsets}
-use Rattle.laws.specs.Walk.Row9.{row9-exact}
-use Rattle.laws.specs.Walk.Steps.{Ready, none-of, at, wide, rows-many, as-many, cut-many, counters-many, offsets-zeros}
+use Rattle.laws.specs.Walk.Steps.{Ready, wide, rows-many, as-many, cut-many, counters-many}
 use Rattle.advance.specs.Filled.{by-lt, filledTo, filled-length, filled-above, filled-at}
-use Rattle.advance.specs.Axis.{widthOf, widthAt, widthsTo, startOf, tileAt, startsTo}
-use Rattle.advance.specs.Carry.{Carried, carryOf, nextOf, dotTo, startAt, Below, Roomy, Tiled, AdvancedTo}
+use Rattle.advance.specs.Axis.{widthOf, widthAt, widthsTo, startOf}
+use Rattle.advance.specs.Carry.{carryOf, nextOf, dotTo, startAt}
 use Rattle.advance.specs.Blocks.{lengthOf, firstAt, firstsTo, firstsOf, offsetAt, offsetsAt}
-use Rattle.advance.specs.Bridge.{from, from-take, axesAt, length-axes, put, next-carry}
-use Rattle.advance.specs.Offsets.{dot-list, moved-offsets}
+use Rattle.advance.specs.Bridge.{from, from-take, axesAt, put, next-carry}
+use Rattle.advance.specs.Offsets.{dot-list}
 
 -- ---- the cut axes of a plan, out of its arrays
 

@@ -17,7 +17,7 @@ use mir.Val.{SFits}
 use Rattle.strided.specs.Base.{padded, some-of}
 use Rattle.strided.specs.Layout.{Within, NoZero, hasZero, dot, reach, maxI}
 use Rattle.strided.specs.Refusals.{someOperand, leaves}
-use Rattle.strided.specs.Walk.{CutAxis, ax, next, zeros}
+use Rattle.strided.specs.Walk.{next, zeros}
 use Rattle.strided.specs.Begin.{planExtents, planRow, planRows, beginRows, beginRefused}
 use Rattle.strided.specs.Step.{offsetsFrom, planCutAxes, packed}
 use Rattle.strided.specs.declared.Plan.{Plan}

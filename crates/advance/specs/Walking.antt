@@ -1,18 +1,16 @@
 -- A WALK ON ARRAYS, step by step: what a loop that walks to the end inside the library keeps. It begins at the starts, each move takes it to
 -- the machine's next state, and while it runs its arrays have the room that a move asks for.
 -- Assumes nothing.
-use mathlib.Core.Path.{_≡_, refl, sym, ap, ap₂, _∙_, subst}
-use mathlib.Core.Bool.{Bool, true, false, cond, not, false≢true}
+use mathlib.Core.Path.{_≡_, refl, sym, ap, _∙_, subst}
+use mathlib.Core.Bool.{Bool, true, false, not, false≢true}
 use mathlib.Core.List.{List}
 use mathlib.Core.Option.{Option, none, some}
-use Prim.Native.Nat.{ℕ, zero, suc, _≤_, _<_}
-use lib.IntN.{ℤ, pos}
-use lib.ListN.{getD, length, replicate}
-use Rattle.strided.specs.Base.{padded, andThen}
-use Rattle.strided.specs.Layout.{hasZero}
-use Rattle.strided.specs.Walk.{CutAxis, lengthAt, next}
-use Rattle.strided.specs.Begin.{planExtents, planRows, begunAt}
-use Rattle.strided.specs.Step.{offsetsFrom, planCutAxes, packed}
+use Prim.Native.Nat.{ℕ, suc}
+use lib.IntN.{ℤ}
+use Rattle.strided.specs.Base.{andThen}
+use Rattle.strided.specs.Walk.{lengthAt, next}
+use Rattle.strided.specs.Begin.{begunAt}
+use Rattle.strided.specs.Step.{planCutAxes, packed}
 use Rattle.strided.specs.declared.Plan.{Plan}
 use Rattle.strided.specs.declared.Walk.{Walk}
 use Rattle.laws.specs.Base.Trace.{after-suc}

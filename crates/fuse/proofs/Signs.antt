@@ -1,8 +1,8 @@
 -- Signed numbers as the checks ask for them. A signed local holds bits, so a goal has `toZ w64 (ofZ w64 z)` where the code has z: `back`
 -- takes it off. Assumes nothing.
-use mathlib.Core.Path.{_≡_, refl, sym, _∙_}
+use mathlib.Core.Path.{_≡_, refl, sym}
 use mathlib.Core.Bool.{true, false, false≢true}
-use Prim.Native.Nat.{ℕ, _<_}
+use Prim.Native.Nat.{_<_}
 use native.Mathlib.Omega.{arith}
 use lib.IntN.{ℤ, pos, negsuc}
 use lib.Signed.{mag, ltZ}

@@ -4,7 +4,7 @@
 use layout::magnitude;
 ghost use mathlib.Core.Path.{_≡_};
 ghost use mathlib.Core.Bool.{_&&_};
-ghost use Prim.Native.Nat.{ℕ, _+_, _-_, _*_, _/_, _^_, _<_, _≤_, min};
+ghost use Prim.Native.Nat.{_+_, _-_, _*_, _/_, _^_, _<_, _≤_, min};
 ghost use lib.Dec.{ltb, leb};
 ghost use lib.IntN.{pos, natAbs};
 ghost use lib.ListN.{length, getD, take, replicate};

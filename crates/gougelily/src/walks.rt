@@ -1,5 +1,4 @@
 // A walk from C: its beginning, and one step of a state that is lent.
-ghost use mathlib.Core.Path.{_≡_};
 ghost use Rattle.strided.specs.Begin.{begunAt};
 ghost use Rattle.strided.specs.Step.{stepped};
 ghost use Rattle.states.specs.Reaches.{planOf};

@@ -13,7 +13,7 @@ use lib.Seq.{drop-cons, ext-getD}
 use borrow.Author.Tests.{lt-ltb, le-ltb}
 use Rattle.strided.specs.Base.{padded}
 use Rattle.strided.specs.Layout.{within}
-use Rattle.strided.specs.Walk.{CutAxis, ax, effective, cut, cutAxes}
+use Rattle.strided.specs.Walk.{effective, cut, cutAxes}
 use Rattle.strided.specs.Step.{blank, insideb, onStartb, zerosb}
 use Rattle.laws.specs.Base.Arrays.{Blank, length-padded, getD-padded}
 use Rattle.advance.specs.Filled.{by-lt, filledTo, filled-length, filled-above, filled-at}

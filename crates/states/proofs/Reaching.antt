@@ -1,22 +1,22 @@
 -- Laws of row 10's test on a state's arrays: it is the conjunction of the parts that the code tests, in the code's order.
 -- Assumes nothing.
-use mathlib.Core.Path.{_≡_, refl, sym, ap, ap₂, _∙_, subst}
-use mathlib.Core.Bool.{Bool, true, false, cond, _&&_, _||_, not, false≢true}
-use mathlib.Core.List.{List, [], _∷_, map}
-use mathlib.Core.Option.{Option, none, some}
-use Prim.Native.Nat.{ℕ, zero, suc, _+_, _-_, _*_, _≤_, _<_, min}
+use mathlib.Core.Path.{_≡_, refl, sym, ap, ap₂, _∙_}
+use mathlib.Core.Bool.{Bool, true, false, cond, _&&_, _||_, not}
+use mathlib.Core.List.{List, [], _∷_}
+use mathlib.Core.Option.{none, some}
+use Prim.Native.Nat.{ℕ, zero, suc, _+_, _-_, _*_, _<_}
 use native.Mathlib.Omega.{arith}
 use lib.Dec.{ltb, eqb}
 use lib.IntN.{ℤ, pos, _-ℤ_}
-use lib.ListN.{length, getD, take, drop, length-take, length-drop, length-map}
+use lib.ListN.{length, getD, take, drop, length-drop, length-map}
 use lib.Seq.{getD-take, take-all}
 use borrow.Author.Tests.{le-ltb, eqb-true, eq-eqb, ne-eqb, not-true}
 use Rattle.strided.specs.Base.{some-of, run}
 use Rattle.strided.specs.Layout.{NoZero, Within, within, hasZero, dot}
-use Rattle.strided.specs.Refusals.{Row, refusedBy, row1, row2, row5, row6, row8, row9, leaves, someOperand}
-use Rattle.strided.specs.Walk.{CutAxis, cutAxes}
-use Rattle.strided.specs.Begin.{planExtents, planRow, planRows, beginRows, beginRefused}
-use Rattle.strided.specs.Step.{blank, blankZ, insideb, onStartb, zerosb, startsFrom, isNone, mayBegin, tidy, unpacked}
+use Rattle.strided.specs.Refusals.{row5, row6, row9, leaves}
+use Rattle.strided.specs.Walk.{cutAxes}
+use Rattle.strided.specs.Begin.{planRow, planRows, beginRefused}
+use Rattle.strided.specs.Step.{blank, blankZ, insideb, onStartb, zerosb, startsFrom, isNone, mayBegin, tidy}
 use Rattle.strided.specs.declared.Plan.{Plan}
 use Rattle.strided.specs.declared.Walk.{Walk}
 use Rattle.laws.specs.Base.Layouts.{true-within}

@@ -1,18 +1,18 @@
 -- Laws of a beginning's rows on a plan's arrays: what rows 1, 2 and 6 let through, and row 9 at the counters 0.
 -- Assumes nothing.
 use mathlib.Core.Path.{_≡_, refl, sym, ap, ap₂, _∙_, subst}
-use mathlib.Core.Bool.{Bool, true, false, cond, _&&_, _||_, not, false≢true}
+use mathlib.Core.Bool.{Bool, false}
 use mathlib.Core.List.{List, [], _∷_}
 use mathlib.Core.Option.{Option, none, some}
-use Prim.Native.Nat.{ℕ, zero, suc, _+_, _-_, _*_, _≤_, _<_, min}
+use Prim.Native.Nat.{ℕ, zero, suc, _*_, _≤_}
 use native.Mathlib.Omega.{arith}
 use lib.Dec.{ltb, eqb}
-use lib.IntN.{ℤ, pos, _+ℤ_, _-ℤ_, _*ℤ_, zero-*ℤ, +ℤ-idl, +ℤ-idr}
+use lib.IntN.{ℤ, pos, _+ℤ_, _-ℤ_, zero-*ℤ, +ℤ-idr}
 use lib.ListN.{length, getD, take, drop, replicate, length-take}
-use borrow.Author.Tests.{ltb-false, eqb-true, eq-eqb, ne-eqb, not-false}
+use borrow.Author.Tests.{ltb-false, eqb-true, not-false}
 use Rattle.strided.specs.Base.{some-of, padded}
 use Rattle.strided.specs.Layout.{NoZero, Within, hasZero, dot, reach, maxI}
-use Rattle.strided.specs.Refusals.{Row, refusedBy, row1, row2, row6, row9, leaves, someOperand}
+use Rattle.strided.specs.Refusals.{row1, row2, row6, row9, leaves, someOperand}
 use Rattle.strided.specs.Begin.{planExtents, planRow, beginRows, beginRefused, begunOr, begunAt, noWalk}
 use Rattle.strided.specs.declared.Refusal.{Refusal}
 use Rattle.strided.specs.declared.Plan.{Plan}

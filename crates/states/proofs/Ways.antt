@@ -1,24 +1,23 @@
 -- Laws of row 9's loops: how far the offsets lie below the one at the counters, axis by axis, and what that says of a start.
 -- Assumes nothing.
-use mathlib.Core.Path.{_≡_, refl, sym, ap, _∙_, subst}
+use mathlib.Core.Path.{_≡_, sym, ap, _∙_, subst}
 use mathlib.Core.Bool.{Bool, true, false, cond, _&&_, not}
-use mathlib.Core.List.{List, [], _∷_}
-use Prim.Native.Nat.{ℕ, zero, suc, _+_, _-_, _*_, _^_, _≤_, _<_, min}
+use mathlib.Core.List.{List}
+use Prim.Native.Nat.{ℕ, suc, _+_, _-_, _*_, _^_, _≤_, _<_, min}
 use native.Mathlib.Nat.{mul-le-mul-right}
 use native.Mathlib.Numerals.{add-one}
 use native.Mathlib.Omega.{arith}
 use lib.IntN.{ℤ, pos, natAbs, _+ℤ_, _-ℤ_}
 use lib.ListN.{length, getD, take, drop, drop-of-length-le, length-take, length-drop}
 use lib.Seq.{drop-cons}
-use lib.Signed.{nonNeg, ltZ}
+use lib.Signed.{ltZ}
 use mir.Syntax.{w64}
 use mir.Val.{SFits, toZ, ofZ}
-use Rattle.strided.specs.Layout.{Within, inI64, dot, reach, maxI}
-use Rattle.strided.specs.Refusals.{leaves}
+use Rattle.strided.specs.Layout.{inI64, dot, reach}
 use Rattle.laws.specs.Base.Layouts.{within-at, within-length}
 use Rattle.laws.specs.Refusals.Reaches.{term-reach}
 use Rattle.laws.specs.Walk.Row9.{belowTerm, belowOf, below-reach, leaves-at}
-use Rattle.layout.specs.Laid.{rowAt, Laid}
+use Rattle.layout.specs.Laid.{rowAt}
 use Rattle.states.specs.Starts.{leavesAt, Placed, StandsAt, Standing}
 use Rattle.states.proofs.Rooms.{sign-read}
 

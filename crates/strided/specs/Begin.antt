@@ -1,6 +1,6 @@
 -- A walk's beginning: "a walk's beginning checks rows 1, 2, 5, 6, 8, 9".
 -- Assumes nothing.
-use mathlib.Core.Bool.{true, false}
+use mathlib.Core.Bool.{false}
 use mathlib.Core.List.{List, [], _∷_, map}
 use mathlib.Core.Option.{Option, none, some}
 use Prim.Native.Nat.{ℕ, _*_}

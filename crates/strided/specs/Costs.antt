@@ -2,7 +2,7 @@
 -- Assumes nothing.
 use mathlib.Core.Bool.{cond}
 use mathlib.Core.List.{List, map}
-use Prim.Native.Nat.{ℕ, zero, suc, _+_, _*_, _-_, _^_, min}
+use Prim.Native.Nat.{ℕ, _+_, _*_, _-_, _^_, min}
 use lib.Dec.{eqb}
 use lib.IntN.{ℤ, pos, natAbs}
 use lib.ListN.{getD}

@@ -1,12 +1,12 @@
 -- "The plan": cutting. "Cutting looks at a tail of axes, at first all": the n axes from o on.
 -- Assumes nothing.
-use mathlib.Core.Bool.{Bool, true, false, cond}
-use mathlib.Core.List.{List, [], _∷_, map}
+use mathlib.Core.Bool.{Bool, cond}
+use mathlib.Core.List.{List, [], _∷_}
 use mathlib.Core.Option.{Option, none, some}
 use Prim.Native.Nat.{ℕ, zero, suc, _+_, _-_, _*_, _/_}
 use lib.ListN.{getD, set, take, drop, replicate}
 use lib.Dec.{ltb, leb, eqb}
-use lib.IntN.{ℤ, pos, natAbs}
+use lib.IntN.{ℤ}
 use Rattle.strided.specs.Base.{sum, least, every, until}
 use Rattle.strided.specs.Ranks.{ranks}
 use Rattle.strided.specs.Region.{cache, byteAt, region}

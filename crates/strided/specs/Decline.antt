@@ -1,6 +1,6 @@
 -- "The plan": when tiles are declined. Slabs that share no line gain nothing from tiles, so the flat walk stays.
 -- Assumes nothing.
-use mathlib.Core.Bool.{Bool, true, false, cond, _&&_, _||_}
+use mathlib.Core.Bool.{Bool, true, cond, _&&_, _||_}
 use mathlib.Core.List.{List, [], _∷_}
 use Prim.Native.Nat.{ℕ, zero, suc, _+_, _-_, _*_, _%_}
 use lib.ListN.{getD}

@@ -4,7 +4,7 @@
 use mathlib.Core.Path.{_≡_}
 use mathlib.Core.Logic.{_↔_, _⊎_}
 use mathlib.Core.List.{List, [], _∷_}
-use mathlib.Core.Option.{Option, none, some}
+use mathlib.Core.Option.{some}
 use Prim.Native.Nat.{ℕ, zero, suc, _<_}
 use lib.ListN.{length, getD, take}
 use lib.IntN.{ℤ, pos, _+ℤ_, _-ℤ_, _*ℤ_}
@@ -18,13 +18,9 @@ use Rattle.strided.specs.Step.{planCutAxes, stepped}
 use Rattle.strided.specs.declared.Purpose.{Purpose}
 use Rattle.strided.specs.declared.Answer.the-variants.{Served}
 use Rattle.strided.specs.declared.Outcome.the-variants.{Block, Ended}
-use Rattle.strided.specs.declared.Outcome.{Outcome}
 use Rattle.strided.specs.declared.Plan.{Plan}
-use Rattle.strided.specs.declared.Planned.{Planned}
 use Rattle.strided.specs.declared.Walk.{Walk}
-use Rattle.strided.specs.declared.Begun.{Begun}
 use Rattle.strided.specs.declared.Stepped.{Stepped}
-use Rattle.strided.specs.declared.Told.{Told}
 
 -- "its plan .. with each block size left or replaced by any number"
 abbrev pub replaced : Plan → List ℕ → Plan

@@ -4,7 +4,6 @@
 use mathlib.Core.Path.{_≡_, refl}
 use mathlib.Core.Bool.{Bool, true, false, _&&_}
 use mathlib.Core.List.{List, [], _∷_, _++_, map}
-use mathlib.Core.Option.{Option, none, some}
 use Prim.Native.Nat.{ℕ, zero, suc, _*_, _^_}
 use lib.Count.{leadingZeros}
 use lib.Dec.{eqb}
@@ -12,7 +11,6 @@ use lib.IntN.{ℤ, pos, negsuc}
 use lib.ListN.{length, getD, take, replicate}
 use Rattle.strided.specs.declared.Purpose.{Purpose}
 use Rattle.strided.specs.declared.Purpose.the-variants.{Pointwise, PointwiseInto, Fold}
-use Rattle.strided.specs.declared.Refusal.{Refusal}
 use Rattle.strided.specs.declared.Answer.{Answer}
 use Rattle.strided.specs.declared.Answer.the-variants.{Served, Refused}
 use Rattle.strided.specs.declared.Plan.{Plan}

@@ -19,7 +19,6 @@ use Rattle.strided.specs.declared.Answer.the-variants.{Served}
 use Rattle.strided.specs.declared.Outcome.the-variants.{Block, Ended, Rejected}
 use Rattle.strided.specs.declared.Plan.{Plan}
 use Rattle.strided.specs.declared.Walk.{Walk}
-use Rattle.strided.specs.declared.Begun.{Begun}
 use Rattle.strided.specs.declared.Stepped.{Stepped}
 
 -- ---- the walk as a machine on lists

@@ -7,7 +7,7 @@ use Prim.Native.Nat.{ℕ, zero, suc, _+_, _-_, _*_, _/_, min, max}
 use lib.Dec.{leb, ltb}
 use lib.ListN.{length, take}
 use lib.IntN.{ℤ, pos}
-use Rattle.strided.specs.Base.{over, orElse, run, after}
+use Rattle.strided.specs.Base.{over, orElse, run}
 
 -- an axis of a walk: its extent and its effective block size
 pub data CutAxis : Type 0 where

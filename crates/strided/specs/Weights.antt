@@ -1,7 +1,7 @@
 -- "Axis ranks and loop order": the weights of the axes, by the first try whose numbers fit 64 bits.
 -- Assumes nothing.
-use mathlib.Core.Bool.{Bool, true, false, cond, _&&_, _||_}
-use mathlib.Core.List.{List, [], _∷_, map}
+use mathlib.Core.Bool.{Bool, cond, _&&_, _||_}
+use mathlib.Core.List.{List, [], map}
 use mathlib.Core.Option.{Option, none, some, Option·getD}
 use Prim.Native.Nat.{ℕ, zero, suc, _+_, _-_, _*_, _^_, min}
 use lib.Count.{leadingZeros}

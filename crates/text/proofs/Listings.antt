@@ -1,33 +1,33 @@
 -- The listings of the parts, and how they make the listing of what a text says.
 -- Assumes nothing.
-use mathlib.Core.Path.{_≡_, refl, sym, ap, ap₂, _∙_, subst}
-use mathlib.Core.Bool.{Bool, true, false, cond, _||_}
+use mathlib.Core.Path.{_≡_, refl, sym, ap, _∙_, subst}
+use mathlib.Core.Bool.{Bool, true, false}
 use mathlib.Core.List.{List, [], _∷_}
 use mathlib.Core.Option.{Option, none, some}
-use Prim.Native.Nat.{ℕ, _*_, _≤_, _<_}
+use Prim.Native.Nat.{ℕ, _*_, _≤_}
 use native.Mathlib.Nat.{mul-le-mul-right}
 use native.Mathlib.Omega.{arith}
 use lib.Dec.{ltb, leb, eqb}
-use lib.IntN.{ℤ, pos}
+use lib.IntN.{ℤ}
 use lib.ListN.{length, take}
 use borrow.Author.Tests.{ltb-false, leb-true, leb-false, lt-ltb, le-ltb}
 use Rattle.strided.specs.Base.{first}
 use Rattle.strided.specs.Layout.{total}
-use Rattle.strided.specs.Refusals.{Row, refusedBy, row1, row2, layoutRefused}
+use Rattle.strided.specs.Refusals.{refusedBy, row1, row2, layoutRefused}
 use Rattle.strided.specs.Fuse.{planAxes}
-use Rattle.strided.specs.Plan.{planned, planFrom}
+use Rattle.strided.specs.Plan.{planned}
 use Rattle.strided.specs.Begin.{beginRefused}
-use Rattle.strided.specs.Text.{Parsed, InForm, Listing, Lists, layoutRowsOf, sizesOf, stridesOf, printedPlan, printed, printedOf, row13, row14, refusing, filling, listingOr, textRefused, listed, zeroStarts}
+use Rattle.strided.specs.Text.{Parsed, InForm, Listing, sizesOf, stridesOf, printed, printedOf, row13, row14, refusing, listingOr, textRefused, listed, zeroStarts}
 use Rattle.strided.specs.declared.Purpose.{Purpose}
 use Rattle.strided.specs.declared.Planned.{Planned}
 use Rattle.strided.specs.declared.Plan.{Plan}
 use Rattle.strided.specs.declared.Refusal.{Refusal}
-use Rattle.strided.specs.declared.Refusal.the-variants.{Rank, Operands, TextTotal, Room}
+use Rattle.strided.specs.declared.Refusal.the-variants.{Rank, Operands, TextTotal}
 use Rattle.laws.specs.Base.Tests.{or-none}
 use Rattle.laws.specs.Plan.Answers.{planned-served}
 use Rattle.laws.specs.Plan.Places.{plan-extents, plan-blocks, plan-strides}
 use Rattle.laws.specs.Text.Begins.{planned-begins}
-use Rattle.laws.specs.Text.Planning.{as-planning, lists-said}
+use Rattle.laws.specs.Text.Planning.{as-planning}
 use Rattle.advance.specs.Plans.{Sized}
 use Rattle.states.specs.Reaches.{planOf}
 use Rattle.kernel.specs.Made.{Made}
@@ -35,7 +35,7 @@ use Rattle.reading.specs.Lines.{Arrays}
 use Rattle.reading.specs.Texts.{Says}
 use Rattle.reading.specs.Counted.{counted-extents, counted-sizes, counted-strides}
 use Rattle.writing.specs.Plan.{Printable, listedIn}
-use Rattle.text.specs.Listed.{Places, listedServed, listedLayout, refusedOr, listedNumbers}
+use Rattle.text.specs.Listed.{Places, listedServed, listedLayout, listedNumbers}
 
 -- ---- a listing by its answer
 

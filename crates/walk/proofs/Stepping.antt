@@ -1,24 +1,22 @@
 -- Laws of a step: what its rows let through, and its block and its state out of what the functions on arrays leave.
 -- Assumes nothing.
 use mathlib.Core.Path.{_≡_, refl, sym, ap, ap₂, _∙_, subst}
-use mathlib.Core.Bool.{Bool, true, false, cond, _&&_, _||_, not, false≢true}
-use mathlib.Core.List.{List, [], _∷_}
+use mathlib.Core.Bool.{Bool, true, false, cond, _&&_, not, false≢true}
+use mathlib.Core.List.{List}
 use mathlib.Core.Option.{Option, none, some}
 use Prim.Native.Nat.{ℕ, _≤_, _<_}
 use native.Mathlib.Omega.{arith}
 use lib.Dec.{ltb, eqb}
 use lib.IntN.{ℤ, pos}
-use lib.ListN.{length, getD, take, length-take}
+use lib.ListN.{length, getD, length-take}
 use borrow.Author.Tests.{ltb-false, eqb-false}
 use Rattle.strided.specs.Base.{padded}
-use Rattle.strided.specs.Refusals.{Row, refusedBy, row1, row2}
-use Rattle.strided.specs.Walk.{CutAxis, lengthAt, next, runStrides}
+use Rattle.strided.specs.Refusals.{refusedBy, row1, row2}
+use Rattle.strided.specs.Walk.{lengthAt, runStrides}
 use Rattle.strided.specs.Begin.{planExtents, planRows, beginRefused, begunAt}
-use Rattle.strided.specs.Step.{offsetsFrom, planCutAxes, unpacked, packed, reachable, mayBegin, tidy, step, stepRunning, over, refused, handedOut, notStepped, stepRows, stepOr, stepped, Reached}
-use Rattle.strided.specs.declared.Refusal.{Refusal}
+use Rattle.strided.specs.Step.{planCutAxes, unpacked, packed, reachable, mayBegin, tidy, step, stepRunning, over, refused, handedOut, notStepped, stepRows, stepped}
 use Rattle.strided.specs.declared.Refusal.the-variants.{Rank, Operands, State}
-use Rattle.strided.specs.declared.Outcome.{Outcome}
-use Rattle.strided.specs.declared.Outcome.the-variants.{Block, Ended, Rejected}
+use Rattle.strided.specs.declared.Outcome.the-variants.{Block, Rejected}
 use Rattle.strided.specs.declared.Plan.{Plan}
 use Rattle.strided.specs.declared.Walk.{Walk}
 use Rattle.strided.specs.declared.Stepped.{Stepped}
@@ -26,14 +24,14 @@ use Rattle.laws.specs.Base.Refusals.{NoneApplies, none-applies}
 use Rattle.laws.specs.Base.Tests.{and-both, or-none}
 use Rattle.laws.specs.Walk.States.{stateAfter}
 use Rattle.laws.specs.Walk.Row10.{Sized, row10-exact}
-use Rattle.laws.specs.Walk.Steps.{Ready, ready, served-walk, at, raw, step-at, walk-state}
+use Rattle.laws.specs.Walk.Steps.{Ready, ready, served-walk, at, step-at, walk-state}
 use Rattle.advance.specs.Axis.{widthsTo, startOf, startsTo}
 use Rattle.advance.specs.Carry.{Roomy, Tiled, AdvancedTo}
 use Rattle.advance.specs.Blocks.{lengthOf, firstsOf}
-use Rattle.advance.specs.Plans.{W, C, O, length-is, firsts-are, first-start}
+use Rattle.advance.specs.Plans.{C, O, length-is, firsts-are, first-start}
 use Rattle.advance.specs.Plans as plans
 use Rattle.advance.specs.Reached.{widths-pos, tiled, roomy, advanced}
-use Rattle.states.specs.Reaches.{Arrays, planOf, walkOf, reaches}
+use Rattle.states.specs.Reaches.{Arrays, walkOf, reaches}
 use Rattle.walk.specs.Lent.{Taken, overStep}
 
 -- ---- the rows

@@ -1,6 +1,6 @@
 -- What stands at the front of the lent bytes is what is printed: the output, or the R line that is written there.
 -- Assumes nothing.
-use mathlib.Core.Path.{_≡_, refl, sym, ap, ap₂, _∙_, subst}
+use mathlib.Core.Path.{_≡_, refl, sym, ap, _∙_}
 use mathlib.Core.Bool.{true, false, true≢false}
 use mathlib.Core.List.{List, [], _∷_, _++_}
 use Prim.Native.Nat.{ℕ, suc, _+_, _^_, _≤_, _<_}
@@ -13,7 +13,7 @@ use lib.Seq.{take-at}
 use lib.Signed.{ltZ, nonNeg}
 use borrow.Author.Tests.{ltb-true}
 use Rattle.strided.specs.Digits.{digitsOf}
-use Rattle.strided.specs.Text.{field, lineOf, Listing, Lists, Prints, printedBy}
+use Rattle.strided.specs.Text.{field, lineOf, Lists}
 use Rattle.laws.specs.Text.Answers.{lists-within}
 use Rattle.laws.specs.Text.Lengths.{digits-most}
 use Rattle.writing.specs.Put.{put, Wrote}

@@ -1,9 +1,7 @@
 // Prints the plan and the blocks of a layout: the layout's text is standard input, and the lines of its plan and its blocks, or the number
 // of its refusal, are printed. A read or a write that fails is told on standard error.
-ghost use Prim.Native.Nat.{_≤_};
 ghost use mathlib.Core.Path.{_≡_};
-ghost use lib.ListN.{length, take, replicate};
-ghost use Rattle.strided.specs.Text.{Prints};
+ghost use lib.ListN.{length, replicate};
 ghost use Rattle.walklist.specs.Printing.{Received, Printing};
 use layout::magnitude;
 use libc::STDERR_FILENO;

@@ -1,13 +1,8 @@
 -- `advance::advance` meets its contract. Assumes nothing.
 use Rattle.advance.proofs.Turns.{inside-done, tile-done}
 use native.Mathlib.Omega.{arith}
-use Prim.Native.Nat.{_≤_}
-use borrow.Author.Needs.{needs}
 use Rattle.advance.proofs.advance.Statement.{statement}
 use Rattle.advance.proofs.advance.Tie as tie
-use Rattle.advance.proofs.advance.Reads as reads
-use Rattle.advance.proofs.advance.Lts as lts
-use Rattle.advance.proofs.carry.Reads as carry-reads
 
 carry-requires : tie.Need-carry-requires
 carry-requires c κs = (c .before .before .before .pre .0, (c .before .before .before .pre .1 .0, c .before .before .before .pre .1 .1 .most))

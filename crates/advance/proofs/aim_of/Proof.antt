@@ -1,13 +1,9 @@
 -- `advance::aim_of` meets its contract. Assumes nothing.
-use Rattle.advance.specs.Axis.{aimOf, insideAim, tileAim}
-use mathlib.Core.Path.{_≡_, refl, sym, ap, subst, _∙_}
+use Rattle.advance.specs.Axis.{aimOf}
+use mathlib.Core.Path.{_∙_}
 use borrow.Author.Needs.{needs}
 use Rattle.advance.proofs.aim_of.Statement.{statement}
 use Rattle.advance.proofs.aim_of.Tie as tie
-use Rattle.advance.proofs.aim_of.Reads as reads
-use Rattle.advance.proofs.aim_of.Lts as lts
-use Rattle.advance.proofs.inside_aim.Reads as inside-aim-reads
-use Rattle.advance.proofs.tile_aim.Reads as tile-aim-reads
 
 inside-aim-requires : tie.Need-inside-aim-requires
 inside-aim-requires c κs = search needs

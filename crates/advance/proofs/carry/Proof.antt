@@ -1,17 +1,11 @@
 -- `advance::carry` meets its contract. Assumes nothing.
 use Prim.Native.Nat.{_<_}
 use Prim.Native.Nat.{_≤_}
-use borrow.Author.Needs.{needs}
 use Rattle.advance.proofs.Turns.{Before, begins, ends, shifts-at, stops-at, goes-on-at}
 use Prim.Native.Nat.{_-_}
 use native.Mathlib.Omega.{arith}
-use mathlib.Core.Path.{_≡_, refl, sym, ap, subst, _∙_}
 use Rattle.advance.proofs.carry.Statement.{statement}
 use Rattle.advance.proofs.carry.Tie as tie
-use Rattle.advance.proofs.carry.Reads as reads
-use Rattle.advance.proofs.carry.Lts as lts
-use Rattle.advance.proofs.aim_of.Reads as aim-of-reads
-use Rattle.advance.proofs.shift.Reads as shift-reads
 
 abbrev Inv-loop : tie.InvT-loop
 Inv-loop inside first last rank operands e w s t₀ c₀ o₀ i₀ t c o i = (last ≤ rank) × Before inside first last rank operands e w s c₀ o₀ i t c o

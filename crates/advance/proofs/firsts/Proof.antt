@@ -1,13 +1,12 @@
 -- `advance::firsts` meets its contract. Assumes nothing.
 use borrow.Author.Needs.{needs, sfits-of}
 use borrow.Author.Tests.{eq-eqb, ne-eqb}
-use mathlib.Core.Path.{_≡_, refl, sym, ap, _∙_, subst}
+use mathlib.Core.Path.{_≡_, sym, ap, _∙_}
 use native.Mathlib.Nat.{le-antisymm}
 use native.Mathlib.Omega.{arith}
-use Prim.Native.Nat.{ℕ, zero-le, _≤_, _-_, _*_, _+_}
-use lib.IntN.{ℤ, pos}
-use lib.ListN.{getD, set}
-use mathlib.Core.List.{List}
+use Prim.Native.Nat.{ℕ, zero-le, _≤_, _-_, _*_}
+use lib.IntN.{pos}
+use lib.ListN.{getD}
 use mir.Syntax.{w64}
 use mir.Val.{toZ, ofZ}
 use mir.Facts.{toZ-ofZ}
@@ -15,8 +14,6 @@ use Rattle.advance.specs.Blocks.{firstAt, firstsTo, firstsOf}
 use Rattle.advance.specs.Filled.{filled-none, filled-more}
 use Rattle.advance.proofs.firsts.Statement.{statement}
 use Rattle.advance.proofs.firsts.Tie as tie
-use Rattle.advance.proofs.firsts.Reads as reads
-use Rattle.advance.proofs.firsts.Lts as lts
 
 abbrev Inv-loop : tie.InvT-loop
 Inv-loop rank operands s inner₀ k₀ inner k = (k ≤ operands) × (inner ≡ firstsTo k s)

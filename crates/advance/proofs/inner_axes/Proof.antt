@@ -1,14 +1,10 @@
 -- `advance::inner_axes` meets its contract. Assumes nothing.
 use Rattle.advance.proofs.Turns.{single-all, single-more}
 use Rattle.advance.specs.Carry.{Single}
-use Prim.Native.Nat.{ℕ, _≤_, _-_}
-use mathlib.Core.Path.{_≡_, subst, sym}
 use native.Mathlib.Omega.{arith}
 use borrow.Author.Needs.{needs}
 use Rattle.advance.proofs.inner_axes.Statement.{statement}
 use Rattle.advance.proofs.inner_axes.Tie as tie
-use Rattle.advance.proofs.inner_axes.Reads as reads
-use Rattle.advance.proofs.inner_axes.Lts as lts
 
 abbrev Inv-loop : tie.InvT-loop
 Inv-loop rank w n₀ n = Single n rank w

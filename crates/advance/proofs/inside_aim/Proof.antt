@@ -1,16 +1,11 @@
 -- `advance::inside_aim` meets its contract. Assumes nothing.
 use Rattle.advance.proofs.Axis.{inside-ahead, inside-back, inside-last}
-use Prim.Native.Nat.{ℕ, _-_, _≤_}
-use mathlib.Core.Bool.{Bool, true, false, cond}
-use native.Mathlib.Omega.{arith}
+use Prim.Native.Nat.{ℕ, _≤_}
 use native.Mathlib.Nat.{div-mul-le-self}
-use mathlib.Core.Path.{_≡_, refl, sym, ap, subst, _∙_}
-use borrow.Author.Tests.{lt-ltb, le-ltb, le-leb, lt-leb, eq-eqb, ne-eqb}
+use mathlib.Core.Path.{sym, subst}
 use borrow.Author.Needs.{needs}
 use Rattle.advance.proofs.inside_aim.Statement.{statement}
 use Rattle.advance.proofs.inside_aim.Tie as tie
-use Rattle.advance.proofs.inside_aim.Reads as reads
-use Rattle.advance.proofs.inside_aim.Lts as lts
 
 sub-if1 : tie.Need-sub-if1
 sub-if1 c = subst (λ (n : ℕ). n ≤ c .args .at) (sym (c .pre .2)) (div-mul-le-self (c .args .at) (c .args .width))

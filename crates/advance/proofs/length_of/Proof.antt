@@ -1,17 +1,13 @@
 -- `advance::length_of` meets its contract. Assumes nothing.
 use lib.ListN.{getD}
-use Prim.Native.Nat.{ℕ, _<_}
+use Prim.Native.Nat.{_<_}
 use Rattle.advance.proofs.Axis.{length-cut, length-left}
 use Rattle.advance.specs.Blocks.{lengthOf}
 use native.Mathlib.Omega.{arith}
-use native.Mathlib.Nat.{le-of-lt}
 use borrow.Author.Tests.{eq-eqb}
-use mathlib.Core.Path.{_≡_, refl, sym, ap, subst, _∙_}
 use borrow.Author.Needs.{needs}
 use Rattle.advance.proofs.length_of.Statement.{statement}
 use Rattle.advance.proofs.length_of.Tie as tie
-use Rattle.advance.proofs.length_of.Reads as reads
-use Rattle.advance.proofs.length_of.Lts as lts
 
 returns : tie.Need-returns
 unfolding lengthOf

@@ -1,7 +1,7 @@
 -- `advance::shift` meets its contract. Assumes nothing.
 use borrow.Author.Needs.{needs, sfits-of}
 use native.Mathlib.Omega.{arith}
-use mathlib.Core.Path.{_≡_, refl, sym, ap, _∙_, subst}
+use mathlib.Core.Path.{_≡_, sym, ap, _∙_, subst}
 use native.Mathlib.Nat.{le-refl, le-antisymm}
 use lib.IntN.{ℤ, pos}
 use lib.ListN.{getD}
@@ -10,13 +10,10 @@ use mir.Facts.{toZ-ofZ}
 use Rattle.advance.proofs.Signed.{moves-read, after-read}
 use Rattle.advance.proofs.Dot.{unmoved-at}
 use Rattle.advance.specs.Filled.{filled-none, filled-more, filled-above}
-use Prim.Native.Nat.{ℕ, zero-le, _≤_, _<_, _+_, _*_, _-_}
+use Prim.Native.Nat.{ℕ, zero-le, _≤_, _+_, _*_, _-_}
 use Rattle.advance.specs.Moves.{shifted, movedAt, afterMove, Moves}
 use Rattle.advance.proofs.shift.Statement.{statement}
 use Rattle.advance.proofs.shift.Tie as tie
-use Rattle.advance.proofs.shift.Reads as reads
-use Rattle.advance.proofs.shift.Lts as lts
-use Rattle.advance.proofs.moved.Reads as moved-reads
 
 abbrev Inv-loop : tie.InvT-loop
 Inv-loop operands axis from to s o₀ k₀ o k = (k ≤ operands) × (o ≡ shifted k axis from to s o₀)

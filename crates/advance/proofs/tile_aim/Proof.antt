@@ -1,15 +1,11 @@
 -- `advance::tile_aim` meets its contract. Assumes nothing.
 use Rattle.advance.proofs.Axis.{tile-ahead, tile-back}
 use Prim.Native.Nat.{ℕ, _≤_}
-use native.Mathlib.Omega.{arith}
 use native.Mathlib.Nat.{div-mul-le-self, le-trans, le-of-lt}
-use mathlib.Core.Path.{_≡_, refl, sym, ap, subst, _∙_}
-use borrow.Author.Tests.{lt-ltb, le-ltb, le-leb, lt-leb, eq-eqb, ne-eqb}
+use mathlib.Core.Path.{sym, subst}
 use borrow.Author.Needs.{needs}
 use Rattle.advance.proofs.tile_aim.Statement.{statement}
 use Rattle.advance.proofs.tile_aim.Tie as tie
-use Rattle.advance.proofs.tile_aim.Reads as reads
-use Rattle.advance.proofs.tile_aim.Lts as lts
 
 sub-if1 : tie.Need-sub-if1
 sub-if1 c = le-trans (subst (λ (n : ℕ). n ≤ c .args .at) (sym (c .pre .1)) (div-mul-le-self (c .args .at) (c .args .width))) (le-of-lt (c .pre .0))

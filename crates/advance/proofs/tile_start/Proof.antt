@@ -3,8 +3,6 @@ use native.Mathlib.Nat.{lt-of-le-of-lt, div-mul-le-self}
 use borrow.Author.Needs.{needs}
 use Rattle.advance.proofs.tile_start.Statement.{statement}
 use Rattle.advance.proofs.tile_start.Tie as tie
-use Rattle.advance.proofs.tile_start.Reads as reads
-use Rattle.advance.proofs.tile_start.Lts as lts
 
 div-result : tie.Need-div-result
 div-result c = search needs

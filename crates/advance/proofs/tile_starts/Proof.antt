@@ -4,13 +4,10 @@ use Rattle.advance.specs.Filled.{filled-none, filled-more}
 use Prim.Native.Nat.{ℕ, zero-le, _≤_, _-_}
 use native.Mathlib.Omega.{arith}
 use native.Mathlib.Nat.{le-antisymm}
-use mathlib.Core.Path.{_≡_, refl, sym, ap, subst, _∙_}
+use mathlib.Core.Path.{_≡_, ap, _∙_}
 use borrow.Author.Needs.{needs}
 use Rattle.advance.proofs.tile_starts.Statement.{statement}
 use Rattle.advance.proofs.tile_starts.Tie as tie
-use Rattle.advance.proofs.tile_starts.Reads as reads
-use Rattle.advance.proofs.tile_starts.Lts as lts
-use Rattle.advance.proofs.tile_start.Reads as tile-start-reads
 
 abbrev Inv-loop : tie.InvT-loop
 Inv-loop rank w c t₀ i₀ t i = (i ≤ rank) × (t ≡ startsTo w c i)

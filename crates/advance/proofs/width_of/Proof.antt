@@ -1,14 +1,11 @@
 -- `advance::width_of` meets its contract. Assumes nothing.
 use Rattle.advance.specs.Axis.{widthOf}
 use mathlib.Core.Logic.{⊎-elim}
-use borrow.Author.Tests.{lt-ltb, le-ltb, le-leb, lt-leb, eq-eqb, ne-eqb}
-use mathlib.Core.Path.{_≡_, refl, sym, ap, subst, _∙_}
+use borrow.Author.Tests.{le-leb, lt-leb, eq-eqb, ne-eqb}
+use mathlib.Core.Path.{_∙_}
 use borrow.Author.Needs.{needs}
 use Rattle.advance.proofs.width_of.Statement.{statement}
 use Rattle.advance.proofs.width_of.Tie as tie
-use Rattle.advance.proofs.width_of.Reads as reads
-use Rattle.advance.proofs.width_of.Lts as lts
-use Rattle.advance.proofs.effective.Reads as effective-reads
 
 returns : tie.Need-returns
 unfolding widthOf

@@ -5,12 +5,9 @@ use Rattle.advance.specs.Filled.{filled-none, filled-more}
 use Prim.Native.Nat.{ℕ, zero-le, _≤_, _-_}
 use native.Mathlib.Omega.{arith}
 use native.Mathlib.Nat.{le-antisymm}
-use mathlib.Core.Path.{_≡_, refl, sym, ap, subst, _∙_}
+use mathlib.Core.Path.{_≡_, ap, _∙_}
 use Rattle.advance.proofs.widths.Statement.{statement}
 use Rattle.advance.proofs.widths.Tie as tie
-use Rattle.advance.proofs.widths.Reads as reads
-use Rattle.advance.proofs.widths.Lts as lts
-use Rattle.advance.proofs.width_of.Reads as width-of-reads
 
 abbrev Inv-loop : tie.InvT-loop
 Inv-loop rank e b w₀ i₀ w i = (i ≤ rank) × (w ≡ widthsTo rank e b i)

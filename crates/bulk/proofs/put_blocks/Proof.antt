@@ -16,20 +16,6 @@ use mathlib.Core.Bool.{false}
 use mathlib.Core.Path.{refl}
 use Rattle.bulk.proofs.put_blocks.Statement.{statement}
 use Rattle.bulk.proofs.put_blocks.Tie as tie
-use Rattle.bulk.proofs.put_blocks.Reads as reads
-use Rattle.bulk.proofs.put_blocks.Lts as lts
-use Rattle.advance.proofs.inner_axes.Reads as inner-axes-reads
-use Rattle.advance.proofs.length_of.Reads as length-of-reads
-use Rattle.advance.proofs.advance.Reads as advance-reads
-use Rattle.advance.proofs.stretch.ahead.Reads as ahead-reads
-use Rattle.advance.proofs.stretch.along.Reads as along-reads
-use Rattle.advance.proofs.stretch.moves.Reads as moves-reads
-use Rattle.advance.proofs.stretch.pace.Reads as pace-reads
-use Rattle.advance.proofs.tile_starts.Reads as tile-starts-reads
-use Rattle.advance.proofs.widths.Reads as widths-reads
-use Rattle.bulk.proofs.blocks_written.Reads as blocks-written-reads
-use Rattle.bulk.proofs.put_moving.Reads as put-moving-reads
-use Rattle.bulk.proofs.put_staying.Reads as put-staying-reads
 
 abbrev Inv-loop : tie.InvT-loop
 Inv-loop room rank operands e b s lengths₀ offsets₀ w inner axis by d c₀ o₀ t₀ n₀ lengths offsets c o t n =

@@ -1,5 +1,4 @@
 -- `fuse::compress_dims` meets its contract: picking the places that stay is dropping the others. Assumes nothing.
-use native.Mathlib.Omega.{arith}
 use borrow.Author.Needs.{needs}
 use Rattle.fuse.proofs.Keeping.{stand-few, stand-long, stand-inside, stand-rank, stand-extents, stand-strides}
 use Rattle.fuse.proofs.compress_dims.Statement.{statement}

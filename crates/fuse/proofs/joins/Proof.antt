@@ -1,7 +1,6 @@
 -- `fuse::joins` meets its contract: a law for each way out. Assumes nothing.
 use mathlib.Core.Path.{_≡_, sym, ap, _∙_}
-use mathlib.Core.Bool.{true, false}
-use Prim.Native.Nat.{_*_, _/_, _^_, _≤_, _<_}
+use Prim.Native.Nat.{_/_, _^_, _<_}
 use lib.Dec.{leb}
 use lib.IntN.{ℤ, pos, natAbs, _*ℤ_}
 use mir.Syntax.{w64}

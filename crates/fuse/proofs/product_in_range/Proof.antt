@@ -1,7 +1,7 @@
 -- `fuse::product_in_range` meets its contract: two small numbers have a small product. Assumes nothing.
 use mathlib.Core.Path.{_≡_, sym, ap₂}
 use Prim.Native.Nat.{ℕ, _*_, _/_, _≤_, _<_}
-use native.Mathlib.Nat.{le-div-iff-mul-le, mul-le-mul-left, mul-le-mul-right}
+use native.Mathlib.Nat.{le-div-iff-mul-le, mul-le-mul-left}
 use native.Mathlib.Omega.{arith}
 use lib.Dec.{leb}
 use lib.IntN.{ℤ, pos, negsuc, natAbs}

@@ -1,11 +1,11 @@
 -- `states::begin_on` meets its contract. Assumes nothing.
-use Prim.Native.Nat.{ℕ, _≤_}
+use Prim.Native.Nat.{_≤_}
 use lib.ListN.{length}
 use Rattle.strided.specs.declared.Plan.{Plan}
 use Rattle.states.specs.Reaches.{planOf}
 use Rattle.states.proofs.Table.{begun-refused, served-axes, served-starts, begun-served}
 use native.Mathlib.Omega.{arith}
-use mathlib.Core.Path.{_≡_, refl, sym, ap, subst, _∙_}
+use mathlib.Core.Path.{_≡_, sym, _∙_}
 use borrow.Author.Needs.{needs}
 use Rattle.states.proofs.begin_on.Statement.{statement}
 use Rattle.states.proofs.begin_on.Tie as tie

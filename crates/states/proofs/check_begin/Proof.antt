@@ -1,27 +1,18 @@
 -- `states::check_begin` meets its contract. Assumes nothing.
-use mathlib.Core.Path.{_≡_, refl, ap, _∙_}
+use mathlib.Core.Path.{refl, ap, _∙_}
 use mathlib.Core.Bool.{not}
 use mathlib.Core.List.{[]}
-use Prim.Native.Nat.{ℕ, _≤_}
+use Prim.Native.Nat.{_≤_}
 use native.Mathlib.Omega.{arith}
-use lib.ListN.{length, take, replicate}
+use lib.ListN.{replicate}
 use borrow.Author.Needs.{needs}
 use borrow.Author.Tests.{eq-eqb, ne-eqb}
-use Rattle.strided.specs.Refusals.{row6, row9}
 use Rattle.strided.specs.Begin.{beginRows, beginRefused}
 use Rattle.laws.specs.Refusals.Rows.{past-none, past-next, past-refused, past-served}
 use Rattle.states.specs.Reaches.{planOf}
-use Rattle.states.specs.Starts.{Begins}
 use Rattle.states.proofs.Table.{Passed, few-axes, few-operands, cut-length, laid, row6-is, row9-is, begins}
 use Rattle.states.proofs.check_begin.Statement.{statement}
 use Rattle.states.proofs.check_begin.Tie as tie
-use Rattle.states.proofs.check_begin.Reads as reads
-use Rattle.states.proofs.check_begin.Lts as lts
-use Rattle.layout.proofs.operands_wrong.Reads as operands-wrong-reads
-use Rattle.layout.proofs.rank_over.Reads as rank-over-reads
-use Rattle.layout.proofs.reach_over.Reads as reach-over-reads
-use Rattle.layout.proofs.total_over.Reads as total-over-reads
-use Rattle.states.proofs.starts.starts_leave.Reads as starts-leave-reads
 
 -- what rows 1 and 2 let through
 axes : (c : tie.Else1) → c .before .before .before .args .rank ≤ 64

@@ -1,13 +1,9 @@
 -- `states::no_block` meets its contract. Assumes nothing.
-use mathlib.Core.Path.{_≡_, refl, sym, ap, subst, _∙_}
 use lib.ListN.{length-take}
 use native.Mathlib.Omega.{arith}
 use borrow.Author.Needs.{needs}
 use Rattle.states.proofs.no_block.Statement.{statement}
 use Rattle.states.proofs.no_block.Tie as tie
-use Rattle.states.proofs.no_block.Reads as reads
-use Rattle.states.proofs.no_block.Lts as lts
-use Rattle.layout.proofs.has_zero.Reads as has-zero-reads
 
 slice-aggregate-has-zero : tie.Need-slice-aggregate-has-zero
 slice-aggregate-has-zero c =

@@ -4,16 +4,14 @@ use Rattle.advance.specs.Filled.{filledTo, filled-none, filled-more}
 use borrow.Author.Needs.{sfits-of}
 use mir.Facts.{toZ-ofZ}
 use lib.ListN.{length, getD, replicate}
-use lib.IntN.{ℤ, pos}
+use lib.IntN.{pos}
 use native.Mathlib.Nat.{le-antisymm}
 use Prim.Native.Nat.{ℕ, _≤_, _-_}
 use native.Mathlib.Omega.{arith}
-use mathlib.Core.Path.{_≡_, refl, sym, ap, subst, _∙_}
+use mathlib.Core.Path.{_≡_, ap, _∙_}
 use borrow.Author.Needs.{needs}
 use Rattle.states.proofs.offsets_of.Statement.{statement}
 use Rattle.states.proofs.offsets_of.Tie as tie
-use Rattle.states.proofs.offsets_of.Reads as reads
-use Rattle.states.proofs.offsets_of.Lts as lts
 
 abbrev Inv-loop : tie.InvT-loop
 Inv-loop starts offsets₀ k₀ offsets k = (k ≤ length starts) × (offsets ≡ filledTo (replicate 8 (pos 0)) (λ (j : ℕ). getD starts j (pos 0)) k)

@@ -1,5 +1,5 @@
 -- `text::list_numbers` meets its contract: rows 1 and 2 of the counts, then the layout in the counted places. Assumes nothing.
-use mathlib.Core.Path.{_≡_, sym, _∙_}
+use mathlib.Core.Path.{sym, _∙_}
 use Prim.Native.Nat.{_*_}
 use native.Mathlib.Omega.{arith}
 use lib.ListN.{length-take}

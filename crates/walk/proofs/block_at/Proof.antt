@@ -1,16 +1,9 @@
 -- `walk::block_at` meets its contract. Assumes nothing.
 use Rattle.advance.proofs.Turns.{single-all}
 use Rattle.walk.proofs.Stepping.{axes-few, operands-few, widths-here, tiled-here, roomy-here, block-step}
-use mathlib.Core.Path.{_≡_, refl, sym, ap, subst, _∙_}
+use mathlib.Core.Path.{refl}
 use Rattle.walk.proofs.block_at.Statement.{statement}
 use Rattle.walk.proofs.block_at.Tie as tie
-use Rattle.walk.proofs.block_at.Reads as reads
-use Rattle.walk.proofs.block_at.Lts as lts
-use Rattle.advance.proofs.advance.Reads as advance-reads
-use Rattle.advance.proofs.firsts.Reads as firsts-reads
-use Rattle.advance.proofs.length_of.Reads as length-of-reads
-use Rattle.advance.proofs.tile_starts.Reads as tile-starts-reads
-use Rattle.advance.proofs.widths.Reads as widths-reads
 
 widths-requires : tie.Need-widths-requires
 widths-requires c κs = axes-few _ _ (c .pre)

@@ -4,7 +4,6 @@ use mathlib.Core.Path.{_≡_, _∙_, subst}
 use Rattle.strided.specs.declared.Outcome.{Outcome}
 use Rattle.strided.specs.declared.Outcome.the-variants.{Block, Ended, Rejected}
 use Rattle.strided.specs.declared.Plan.{Plan}
-use Rattle.strided.specs.declared.Walk.{Walk}
 use Rattle.states.specs.Reaches.{planOf}
 use Rattle.walk.specs.Lent.{Answers}
 use Rattle.walk.proofs.Stepping.{taken-parts, stepped-parts}

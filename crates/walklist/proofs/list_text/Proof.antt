@@ -1,16 +1,15 @@
 -- `walklist::list_text` meets its contract: the output is there, or the R line is put in front of the bytes. Assumes nothing.
-use mathlib.Core.Path.{_≡_, refl, sym, ap, _∙_, subst}
+use mathlib.Core.Path.{_≡_, ap, _∙_, subst}
 use mathlib.Core.List.{List}
-use Prim.Native.Nat.{ℕ, _^_, _<_}
+use Prim.Native.Nat.{ℕ}
 use native.Mathlib.Omega.{arith}
-use lib.IntN.{ℤ, pos, natAbs}
+use lib.IntN.{natAbs}
 use lib.ListN.{length, replicate, length-replicate}
 use mir.Syntax.{w64}
-use mir.Val.{SFits, toZ, ofZ}
+use mir.Val.{toZ, ofZ}
 use mir.Facts.{toZ-ofZ, fits-natAbs}
-use Rattle.strided.specs.Text.{Listing, Lists, field, lineOf}
+use Rattle.strided.specs.Text.{Lists, field, lineOf}
 use Rattle.writing.specs.Put.{Wrote}
-use Rattle.walklist.specs.Printing.{Printing}
 use Rattle.walklist.proofs.Printed.{refusal-short, refusal-printed, output-printed, not-below}
 use borrow.Author.Needs.{needs}
 use Rattle.walklist.proofs.list_text.Statement.{statement}

@@ -1,20 +1,20 @@
 -- `walklist::read_input` meets its contract: each read fills places that are left. Assumes nothing.
-use mathlib.Core.Path.{_≡_, refl, sym, ap, _∙_, subst}
-use mathlib.Core.Bool.{true, false, true≢false}
-use Prim.Native.Nat.{ℕ, zero, suc, _+_, _-_, _≤_, _<_}
+use mathlib.Core.Path.{_≡_, refl, sym, _∙_, subst}
+use mathlib.Core.Bool.{false, true≢false}
+use Prim.Native.Nat.{ℕ, zero, suc, _-_, _≤_, _<_}
 use native.Mathlib.Omega.{arith}
 use lib.Dec.{T}
 use lib.IntN.{ℤ, pos, negsuc, natAbs}
 use lib.ListN.{length, take, drop, length-take, length-drop}
 use lib.Signed.{ltZ, nonNeg}
 use mir.Syntax.{w64}
-use mir.Val.{SFits, toZ, ofZ}
+use mir.Val.{toZ, ofZ}
 use mir.Facts.{toZ-ofZ}
 use Rattle.libc.specs.Io.{Moved}
 use borrow.Rule.Slice.PartMut.{putMid, same-len-mid}
 use borrow.Author.Needs.{needs}
 use Rattle.walklist.specs.Printing.{Received}
-use Rattle.walklist.specs.declared.Input.the-variants.{Bytes, Failed}
+use Rattle.walklist.specs.declared.Input.the-variants.{Bytes}
 use Rattle.walklist.proofs.read_input.Statement.{statement}
 use Rattle.walklist.proofs.read_input.Tie as tie
 

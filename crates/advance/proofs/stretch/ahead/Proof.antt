@@ -3,7 +3,7 @@ use borrow.Author.Needs.{needs}
 use borrow.Author.Tests.{lt-ltb}
 use native.Mathlib.Omega.{arith}
 use mathlib.Core.Path.{_≡_, refl, sym, ap, _∙_}
-use mathlib.Core.Bool.{Bool, true, false, cond, _&&_}
+use mathlib.Core.Bool.{true, false, _&&_}
 use mathlib.Core.List.{List}
 use Prim.Native.Nat.{ℕ, _<_}
 use lib.Dec.{ltb}
@@ -12,9 +12,6 @@ use Rattle.advance.specs.declared.Aim.{Aim}
 use Rattle.advance.specs.Stretch.{stretchAim, Ahead}
 use Rattle.advance.proofs.stretch.ahead.Statement.{statement}
 use Rattle.advance.proofs.stretch.ahead.Tie as tie
-use Rattle.advance.proofs.stretch.ahead.Reads as reads
-use Rattle.advance.proofs.stretch.ahead.Lts as lts
-use Rattle.advance.proofs.aim_of.Reads as aim-of-reads
 
 -- a number that is not 0
 above : (n : ℕ) → (n ≡ 0 → ⊥) → 0 < n

@@ -3,8 +3,6 @@ use borrow.Author.Tests.{lt-ltb, le-ltb}
 use mathlib.Core.Path.{sym}
 use Rattle.advance.proofs.stretch.along.Statement.{statement}
 use Rattle.advance.proofs.stretch.along.Tie as tie
-use Rattle.advance.proofs.stretch.along.Reads as reads
-use Rattle.advance.proofs.stretch.along.Lts as lts
 
 returns : tie.Need-returns
 returns c = sym (simp (lt-ltb _ _ (c .if1 .taken)))

@@ -5,8 +5,6 @@ use mathlib.Core.Path.{sym}
 use Rattle.advance.specs.Stretch.{paceOf}
 use Rattle.advance.proofs.stretch.pace.Statement.{statement}
 use Rattle.advance.proofs.stretch.pace.Tie as tie
-use Rattle.advance.proofs.stretch.pace.Reads as reads
-use Rattle.advance.proofs.stretch.pace.Lts as lts
 
 returns : tie.Need-returns
 unfolding paceOf

@@ -3,19 +3,16 @@ use Rattle.laws.specs.Walk.Row9.{belowTerm}
 use Rattle.layout.proofs.Caps.{elem-read}
 use Prim.Native.Nat.{_<_, _*_, _^_}
 use lib.ListN.{getD}
-use lib.IntN.{ℤ, pos, natAbs}
+use lib.IntN.{ℤ, natAbs}
 use native.Mathlib.Nat.{zero-add}
 use Rattle.states.proofs.Ways.{counter-there, Left, left-turn, left-fits, left-end, way, inside}
 use lib.ListN.{length}
-use Prim.Native.Nat.{ℕ, _≤_, _-_}
+use Prim.Native.Nat.{_≤_, _-_}
 use native.Mathlib.Omega.{arith}
-use mathlib.Core.Path.{_≡_, refl, sym, ap, subst, _∙_}
+use mathlib.Core.Path.{sym, ap, subst, _∙_}
 use borrow.Author.Needs.{needs}
 use Rattle.states.proofs.starts.below_of.Statement.{statement}
 use Rattle.states.proofs.starts.below_of.Tie as tie
-use Rattle.states.proofs.starts.below_of.Reads as reads
-use Rattle.states.proofs.starts.below_of.Lts as lts
-use Rattle.states.proofs.starts.below_on.Reads as below-on-reads
 
 abbrev Inv-loop : tie.InvT-loop
 Inv-loop extents strides counters sum₀ i₀ sum i = (i ≤ length extents) × Left extents strides counters sum i

@@ -3,13 +3,10 @@ use Rattle.states.proofs.Ways.{back-le, ahead-le, back-is, ahead-is}
 use lib.IntN.{natAbs}
 use mir.Facts.{toZ-ofZ}
 use native.Mathlib.Omega.{arith}
-use mathlib.Core.Path.{_≡_, refl, sym, ap, subst, _∙_}
+use mathlib.Core.Path.{ap, _∙_}
 use borrow.Author.Needs.{needs}
 use Rattle.states.proofs.starts.below_on.Statement.{statement}
 use Rattle.states.proofs.starts.below_on.Tie as tie
-use Rattle.states.proofs.starts.below_on.Reads as reads
-use Rattle.states.proofs.starts.below_on.Lts as lts
-use Rattle.layout.proofs.magnitude.Reads as magnitude-reads
 
 magnitude-requires : tie.Need-magnitude-requires
 magnitude-requires c κs = search needs

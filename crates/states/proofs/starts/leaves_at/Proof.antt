@@ -4,16 +4,9 @@ use native.Mathlib.Omega.{arith}
 use Rattle.states.proofs.Ways.{placed-part, low-fits, low-le, high-fits, too-low, high-test}
 use borrow.Author.Needs.{sfits-of}
 use mir.Facts.{toZ-ofZ}
-use mathlib.Core.Path.{_≡_, refl, sym, ap, subst, _∙_}
 use borrow.Author.Needs.{needs}
 use Rattle.states.proofs.starts.leaves_at.Statement.{statement}
 use Rattle.states.proofs.starts.leaves_at.Tie as tie
-use Rattle.states.proofs.starts.leaves_at.Reads as reads
-use Rattle.states.proofs.starts.leaves_at.Lts as lts
-use Rattle.layout.proofs.reach_at.Reads as reach-at-reads
-use Rattle.states.proofs.starts.below_of.Reads as below-of-reads
-use Rattle.states.proofs.starts.room_above.Reads as room-above-reads
-use Rattle.states.proofs.starts.room_below.Reads as room-below-reads
 
 mul-from : tie.Need-mul-from
 mul-from c = search needs

@@ -3,8 +3,6 @@ use Rattle.states.proofs.Rooms.{greatest-fits, compared-above, room-ove
 use borrow.Author.Needs.{needs}
 use Rattle.states.proofs.starts.room_above.Statement.{statement}
 use Rattle.states.proofs.starts.room_above.Tie as tie
-use Rattle.states.proofs.starts.room_above.Reads as reads
-use Rattle.states.proofs.starts.room_above.Lts as lts
 
 cast-greatest : tie.Need-cast-greatest
 cast-greatest c = search needs

@@ -3,8 +3,6 @@ use Rattle.states.proofs.Rooms.{least-fits, compared, room}
 use borrow.Author.Needs.{needs}
 use Rattle.states.proofs.starts.room_below.Statement.{statement}
 use Rattle.states.proofs.starts.room_below.Tie as tie
-use Rattle.states.proofs.starts.room_below.Reads as reads
-use Rattle.states.proofs.starts.room_below.Lts as lts
 
 cast-least : tie.Need-cast-least
 cast-least c = search needs

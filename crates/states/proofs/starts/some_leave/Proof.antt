@@ -5,15 +5,12 @@ use Rattle.laws.specs.Refusals.Operands.{some-of-empty, some-of-step, some-of-f
 use Rattle.strided.specs.Base.{some-of}
 use mathlib.Core.Bool.{false}
 use native.Mathlib.Nat.{le-antisymm}
-use Prim.Native.Nat.{ℕ, _≤_, _-_}
+use Prim.Native.Nat.{_≤_, _-_}
 use native.Mathlib.Omega.{arith}
-use mathlib.Core.Path.{_≡_, refl, sym, ap, subst, _∙_}
+use mathlib.Core.Path.{_≡_, sym, ap, _∙_}
 use borrow.Author.Needs.{needs}
 use Rattle.states.proofs.starts.some_leave.Statement.{statement}
 use Rattle.states.proofs.starts.some_leave.Tie as tie
-use Rattle.states.proofs.starts.some_leave.Reads as reads
-use Rattle.states.proofs.starts.some_leave.Lts as lts
-use Rattle.states.proofs.starts.leaves_at.Reads as leaves-at-reads
 
 abbrev Inv-loop : tie.InvT-loop
 Inv-loop extents strides counters offsets operands k₀ k = (k ≤ operands) × (some-of (leavesAt extents strides counters offsets) 0 k ≡ false)

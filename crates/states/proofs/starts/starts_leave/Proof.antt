@@ -2,14 +2,9 @@
 use Rattle.states.proofs.Table.{standing-of}
 use Rattle.laws.specs.Refusals.Operands.{operands-zero, operands-some}
 use Rattle.states.specs.Starts.{someLeave, leavesAt}
-use mathlib.Core.Path.{_≡_, refl, sym, ap, subst, _∙_}
 use borrow.Author.Needs.{needs}
 use Rattle.states.proofs.starts.starts_leave.Statement.{statement}
 use Rattle.states.proofs.starts.starts_leave.Tie as tie
-use Rattle.states.proofs.starts.starts_leave.Reads as reads
-use Rattle.states.proofs.starts.starts_leave.Lts as lts
-use Rattle.layout.proofs.has_zero.Reads as has-zero-reads
-use Rattle.states.proofs.starts.some_leave.Reads as some-leave-reads
 
 has-zero-requires : tie.Need-has-zero-requires
 has-zero-requires c κs = search needs

@@ -2,14 +2,12 @@
 use Rattle.states.proofs.Blanks.{within-not, within-next, within-end}
 use Rattle.strided.specs.Layout.{within}
 use lib.ListN.{length, drop}
-use Prim.Native.Nat.{ℕ, _≤_, _-_}
+use Prim.Native.Nat.{_≤_, _-_}
 use native.Mathlib.Omega.{arith}
-use mathlib.Core.Path.{_≡_, refl, sym, ap, subst, _∙_}
+use mathlib.Core.Path.{_≡_, refl}
 use borrow.Author.Needs.{needs}
 use Rattle.states.proofs.state.all_within.Statement.{statement}
 use Rattle.states.proofs.state.all_within.Tie as tie
-use Rattle.states.proofs.state.all_within.Reads as reads
-use Rattle.states.proofs.state.all_within.Lts as lts
 
 abbrev Inv-loop : tie.InvT-loop
 Inv-loop extents counters i₀ i = (i ≤ length extents) × (within (drop i extents) (drop i counters) ≡ within extents counters)

@@ -1,17 +1,15 @@
 -- `states::state::all_zero` meets its contract. Assumes nothing.
 use Rattle.states.proofs.Blanks.{blank-not, blank-next, blank-end}
 use Rattle.laws.specs.Base.Arrays.{blank-ℕ}
-use Rattle.strided.specs.Step.{blank, blankZ}
+use Rattle.strided.specs.Step.{blank}
 use borrow.Author.Tests.{eq-eqb, ne-eqb}
 use lib.ListN.{length, drop}
-use Prim.Native.Nat.{ℕ, _≤_, _-_}
+use Prim.Native.Nat.{_≤_, _-_}
 use native.Mathlib.Omega.{arith}
-use mathlib.Core.Path.{_≡_, refl, sym, ap, subst, _∙_}
+use mathlib.Core.Path.{_≡_, refl}
 use borrow.Author.Needs.{needs}
 use Rattle.states.proofs.state.all_zero.Statement.{statement}
 use Rattle.states.proofs.state.all_zero.Tie as tie
-use Rattle.states.proofs.state.all_zero.Reads as reads
-use Rattle.states.proofs.state.all_zero.Lts as lts
 
 abbrev Inv-loop : tie.InvT-loop
 Inv-loop numbers i₀ i = (i ≤ length numbers) × (blank (drop i numbers) ≡ blank numbers)

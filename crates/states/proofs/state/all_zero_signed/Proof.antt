@@ -5,18 +5,15 @@ use Rattle.layout.proofs.Caps.{elem-read}
 use lib.IntN.{natAbs}
 use Rattle.states.proofs.Blanks.{blank-not, blank-next, blank-end}
 use Rattle.laws.specs.Base.Arrays.{blank-ℤ}
-use Rattle.strided.specs.Step.{blank, blankZ}
+use Rattle.strided.specs.Step.{blankZ}
 use borrow.Author.Tests.{eq-eqb, ne-eqb}
 use lib.ListN.{length, drop}
-use Prim.Native.Nat.{ℕ, _≤_, _-_}
+use Prim.Native.Nat.{_≤_, _-_}
 use native.Mathlib.Omega.{arith}
-use mathlib.Core.Path.{_≡_, refl, sym, ap, subst, _∙_}
+use mathlib.Core.Path.{_≡_, refl, sym, ap, _∙_}
 use borrow.Author.Needs.{needs}
 use Rattle.states.proofs.state.all_zero_signed.Statement.{statement}
 use Rattle.states.proofs.state.all_zero_signed.Tie as tie
-use Rattle.states.proofs.state.all_zero_signed.Reads as reads
-use Rattle.states.proofs.state.all_zero_signed.Lts as lts
-use Rattle.layout.proofs.magnitude.Reads as magnitude-reads
 
 abbrev Inv-loop : tie.InvT-loop
 Inv-loop numbers i₀ i = (i ≤ length numbers) × (blankZ (drop i numbers) ≡ blankZ numbers)

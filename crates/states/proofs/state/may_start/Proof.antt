@@ -1,14 +1,10 @@
 -- `states::state::may_start` meets its contract. Assumes nothing.
 use mathlib.Core.Bool.{not}
 use Rattle.states.specs.Reaches.{mayStart}
-use mathlib.Core.Path.{_≡_, refl, sym, ap, subst, _∙_}
+use mathlib.Core.Path.{sym, ap, _∙_}
 use borrow.Author.Needs.{needs}
 use Rattle.states.proofs.state.may_start.Statement.{statement}
 use Rattle.states.proofs.state.may_start.Tie as tie
-use Rattle.states.proofs.state.may_start.Reads as reads
-use Rattle.states.proofs.state.may_start.Lts as lts
-use Rattle.layout.proofs.reach_over.Reads as reach-over-reads
-use Rattle.layout.proofs.total_over.Reads as total-over-reads
 
 total-over-requires : tie.Need-total-over-requires
 total-over-requires c κs = search needs

@@ -4,13 +4,10 @@ use lib.Dec.{eqb}
 use Prim.Native.Nat.{ℕ, _%_}
 use native.Mathlib.Omega.{arith}
 use Rattle.states.proofs.Blanks.{start-none, start-test}
-use mathlib.Core.Path.{_≡_, refl, sym, ap, subst, _∙_}
+use mathlib.Core.Path.{ap, _∙_}
 use borrow.Author.Needs.{needs}
 use Rattle.states.proofs.state.on_start.Statement.{statement}
 use Rattle.states.proofs.state.on_start.Tie as tie
-use Rattle.states.proofs.state.on_start.Reads as reads
-use Rattle.states.proofs.state.on_start.Lts as lts
-use Rattle.advance.proofs.effective.Reads as effective-reads
 
 returns : tie.Need-returns
 returns c =

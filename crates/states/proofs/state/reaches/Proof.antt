@@ -2,16 +2,9 @@
 use Rattle.states.proofs.Table.{cut-length}
 use Rattle.states.proofs.Reaching.{blocks-long, counters-long, laid-here, untidy, may-not, stands-not, leave-last, begins-here}
 use native.Mathlib.Omega.{arith}
-use mathlib.Core.Path.{_≡_, refl, sym, ap, subst, _∙_}
 use borrow.Author.Needs.{needs}
 use Rattle.states.proofs.state.reaches.Statement.{statement}
 use Rattle.states.proofs.state.reaches.Tie as tie
-use Rattle.states.proofs.state.reaches.Reads as reads
-use Rattle.states.proofs.state.reaches.Lts as lts
-use Rattle.states.proofs.starts.starts_leave.Reads as starts-leave-reads
-use Rattle.states.proofs.state.may_start.Reads as may-start-reads
-use Rattle.states.proofs.state.stands.Reads as stands-reads
-use Rattle.states.proofs.state.tidy.Reads as tidy-reads
 
 tidy-requires : tie.Need-tidy-requires
 tidy-requires c κs = search needs

@@ -1,16 +1,8 @@
 -- `states::state::stands` meets its contract. Assumes nothing.
 use Rattle.states.proofs.Reaching.{stands-ended, stands-out, stands-on}
-use Rattle.states.proofs.Blanks.{blank-zeros, within-inside}
-use Rattle.states.specs.Reaches.{standing}
-use mathlib.Core.Path.{_≡_, refl, sym, ap, subst, _∙_}
 use borrow.Author.Needs.{needs}
 use Rattle.states.proofs.state.stands.Statement.{statement}
 use Rattle.states.proofs.state.stands.Tie as tie
-use Rattle.states.proofs.state.stands.Reads as reads
-use Rattle.states.proofs.state.stands.Lts as lts
-use Rattle.states.proofs.state.all_within.Reads as all-within-reads
-use Rattle.states.proofs.state.all_zero.Reads as all-zero-reads
-use Rattle.states.proofs.state.on_start.Reads as on-start-reads
 
 all-zero-requires : tie.Need-all-zero-requires
 all-zero-requires c κs = search needs

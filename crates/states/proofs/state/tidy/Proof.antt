@@ -1,13 +1,8 @@
 -- `states::state::tidy` meets its contract. Assumes nothing.
 use Rattle.states.proofs.Reaching.{tidy-not, tidy-last}
-use mathlib.Core.Path.{_≡_, refl, sym, ap, subst, _∙_}
 use borrow.Author.Needs.{needs}
 use Rattle.states.proofs.state.tidy.Statement.{statement}
 use Rattle.states.proofs.state.tidy.Tie as tie
-use Rattle.states.proofs.state.tidy.Reads as reads
-use Rattle.states.proofs.state.tidy.Lts as lts
-use Rattle.states.proofs.state.all_zero.Reads as all-zero-reads
-use Rattle.states.proofs.state.all_zero_signed.Reads as all-zero-signed-reads
 
 mul-all-zero : tie.Need-mul-all-zero
 mul-all-zero c = search needs

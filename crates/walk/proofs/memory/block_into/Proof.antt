@@ -1,6 +1,6 @@
 -- `walk::memory::block_into` meets its contract. Assumes nothing.
 use borrow.Author.Needs.{needs}
-use mathlib.Core.Path.{_≡_, refl}
+use mathlib.Core.Path.{refl}
 use mathlib.Core.List.{[], _∷_}
 use Rattle.advance.proofs.Turns.{single-all}
 use Rattle.walk.specs.Memory.{steps-of, step-block}
