@@ -3,7 +3,7 @@
 use mathlib.Core.Path.{_≡_, refl, sym, ap, ap₂, _∙_}
 use mathlib.Core.Bool.{Bool, true, false, cond, _&&_}
 use mathlib.Core.List.{List}
-use mathlib.Core.Logic.{_⊎_, ⊎-elim}
+use mathlib.Core.Logic.{⊎-elim}
 use Prim.Native.Nat.{ℕ, _+_, _-_, _*_, _/_, _%_, _≤_, _<_}
 use native.Mathlib.Nat.{mul-assoc, mul-comm, add-mul, add-comm, zero-mul, mul-le-mul-right, mul-lt-mul-of-pos-right, add-mul-mod-self-right, div-add-mod'}
 use native.Mathlib.Omega.{arith}
@@ -12,7 +12,7 @@ use lib.ListN.{getD}
 use borrow.Author.Tests.{lt-ltb, le-ltb, le-leb, lt-leb, eq-eqb, ne-eqb}
 use Rattle.strided.specs.Base.{sum, every}
 use Rattle.strided.specs.Region.{line, byteAt}
-use Rattle.strided.specs.Decline.{rising, apart, widthOf, passes}
+use Rattle.strided.specs.Decline.{widthOf, passes}
 use Rattle.laws.specs.Base.Ranges.{below-or}
 use Rattle.laws.specs.Cut.Ranges.{sum-cong, sum-scale, every-cong}
 use Rattle.laws.specs.Cut.Rising.{before, wayOf, adds, keepsApart, apart-each}

@@ -1,15 +1,14 @@
 -- Regions and loads grow with the blocks. Assumes nothing.
-use mathlib.Core.Path.{_≡_, subst⁻¹}
+use mathlib.Core.Path.{subst⁻¹}
 use mathlib.Core.List.{List}
 use mathlib.Core.Logic.{⊎-elim}
-use Prim.Native.Nat.{ℕ, _+_, _-_, _*_, _/_, _<_, _≤_}
+use Prim.Native.Nat.{ℕ, _<_, _≤_}
 use native.Mathlib.Nat.{mul-le-mul, mul-le-mul-left, le-refl}
 use native.Mathlib.Decide.{ℕ-discrete}
 use native.Mathlib.Omega.{arith}
 use lib.Dec.{ltb}
 use lib.ListN.{getD, set, length}
 use lib.Seq.{getD-set-same, getD-set-other, set-out}
-use Rattle.strided.specs.Base.{sum, product}
 use Rattle.strided.specs.Region.{line, byteAt, near, far, regionOf, region}
 use Rattle.strided.specs.Fit.{reuse, counts, aliases, factor, loadOf, load}
 use Rattle.laws.specs.Cut.Ranges.{le-or-lt, cond-mono, sum-termwise, product-termwise}

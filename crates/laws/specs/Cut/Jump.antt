@@ -1,6 +1,6 @@
 -- A jump: every score above s is taken down to s or below in one step. Where the region is then still above the cache, the single steps of
 -- `lessened` pass that place, whatever the ties. Assumes nothing.
-use mathlib.Core.Path.{_≡_, refl, sym, subst, subst⁻¹, ap, ap₂, _∙_}
+use mathlib.Core.Path.{_≡_, refl, sym, subst⁻¹, ap, _∙_}
 use mathlib.Core.Bool.{cond}
 use mathlib.Core.List.{List}
 use mathlib.Core.Logic.{_⊎_, ⊎-elim, inl, inr}

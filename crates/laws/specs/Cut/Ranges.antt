@@ -1,6 +1,6 @@
 -- The range words of strided's Base (sum, product, least, every, seek, greatest), one axis more at a time as a loop takes them; and choices
 -- whose test is known. The range from o on is written i - o, since a loop holds i. Assumes nothing.
-use mathlib.Core.Path.{_≡_, refl, sym, subst, subst⁻¹, ap, ap₂, _∙_}
+use mathlib.Core.Path.{_≡_, refl, sym, ap, ap₂, _∙_}
 use mathlib.Core.Logic.{_⊎_, ⊎-elim, inl, inr}
 use mathlib.Core.Bool.{Bool, true, false, cond}
 use Prim.Native.Nat.{ℕ, zero, suc, _+_, _-_, _*_, _<_, _≤_, min}

@@ -13,7 +13,7 @@ use lib.Dec.{ltb, leb}
 use lib.ListN.{getD, set, length, length-set}
 use lib.Seq.{getD-set-same, getD-set-other}
 use borrow.Author.Tests.{le-leb, lt-leb, lt-ltb, le-ltb}
-use Rattle.strided.specs.Base.{sum, until}
+use Rattle.strided.specs.Base.{sum}
 use Rattle.strided.specs.Region.{cache, region}
 use Rattle.strided.specs.Cut.{score, greatestScore, shorten, halving, lessening, cells, halved, lessened, shrunk}
 use Rattle.laws.specs.Cut.Ranges.{le-or-lt, cond-true, cond-false, cond-same}

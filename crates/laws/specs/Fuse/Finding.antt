@@ -3,7 +3,6 @@
 use mathlib.Core.Path.{_≡_, refl, sym, ap, ap₂, _∙_, subst}
 use mathlib.Core.List.{List, [], _∷_}
 use Prim.Native.Nat.{ℕ, suc, _≤_, _<_}
-use native.Mathlib.Omega.{arith}
 use lib.IntN.{ℤ}
 use lib.ListN.{length, take, replicate}
 use Rattle.strided.specs.Base.{padded}
@@ -16,7 +15,7 @@ use Rattle.laws.specs.Base.Arrays.{take-counted}
 use Rattle.laws.specs.Base.Layouts.{within-length, within-at, within-total, total-nozero, length-extents, extents-axes}
 use Rattle.laws.specs.Order.Permutation.{fusing-permutes}
 use Rattle.laws.specs.Order.Picked.{length-pick}
-use Rattle.laws.specs.Fuse.Radix.{kept, welded}
+use Rattle.laws.specs.Fuse.Radix.{welded}
 use Rattle.laws.specs.Fuse.Strides.{run-of}
 use Rattle.laws.specs.Fuse.Fused.{fuse-fits}
 use Rattle.laws.specs.Fuse.Joined.{extents-keep, fused-total, unravel-range}
@@ -48,11 +47,7 @@ pub within-pick : (es is o : List ℕ) → Below (length es) o → Within es is 
 within-pick es is [] b r = tt
 within-pick es is (a ∷ o) b r = (within-at es is a r (b .0), within-pick es is o (b .1) r)
 
--- extents with an index within have no zero
-pub within-none : (es is : List ℕ) → Within es is → NoZero es
-within-none es is r = total-nozero es (within-total es is r)
-
--- so the axes of a plan with counters within have none
+-- an axis of a plan with counters within has no zero extent
 pub told-none : (xs : List Axis) (cs : List ℕ) → Within (extents (fusedAxes xs)) cs → NoZero (extents xs)
 told-none xs cs r = total-nozero (extents xs) (subst (λ (t : ℕ). 0 < t) (sym (fused-total xs)) (within-total (extents (fusedAxes xs)) cs r))
 

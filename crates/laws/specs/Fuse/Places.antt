@@ -2,13 +2,13 @@
 -- the axis that the order names there. What fusing and picking make of them. Assumes nothing.
 use mathlib.Core.Path.{_≡_, refl, sym, ap, ap₂, _∙_}
 use mathlib.Core.Bool.{Bool, true, false, cond}
-use mathlib.Core.List.{List, [], _∷_, _++_}
+use mathlib.Core.List.{List, [], _∷_}
 use Prim.Native.Nat.{ℕ, zero, suc, _+_, _*_, _≤_, _<_}
 use native.Mathlib.Omega.{arith}
 use lib.IntN.{ℤ, pos}
 use lib.ListN.{length, getD, take, drop}
 use lib.Seq.{getD-take, getD-drop, length-take-le}
-use Rattle.strided.specs.Base.{padded, over, run}
+use Rattle.strided.specs.Base.{padded}
 use Rattle.strided.specs.Layout.{Axis, noAxis, extents, row, strideColumn, axesFrom}
 use Rattle.strided.specs.Order.{pick}
 use Rattle.strided.specs.Fuse.{fuse, fuseStep, fuseIf, canFuse}

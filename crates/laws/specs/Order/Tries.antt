@@ -3,7 +3,7 @@
 use mathlib.Core.Path.{_≡_, refl, sym, ap, _∙_}
 use mathlib.Core.Bool.{Bool, true, false, cond, _&&_, _||_}
 use mathlib.Core.List.{List, [], map}
-use mathlib.Core.Logic.{_⊎_, ⊎-elim}
+use mathlib.Core.Logic.{⊎-elim}
 use mathlib.Core.Option.{Option, none, some, Option·getD}
 use Prim.Native.Nat.{ℕ, zero, suc, _+_, _-_, _*_, _^_, _≤_, _<_, min}
 use native.Mathlib.Nat.{mul-one, one-mul, mul-le-mul, mul-le-mul-left, min-le-right, lt-of-le-of-lt}
@@ -20,10 +20,6 @@ use Rattle.laws.specs.Base.Filling.{length-rows}
 use Rattle.laws.specs.Base.Ranges.{below-or, sum-mono, term-le, sum-le, every-holds, every-fails}
 
 -- ---- the packing width
-
-pub packing-none : packingWidth 0 ≡ 1
-unfolding packingWidth leadingZeros
-packing-none = refl
 
 pub packing-bounds : (operands : ℕ) → operands ≤ 8 → (1 ≤ packingWidth operands) × (packingWidth operands ≤ 4)
 unfolding packingWidth

@@ -2,15 +2,15 @@
 use mathlib.Core.Path.{_≡_, sym, _∙_}
 use mathlib.Core.Bool.{Bool, false, _||_, not}
 use mathlib.Core.List.{List}
-use mathlib.Core.Option.{Option, none, some}
+use mathlib.Core.Option.{none}
 use Prim.Native.Nat.{ℕ, _+_, _*_, _^_, _≤_, _<_}
 use native.Mathlib.Omega.{arith}
 use lib.Dec.{ltb, eqb}
 use lib.IntN.{ℤ}
 use lib.ListN.{length, getD}
-use borrow.Author.Tests.{le-ltb, ltb-false, eq-eqb, ne-eqb, eqb-false, leb-false}
+use borrow.Author.Tests.{le-ltb, ltb-false, eq-eqb, ne-eqb, eqb-false}
 use Rattle.strided.specs.Base.{some-of}
-use Rattle.strided.specs.Layout.{strideRow, chosen, leadOf, total, hasZero, reach, maxU, maxI}
+use Rattle.strided.specs.Layout.{strideRow, chosen, total, hasZero, reach, maxU, maxI}
 use Rattle.strided.specs.Refusals.{layoutRows, layoutRefused, missing, row5}
 use Rattle.strided.specs.declared.Purpose.{Purpose}
 use Rattle.laws.specs.Base.Tests.{or-none}
@@ -30,14 +30,6 @@ pub record Accepted (es sizes : List ℕ) (ss : List ℤ) (u : Purpose) : Type 0
   pub cells : total es < 2 ^ 64
   pub near : hasZero es ≡ false → (k : ℕ) → k < length sizes → reach es (strideRow ss (length es) k) ≤ maxI
   pub narrow : hasZero es ≡ false → (k : ℕ) → k < length sizes → getD sizes k 0 * (1 + reach es (strideRow ss (length es) k)) ≤ maxI
-
-pub chosen-there : (operands k : ℕ) (o : Option ℕ) → missing operands o ≡ false → o ≡ some k → k < operands
-chosen-there operands k none h e = let z : _≡_ {A = ℕ} 0 1 = cc in absurd (omega arith)
-chosen-there operands k (some j) h e = let q : j ≡ k = cc in omega (arith, leb-false operands j h)
-
-pub lead-there : (operands : ℕ) (o : Option ℕ) → 1 ≤ operands → missing operands o ≡ false → leadOf o < operands
-lead-there operands none h m = omega arith
-lead-there operands (some j) h m = leb-false operands j m
 
 module _ (es sizes : List ℕ) (ss : List ℤ) (u : Purpose) where
   abbrev farAt : ℕ → Bool

@@ -13,7 +13,7 @@ use lib.ListN.{length, length-map}
 use Rattle.strided.specs.Base.{run}
 use Rattle.strided.specs.Layout.{extents, total}
 use Rattle.strided.specs.Fuse.{planAxes}
-use Rattle.strided.specs.Walk.{CutAxis, ax, cut, cutAxes, startsOf, lenAt, tiles, inner, inTile, counters, lengthAt, Block, block, blockAt, blocksOf}
+use Rattle.strided.specs.Walk.{CutAxis, ax, cut, cutAxes, startsOf, lenAt, tiles, inner, inTile, counters, lengthAt, blockAt, blocksOf}
 use Rattle.strided.specs.Text.{cellsIn}
 use Rattle.strided.specs.declared.Purpose.{Purpose}
 use Rattle.laws.specs.Base.Lists.{length-run, nth-none}
