@@ -21,8 +21,8 @@
  * (to no element it may be NULL), and memory that a call writes is no part of
  * another argument.
  *
- * No function keeps anything between calls, or allocates. Planning and walklist
- * take some 32 KB of stack, the others less.
+ * No function keeps anything between calls, or allocates. walklist takes some
+ * 32 KB of stack and planning 23, the others less.
  */
 #ifndef GOUGELILY_H
 #define GOUGELILY_H
