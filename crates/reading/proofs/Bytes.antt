@@ -1,6 +1,6 @@
 -- The byte at a place of a text and the text from there on: a digit, a given byte, given bytes.
 -- Assumes nothing.
-use mathlib.Core.Path.{_≡_, sym, ap, _∙_, subst}
+use mathlib.Core.Path.{_≡_, sym, ap, _∙_}
 use mathlib.Core.Logic.{⊎-elim}
 use mathlib.Core.Bool.{true, false, true≢false}
 use mathlib.Core.List.{List, [], _∷_, _++_}
@@ -12,6 +12,7 @@ use lib.Seq.{drop-cons}
 use Rattle.laws.specs.Base.Ranges.{below-or}
 use Rattle.laws.specs.Text.Numbers.{isDigit, goesOn, digit-of, head, tail}
 use Rattle.reading.specs.Bytes.{Behind, BehindAll}
+use Rattle.reading.proofs.Answers.{clash}
 use Rattle.reading.specs.declared.byte.Place.{Place}
 use Rattle.reading.specs.declared.byte.Place.the-variants.{To, Bad}
 
@@ -28,13 +29,10 @@ module _ (s : List ℕ) (at : ℕ) where
   -- the reader of one byte
   behind-to : (b next : ℕ) → drop at s ≡ b ∷ drop next s → Behind b s at (To next)
   behind-to b next h =
-      record {
-        to = λ n e. (let q : next ≡ n = cc in subst (λ (x : ℕ). drop at s ≡ b ∷ drop x s) q h);
-        bad = λ e. (let z : _≡_ {A = ℕ} 0 1 = cc in absurd (omega arith));
-      }
+      record { to = λ n e. (let q : next ≡ n = cc in rw q at h); bad = λ e. clash (cc) }
 
   behind-bad : (b : ℕ) → ((rest : List ℕ) → drop at s ≡ b ∷ rest → ⊥) → Behind b s at Bad
-  behind-bad b h = record { to = λ n e. (let z : _≡_ {A = ℕ} 0 1 = cc in absurd (omega arith)); bad = λ e. h }
+  behind-bad b h = record { to = λ n e. clash (cc); bad = λ e. h }
 
   pub behind-here : (b : ℕ) → at < length s → getD s at 0 ≡ b → Behind b s at (To (at + 1))
   behind-here b h e = behind-to b (at + 1) (byte-is b h e)
@@ -83,7 +81,7 @@ module _ {w u s : List ℕ} {p b : ℕ} (q : w ≡ b ∷ u) where
   all-none : ((rest : List ℕ) → drop p s ≡ b ∷ rest → ⊥) → BehindAll w s p Bad
   all-none none =
       record {
-        to = λ next e. (let z : _≡_ {A = ℕ} 0 1 = cc in absurd (omega arith));
+        to = λ next e. clash (cc);
         bad = λ e rest f. none (u ++ rest) (f ∙ ap (λ (l : List ℕ). l ++ rest) q);
       }
 
@@ -91,16 +89,13 @@ all-end : {w s : List ℕ} {p : ℕ} → w ≡ [] → BehindAll w s p (To p)
 all-end {w} {s} {p} q =
     record {
       to = λ next e. (let n : p ≡ next = cc in ap (λ (x : ℕ). drop x s) n ∙ ap (λ (l : List ℕ). l ++ drop next s) (sym q));
-      bad = λ e. (let z : _≡_ {A = ℕ} 0 1 = cc in absurd (omega arith));
+      bad = λ e. clash (cc);
     }
 
 -- the loop: i bytes are passed, and what is left of u is to stand at p
 pub record Passing (u s : List ℕ) (at p i : ℕ) : Type 0 where
   pub within : i ≤ length u
   pub left : (r : Place) → BehindAll (drop i u) s p r → BehindAll u s at r
-
-pub passing-start : (u s : List ℕ) (at : ℕ) → Passing u s at at 0
-passing-start u s at = record { within = omega arith; left = λ r t. t }
 
 module _ {u s : List ℕ} {at p i : ℕ} (d : Passing u s at p i) where
   pub passing-turn : {nx : ℕ} → i < length u → drop p s ≡ getD u i 0 ∷ drop nx s → Passing u s at nx (i + 1)

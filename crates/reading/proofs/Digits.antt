@@ -1,10 +1,10 @@
 -- Reading a number digit by digit. What stands at the front of a text is told from its first byte: each law says what is asked of the text
 -- behind that byte, so a reader goes on there and loses nothing.
 -- Assumes nothing.
-use mathlib.Core.Path.{_≡_, refl, sym, ap, _∙_, subst}
+use mathlib.Core.Path.{_≡_, refl, sym, ap, _∙_}
 use mathlib.Core.Bool.{true, false, true≢false}
 use mathlib.Core.List.{List, [], _∷_, _++_}
-use mathlib.Core.Logic.{_↔_, ⊎-elim}
+use mathlib.Core.Logic.{_↔_, _⊎_, inl, inr, ⊎-elim}
 use Prim.Native.Nat.{ℕ, _+_, _-_, _*_, _^_, _≤_, _<_}
 use native.Mathlib.Omega.{arith}
 use lib.ListN.{drop}
@@ -12,11 +12,11 @@ use Rattle.strided.specs.Digits.{digitsOf}
 use Rattle.strided.specs.Text.{FitU}
 use Rattle.laws.specs.Base.Ranges.{below-or}
 use Rattle.laws.specs.Text.Lengths.{digits-small}
-use Rattle.laws.specs.Text.Numbers.{isDigit, goesOn, Digits, none, more, valueFrom, value-grows, digit-of, digits-cat, digits-first, digits-go, head, tail}
+use Rattle.laws.specs.Text.Numbers.{isDigit, goesOn, Digits, none, more, valueFrom, value-grows, digit-of, digits-cat, First, digits-first, digits-go, head, tail}
 use Rattle.reading.specs.Here.{Here}
 use Rattle.reading.specs.Numbers.{Reads, More, ReadsMore}
 use Rattle.reading.proofs.Bytes.{DigitAt}
-use Rattle.reading.proofs.Answers.{is-value, is-bad}
+use Rattle.reading.proofs.Answers.{clash, is-value, is-bad}
 use Rattle.reading.specs.declared.number.Number.{Number}
 use Rattle.reading.specs.declared.number.Number.the-variants.{Value, Bad}
 
@@ -26,16 +26,10 @@ use Rattle.reading.specs.declared.number.Number.the-variants.{Value, Bad
 module _ {a : ℕ} {s : List ℕ} {at : ℕ} where
   pub more-value : (v next : ℕ) → More a (drop at s) v (drop next s) → ReadsMore a s at (Value v next)
   more-value v next h =
-      record {
-        value = λ w n e. (
-            let p : v ≡ w = cc in
-            let q : next ≡ n = cc in
-            subst (λ (x : ℕ). More a (drop at s) w (drop x s)) q (subst (λ (x : ℕ). More a (drop at s) x (drop next s)) p h));
-        bad = λ e. (let z : _≡_ {A = ℕ} 0 1 = cc in absurd (omega arith));
-      }
+      record { value = λ w n e. (let p : v ≡ w = cc in let q : next ≡ n = cc in rw (p, q) at h); bad = λ e. clash (cc) }
 
   pub more-bad : ((v : ℕ) (rest : List ℕ) → More a (drop at s) v rest → ⊥) → ReadsMore a s at Bad
-  more-bad h = record { value = λ w n e. (let z : _≡_ {A = ℕ} 0 1 = cc in absurd (omega arith)); bad = λ e. h }
+  more-bad h = record { value = λ w n e. clash (cc); bad = λ e. h }
 
 -- no digit follows: a is the number
 pub more-none : (a : ℕ) (t : List ℕ) → a < 2 ^ 64 → goesOn t ≡ false → More a t a t
@@ -68,39 +62,41 @@ module _ (a b : ℕ) {t u : List ℕ} (e : t ≡ b ∷ u) (d : isDigit b ≡ tru
 
 -- digits that say too much already
 pub more-over : (a : ℕ) {t : List ℕ} {v : ℕ} {rest : List ℕ} → 2 ^ 64 ≤ a → More a t v rest → ⊥
-more-over a h m = let g = value-grows a (m .digits) in let f = m .fits in let e = m .value in omega arith
+more-over a h m = let g = value-grows a (m .digits) in omega arith
 
 -- ---- a number from its first byte
 
 number-none : (t : List ℕ) → goesOn t ≡ false → (v : ℕ) (rest : List ℕ) → Here digitsOf FitU t v rest → ⊥
 number-none t g v rest h = true≢false (sym (digits-go v rest) ∙ sym (ap goesOn (h .form)) ∙ g)
 
--- how the digits of v begin
-zero-begins : (v : ℕ) → v < 1 → digitsOf v ≡ 48 ∷ []
-zero-begins v z = let e : v ≡ 0 = omega arith in ap digitsOf e ∙ digits-small 0 (omega arith)
+-- how the text of a number v begins: with `0` and no more, or with the first digit of v
+begins : {t u : List ℕ} {b v : ℕ} {rest : List ℕ} → t ≡ b ∷ u → Here digitsOf FitU t v rest
+    → ((b ≡ 48) × (u ≡ rest)) ⊎ ((f : First v) × (b ≡ 48 + f .digit) × (u ≡ f .rest ++ rest))
+begins {u = u} {b = b} {v = v} {rest = rest} e h =
+    ⊎-elim
+    (λ zero.
+    let q : b ∷ u ≡ (48 + v) ∷ rest = sym e ∙ h .form ∙ ap (λ (l : List ℕ). l ++ rest) (digits-small v (omega arith)) in
+    let x : b ≡ 48 + v = ap head q in
+    inl (omega arith, ap tail q))
+    (λ above.
+    let f = digits-first v above in
+    let q : b ∷ u ≡ (48 + f .digit) ∷ (f .rest ++ rest) = sym e ∙ h .form ∙ ap (λ (l : List ℕ). l ++ rest) (f .form) in
+    inr (f, ap head q, ap tail q))
+    (below-or v 1)
 
 -- `0` stands alone
 module _ {t u : List ℕ} (e : t ≡ 48 ∷ u) where
   zero-alone : goesOn u ≡ false → Here digitsOf FitU t 0 u
-  zero-alone g = record { fits = omega arith; form = e ∙ ap (λ (l : List ℕ). l ++ u) (sym (zero-begins 0 (omega arith))); stops = g }
+  zero-alone g = record { fits = omega arith; form = e ∙ ap (λ (l : List ℕ). l ++ u) (sym (digits-small 0 (omega arith))); stops = g }
 
   zero-more : goesOn u ≡ true → (v : ℕ) (rest : List ℕ) → Here digitsOf FitU t v rest → ⊥
   zero-more g v rest h =
-      ⊎-elim
-      (λ z.
-      let q : 48 ∷ u ≡ 48 ∷ rest = sym e ∙ h .form ∙ ap (λ (l : List ℕ). l ++ rest) (zero-begins v z) in
-      true≢false (sym g ∙ ap (λ (l : List ℕ). goesOn (tail l)) q ∙ h .stops))
-      (λ above.
-      let f = digits-first v above in
-      let q : 48 ∷ u ≡ (48 + f .digit) ∷ (f .rest ++ rest) = sym e ∙ h .form ∙ ap (λ (l : List ℕ). l ++ rest) (f .form) in
-      let z : 48 ≡ 48 + f .digit = ap head q in
-      omega arith)
-      (below-or v 1)
+      ⊎-elim (λ z. true≢false (sym g ∙ ap goesOn (z .1) ∙ h .stops)) (λ f. omega arith) (begins e h)
 
 -- another digit, and what more there is
-module _ (b : ℕ) {t u : List ℕ} (e : t ≡ b ∷ u) (d : isDigit b ≡ true) (above : 48 < b) (v : ℕ) (rest : List ℕ) where
-  first-here : More (b - 48) u v rest → Here digitsOf FitU t v rest
-  first-here m =
+module _ (b : ℕ) {t u : List ℕ} (e : t ≡ b ∷ u) (above : 48 < b) (v : ℕ) (rest : List ℕ) where
+  first-here : isDigit b ≡ true → More (b - 48) u v rest → Here digitsOf FitU t v rest
+  first-here d m =
       let f = digit-of b d in
       let one : digitsOf (b - 48) ≡ b ∷ [] = digits-small (b - 48) (f .0) ∙ ap (λ (x : ℕ). x ∷ []) (f .1) in
       let all : digitsOf v ≡ b ∷ m .digits =
@@ -114,39 +110,33 @@ module _ (b : ℕ) {t u : List ℕ} (e : t ≡ b ∷ u) (d : isDigit b ≡ true)
   first-more : Here digitsOf FitU t v rest → More (b - 48) u v rest
   first-more h =
       ⊎-elim
-      (λ z.
-      let q : b ∷ u ≡ 48 ∷ rest = sym e ∙ h .form ∙ ap (λ (l : List ℕ). l ++ rest) (zero-begins v z) in
-      let x : b ≡ 48 = ap head q in
-      absurd (omega arith))
-      (λ pos.
-      let f = digits-first v pos in
-      let q : b ∷ u ≡ (48 + f .digit) ∷ (f .rest ++ rest) = sym e ∙ h .form ∙ ap (λ (l : List ℕ). l ++ rest) (f .form) in
-      let x : b ≡ 48 + f .digit = ap head q in
+      (λ z. absurd (omega arith))
+      (λ w.
+      let f = w .0 in
       let y : f .digit ≡ b - 48 = omega arith in
       record {
         digits = f .rest;
         are = f .digits;
-        form = ap tail q;
+        form = w .2;
         value = sym (f .value) ∙ ap (λ (n : ℕ). valueFrom n (f .rest)) y;
         fits = h .fits;
         stops = h .stops;
       })
-      (below-or v 1)
+      (begins e h)
 
 -- ---- the reader of a number, by its first digit
 
 module _ {s : List ℕ} {at b : ℕ} (d : DigitAt s at b) where
   pub first-reads : (w : ℕ) {r : Number} → w ≡ b → 48 < b → ReadsMore (w - 48) s (at + 1) r → Reads digitsOf s at r
   first-reads w {r} e h m =
-      let n : ReadsMore (b - 48) s (at + 1) r = subst (λ (x : ℕ). ReadsMore (x - 48) s (at + 1) r) e m in
+      let n : ReadsMore (b - 48) s (at + 1) r = rw e at m in
       record {
-        value = λ v next q. first-here b (d .rest) (d .is) h v (drop next s) (n .value v next q);
-        bad = λ q v rest g. n .bad q v rest (first-more b (d .rest) (d .is) h v rest g);
+        value = λ v next q. first-here b (d .rest) h v (drop next s) (d .is) (n .value v next q);
+        bad = λ q v rest g. n .bad q v rest (first-more b (d .rest) h v rest g);
       }
 
   zero-rest : b ≤ 48 → drop at s ≡ 48 ∷ drop (at + 1) s
   zero-rest h =
-      let l = d .low in
       let e : b ≡ 48 = omega arith in
       d .rest ∙ ap (λ (x : ℕ). x ∷ drop (at + 1) s) e
 

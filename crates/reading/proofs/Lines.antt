@@ -1,6 +1,6 @@
 -- Reading the lines behind L, each from its parts, and the operands' lines one by one. A loop's invariant is what is left, as for rows.
 -- Assumes nothing.
-use mathlib.Core.Path.{_≡_, refl, sym, ap, _∙_, subst}
+use mathlib.Core.Path.{_≡_, refl, sym, ap, _∙_}
 use mathlib.Core.Bool.{false, false≢true}
 use mathlib.Core.List.{List, [], _∷_, _++_, append-assoc, append-nil}
 use Prim.Native.Nat.{ℕ, suc, _+_, _-_, _≤_, _<_}
@@ -15,18 +15,16 @@ use Rattle.strided.specs.Base.{over}
 use Rattle.strided.specs.Digits.{digitsOf, signedOf}
 use Rattle.strided.specs.Text.{FitU, FitI, OperandLine, field, signedField, extentsLine, operandLine}
 use Rattle.laws.specs.Text.Numbers.{tail, digits-once}
-use Rattle.laws.specs.Text.Once.{Once, cell-once, row-stops, row-once, extents-text, operand-text, operand-once, operands-rest}
+use Rattle.laws.specs.Text.Once.{Once, row-stops, row-once, extents-text, operand-text, operand-once, operands-rest}
 use Rattle.reading.specs.Here.{Here, Nowhere}
-use Rattle.reading.specs.Numbers.{Reads}
 use Rattle.reading.specs.Rows.{RowHere, TakesRow}
 use Rattle.reading.specs.Laid.{sets-append}
 use Rattle.reading.specs.Lines.{ExtentsHere, TakesExtents, sizeText, OperandHere, TakesOperand, OperandsHere, TakesOperands, sizesIn, stridesIn, LinesHere, Arrays, arrays, laid, TakesLines}
 use Rattle.reading.specs.declared.byte.Place.{Place}
 use Rattle.reading.specs.declared.byte.Place.the-variants.{To, Bad}
-use Rattle.reading.specs.declared.number.Number.{Number}
 use Rattle.reading.specs.declared.number.Number.the-variants as U
 use Rattle.reading.proofs.Bytes.{none-at}
-use Rattle.reading.proofs.Answers.{is-bad, here-once}
+use Rattle.reading.proofs.Answers.{clash, here-once, field-once}
 use Rattle.reading.proofs.Rows.{row-long}
 
 -- ---- the E line
@@ -45,27 +43,14 @@ module _ {s : List ℕ} {at rank : ℕ} {old new : List ℕ} where
   pub extents-none : ((rest : List ℕ) → drop at s ≡ 69 ∷ rest → ⊥) → TakesExtents s at rank old new Bad
   extents-none none =
       record {
-        to = λ next q. (let z : _≡_ {A = ℕ} 0 1 = cc in absurd (omega arith));
+        to = λ next q. clash (cc);
         bad = λ q es rest h. none (over es field ++ (10 ∷ rest)) (h .form ∙ extents-text es rest);
       }
 
 -- ---- the front of an O line
 
 size-once : Once sizeText
-size-once a b x y g h e = cell-once digitsOf digits-once a b x y g h (ap tail e)
-
-module _ {s : List ℕ} {at : ℕ} where
-  pub size-reads : (from : ℕ) {r : Number} → drop at s ≡ 79 ∷ drop from s → Reads field s from r → Reads sizeText s at r
-  size-reads from e t =
-      record {
-        value = λ v next q. (
-            let h = t .value v next q in
-            record { fits = h .fits; form = e ∙ ap (λ (l : List ℕ). 79 ∷ l) (h .form); stops = h .stops });
-        bad = λ q v rest h. t .bad q v rest (record { fits = h .fits; form = ap tail (sym e ∙ h .form); stops = h .stops });
-      }
-
-  pub size-none : ((rest : List ℕ) → drop at s ≡ 79 ∷ rest → ⊥) → Reads sizeText s at U.Bad
-  size-none none = is-bad (λ v rest h. none (field v ++ rest) (h .form))
+size-once a b x y g h e = field-once a b x y g h (ap tail e)
 
 pub size-short : {t : List ℕ} {v : ℕ} {u : List ℕ} → Here sizeText FitU t v u → length u ≤ length t
 size-short {v = v} {u = u} h = let l = ap length (h .form) ∙ length-append (sizeText v) u in omega arith
@@ -91,33 +76,33 @@ line-of {v = v} {ts = ts} {rest = rest} h r n =
 operand-long : {rank : ℕ} {t : List ℕ} (o : OperandLine) {rest : List ℕ} → OperandHere rank t o rest → rank + length rest < length t
 operand-long o {rest} h =
     let l = row-long signedOf FitI (o .strides) (row-of h) in
-    let n = h .fits .count in
     let m = ap length (size-of h .form) ∙ length-append (sizeText (o .size)) (over (o .strides) signedField ++ (10 ∷ rest)) in
     omega arith
 
 module _ {s : List ℕ} {at rank from : ℕ} {old new : List ℤ} where
   no-operand : ((o : OperandLine) (rest : List ℕ) → OperandHere rank (drop at s) o rest → ⊥) → TakesOperand s at rank from old new U.Bad
-  no-operand none = record { value = λ size next q. (let z : _≡_ {A = ℕ} 0 1 = cc in absurd (omega arith)); bad = λ q. none }
+  no-operand none = record { value = λ size next q. clash (cc); bad = λ q. none }
 
   pub operand-none : Nowhere sizeText FitU (drop at s) → TakesOperand s at rank from old new U.Bad
   operand-none none = no-operand (λ o rest h. none (o .size) (over (o .strides) signedField ++ (10 ∷ rest)) (size-of h))
 
-  module _ (p : ℕ) {v : ℕ} (h : Here sizeText FitU (drop at s) v (drop p s)) {r : Place} (t : TakesRow signedOf FitI s p rank from old new r) where
-    pub operand-open : r ≡ Bad → TakesOperand s at rank from old new U.Bad
-    operand-open q =
+  module _ (p : ℕ) {v : ℕ} (h : Here sizeText FitU (drop at s) v (drop p s)) where
+    pub operand-open : ((ts : List ℤ) (rest : List ℕ) → length ts ≡ rank → RowHere signedOf FitI (drop p s) ts rest → ⊥)
+        → TakesOperand s at rank from old new U.Bad
+    operand-open none =
         no-operand (λ o rest g.
-        t .bad q (o .strides) rest (g .fits .count)
+        none (o .strides) rest (g .fits .count)
         (record { fits = g .fits .stridesFit; form = here-once sizeText size-once h (size-of g) .1 }))
 
-    pub operand-told : (next : ℕ) → r ≡ To next → TakesOperand s at rank from old new (U.Value v next)
-    operand-told next q =
-        let w = t .to next q in
+    pub operand-told : (next : ℕ) → (ts : List ℤ) × (length ts ≡ rank) × RowHere signedOf FitI (drop p s) ts (drop next s) × (new ≡ sets old from ts)
+        → TakesOperand s at rank from old new (U.Value v next)
+    operand-told next w =
         record {
           value = λ size n e. (
               let a : v ≡ size = cc in
               let b : next ≡ n = cc in
-              (record { size = v; strides = w .0 }, a, subst (λ (x : ℕ). OperandHere rank (drop at s) (record { size = v; strides = w .0 }) (drop x s)) b (line-of h (w .2) (w .1)), w .3));
-          bad = λ e. (let z : _≡_ {A = ℕ} 0 1 = cc in absurd (omega arith));
+              (record { size = v; strides = w .0 }, a, rw b at (line-of h (w .2) (w .1)), w .3));
+          bad = λ e. clash (cc);
         }
 
 -- ---- all O lines
@@ -148,19 +133,18 @@ module _ {s : List ℕ} {at rank k from : ℕ} {sizes sizes′ : List ℕ} {stri
       }
     where
       none : r ≡ Bad → (ls : List OperandLine) (rest : List ℕ) → OperandsHere rank n (drop at s) ls rest → ⊥
-      none e [] rest g = let a = g .count in omega arith
+      none e [] rest g = omega arith
       none e (w ∷ ws) rest g =
           let f = first-line g in
           let o-w = operand-once o w (drop nx s) (over ws operandLine ++ rest) (sym (h .form) ∙ f .form) in
-          let a = g .count in
           t .bad e ws rest (record { count = omega arith; fits = g .fits .1; form = o-w .1 })
 
   no-line : {n c : ℕ} → n ≡ suc c → ((o : OperandLine) (rest : List ℕ) → OperandHere rank (drop at s) o rest → ⊥)
       → TakesOperands s at rank n k from sizes sizes′ strides strides′ Bad
-  no-line {n} {c} q none = record { to = λ next e. (let z : _≡_ {A = ℕ} 0 1 = cc in absurd (omega arith)); bad = λ e ls rest g. go ls rest g }
+  no-line {n} {c} q none = record { to = λ next e. clash (cc); bad = λ e ls rest g. go ls rest g }
     where
       go : (ls : List OperandLine) (rest : List ℕ) → OperandsHere rank n (drop at s) ls rest → ⊥
-      go [] rest g = let a = g .count in omega arith
+      go [] rest g = omega arith
       go (w ∷ ws) rest g = none w (over ws operandLine ++ rest) (first-line g)
 
 lines-end : {s : List ℕ} {at rank k from n : ℕ} {sizes : List ℕ} {strides : List ℤ} → n ≡ 0
@@ -168,7 +152,7 @@ lines-end : {s : List ℕ} {at rank k from n : ℕ} {sizes : List ℕ} {strides 
 lines-end {s} {at} q =
     record {
       to = λ next e. (let a : at ≡ next = cc in ([], record { count = sym q; fits = tt; form = ap (λ (x : ℕ). drop x s) a }, refl, refl));
-      bad = λ e. (let z : _≡_ {A = ℕ} 0 1 = cc in absurd (omega arith));
+      bad = λ e. clash (cc);
     }
 
 -- the loop: k lines are read, and what is left begins at p
@@ -180,48 +164,41 @@ pub record Lining (s : List ℕ) (at rank count : ℕ) (sizes₀ sizes : List �
   pub left : (sizes′ : List ℕ) (strides′ : List ℤ) (r : Place) → TakesOperands s p rank (count - k) k from sizes sizes′ strides strides′ r
       → TakesOperands s at rank count 0 0 sizes₀ sizes′ strides₀ strides′ r
 
-pub lining-start : (s : List ℕ) (at rank count : ℕ) (sizes : List ℕ) (strides : List ℤ) → length (drop at s) ≤ length s
-    → Lining s at rank count sizes sizes strides strides at 0 0
-lining-start s at rank count sizes strides h =
+pub lining-start : (s : List ℕ) (at rank count : ℕ) (sizes : List ℕ) (strides : List ℤ) → Lining s at rank count sizes sizes strides strides at 0 0
+lining-start s at rank count sizes strides =
     record {
       within = omega arith;
-      short = omega arith;
+      short = omega (arith, length-drop at s);
       same-sizes = refl;
       same-strides = refl;
       left = λ sizes′ strides′ r t.
-          let q : count - 0 ≡ count = omega arith in
-          subst (λ (x : ℕ). TakesOperands s at rank x 0 0 sizes sizes′ strides strides′ r) q t;
+          let q : count - 0 ≡ count = omega arith in rw q at t;
     }
 
 module _ {s : List ℕ} {at rank count : ℕ} {sizes₀ sizes : List ℕ} {strides₀ strides : List ℤ} {p k from : ℕ}
     (d : Lining s at rank count sizes₀ sizes strides₀ strides p k from) where
-  -- what the reader of a line answers
-  module _ {new : List ℤ} {r : Number} (t : TakesOperand s p rank from strides new r) where
-    pub lining-short : (size nx : ℕ) → r ≡ U.Value size nx → from + rank + length (drop nx s) ≤ length s
-    lining-short size nx e =
-        let w = t .value size nx e in
-        let l = operand-long (w .0) (w .2) in
-        let m = d .short in
-        omega arith
+  -- a line is read
+  module _ {size : ℕ} (nx : ℕ) {new : List ℤ}
+      (w : (o : OperandLine) × (o .size ≡ size) × OperandHere rank (drop p s) o (drop nx s) × (new ≡ sets strides from (o .strides))) where
+    pub lining-short : from + rank + length (drop nx s) ≤ length s
+    lining-short = let l = operand-long (w .0) (w .2) in omega arith
 
-    pub lining-turn : (size nx : ℕ) → k < count → r ≡ U.Value size nx → Lining s at rank count sizes₀ (set sizes k size) strides₀ new nx (k + 1) (from + rank)
-    lining-turn size nx h e =
-        let w = t .value size nx e in
+    pub lining-turn : k < count → Lining s at rank count sizes₀ (set sizes k size) strides₀ new nx (k + 1) (from + rank)
+    lining-turn h =
         let q : count - k ≡ suc (count - (k + 1)) = omega arith in
         record {
           within = omega arith;
-          short = lining-short size nx e;
+          short = lining-short;
           same-sizes = length-set sizes k size ∙ d .same-sizes;
           same-strides = ap length (w .3) ∙ length-sets strides from (w .0 .strides) ∙ d .same-strides;
           left = λ sizes′ strides′ r′ u.
-              d .left sizes′ strides′ r′
-              (line-turn nx (w .0) q (w .2)
-              (subst (λ (x : List ℤ). TakesOperands s nx rank (count - (k + 1)) (k + 1) (from + rank) (set sizes k (w .0 .size)) sizes′ x strides′ r′) (w .3)
-              (subst (λ (x : ℕ). TakesOperands s nx rank (count - (k + 1)) (k + 1) (from + rank) (set sizes k x) sizes′ new strides′ r′) (sym (w .1)) u)));
+              d .left sizes′ strides′ r′ (line-turn nx (w .0) q (w .2) (rw (← w .1, w .3) at u));
         }
 
-    pub lining-bad : k < count → r ≡ U.Bad → TakesOperands s at rank count 0 0 sizes₀ sizes strides₀ new Bad
-    lining-bad h e = let q : count - k ≡ suc (count - (k + 1)) = omega arith in d .left sizes new Bad (no-line q (t .bad e))
+  -- no line stands there
+  pub lining-bad : {new : List ℤ} → k < count → ((o : OperandLine) (rest : List ℕ) → OperandHere rank (drop p s) o rest → ⊥)
+      → TakesOperands s at rank count 0 0 sizes₀ sizes strides₀ new Bad
+  lining-bad {new} h none = let q : count - k ≡ suc (count - (k + 1)) = omega arith in d .left sizes new Bad (no-line q none)
 
   pub lining-end : count ≤ k → TakesOperands s at rank count 0 0 sizes₀ sizes strides₀ strides (To p)
   lining-end h = let q : count - k ≡ 0 = omega arith in d .left sizes strides (To p) (lines-end q)
@@ -243,16 +220,17 @@ module _ {s : List ℕ} {at rank : ℕ} {es es′ : List ℕ} {a : Place} (f : T
   pub lines-none : {operands : ℕ} {old new : Arrays} → a ≡ Bad → TakesLines s at rank operands old new false
   lines-none e = no-lines (λ xs ls h. f .bad e xs (over ls operandLine) (extents-of h))
 
+  -- the operands' lines stand behind the E line
+  behind-extents : (p : ℕ) → a ≡ To p → {operands : ℕ} (xs : List ℕ) (ls : List OperandLine) → LinesHere rank operands (drop at s) xs ls
+      → drop p s ≡ over ls operandLine
+  behind-extents p e xs ls h = let w = f .to p e in extents-rest (w .0) xs (w .1) (extents-of h)
+
   module _ (p : ℕ) (e : a ≡ To p) {operands : ℕ} {sizes sizes′ : List ℕ} {strides strides′ : List ℤ} {b : Place}
       (g : TakesOperands s p rank operands 0 0 sizes sizes′ strides strides′ b) where
-    -- the operands' lines stand behind the E line
-    behind-extents : (xs : List ℕ) (ls : List OperandLine) → LinesHere rank operands (drop at s) xs ls → drop p s ≡ over ls operandLine
-    behind-extents xs ls h = let w = f .to p e in extents-rest (w .0) xs (w .1) (extents-of h)
-
     pub lines-open : {old new : Arrays} → b ≡ Bad → TakesLines s at rank operands old new false
     lines-open q =
         no-lines (λ xs ls h.
-        g .bad q ls [] (record { count = h .operandLines; fits = h .rows; form = behind-extents xs ls h ∙ sym (append-nil (over ls operandLine)) }))
+        g .bad q ls [] (record { count = h .operandLines; fits = h .rows; form = behind-extents p e xs ls h ∙ sym (append-nil (over ls operandLine)) }))
 
     pub lines-told : (end : ℕ) → b ≡ To end → TakesLines s at rank operands (arrays es sizes strides) (arrays es′ sizes′ strides′) (leb (length s) end)
     lines-told end q = record { yes = λ t. all (leb-true (length s) end t); no = λ t xs ls h. more (leb-false (length s) end t) xs ls h }
@@ -280,6 +258,6 @@ module _ {s : List ℕ} {at rank : ℕ} {es es′ : List ℕ} {a : Place} (f : T
             let v = g .to end q in
             let n : length (v .0) ≡ length ls = v .1 .count ∙ sym (h .operandLines) in
             let z : drop end s ≡ [] =
-            operands-rest (v .0) ls (drop end s) [] n (sym (v .1 .form) ∙ behind-extents xs ls h ∙ sym (append-nil (over ls operandLine))) in
+            operands-rest (v .0) ls (drop end s) [] n (sym (v .1 .form) ∙ behind-extents p e xs ls h ∙ sym (append-nil (over ls operandLine))) in
             let l : length s - end ≡ 0 = sym (length-drop end s) ∙ ap length z in
             omega arith

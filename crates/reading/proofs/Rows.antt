@@ -1,7 +1,7 @@
 -- Reading a row field by field, over the kind of element. A loop's invariant is what is left: whoever reads the rest of the row from here
 -- has read the row.
 -- Assumes nothing.
-use mathlib.Core.Path.{_≡_, refl, sym, ap, _∙_, subst}
+use mathlib.Core.Path.{_≡_, refl, sym, ap, _∙_}
 use mathlib.Core.List.{List, [], _∷_, _++_}
 use Prim.Native.Nat.{ℕ, suc, _+_, _-_, _≤_, _<_}
 use native.Mathlib.Nat.{add-zero}
@@ -14,6 +14,7 @@ use Rattle.laws.specs.Text.Once.{Once, celled, cell-once, row-stops, row-cons}
 use Rattle.reading.specs.Here.{Here, Nowhere}
 use Rattle.reading.specs.Bytes.{Behind}
 use Rattle.reading.specs.Rows.{RowHere, TakesRow}
+use Rattle.reading.proofs.Answers.{clash}
 use Rattle.reading.specs.declared.byte.Place.{Place}
 use Rattle.reading.specs.declared.byte.Place.the-variants.{Bad}
 
@@ -59,12 +60,12 @@ module _ {A : Type 0} (g : A → List ℕ) (Fits : A → Type 0) where
             let f = first-field row in
             let o = cell-once g once v w (drop nx s) (over ws (celled g) ++ (10 ∷ rest)) (h .stops) (f .stops) (sym (h .form) ∙ f .form) in
             let m : length ws ≡ k = omega arith in
-            t .bad e ws rest m (subst (λ (x : List ℕ). RowHere g Fits x ws rest) (sym (o .1)) (other-fields row))
+            t .bad e ws rest m (rw (o .1) (other-fields row))
 
   no-field : {s : List ℕ} {at from : ℕ} {old new : List A} {k n : ℕ} → n ≡ suc k → Nowhere (celled g) Fits (drop at s)
       → TakesRow g Fits s at n from old new Bad
   no-field {s} {at} {k = k} q none =
-      record { to = λ next e. (let z : _≡_ {A = ℕ} 0 1 = cc in absurd (omega arith)); bad = λ e vs rest l row. go vs rest (l ∙ q) row }
+      record { to = λ next e. clash (cc); bad = λ e vs rest l row. go vs rest (l ∙ q) row }
     where
       go : (vs : List A) (rest : List ℕ) → length vs ≡ suc k → RowHere g Fits (drop at s) vs rest → ⊥
       go [] rest l row = omega arith
@@ -97,7 +98,7 @@ module _ {A : Type 0} (g : A → List ℕ) (Fits : A → Type 0) where
         short = omega arith;
         left = λ new r t.
             let q : count - 0 ≡ count = omega arith in
-            subst (λ (x : ℕ). TakesRow g Fits s at x from old new r) q (subst (λ (x : ℕ). TakesRow g Fits s at (count - 0) x old new r) (add-zero from) t);
+            rw (q, add-zero from) at t;
       }
 
   module _ {s : List ℕ} {at count from : ℕ} {old out : List A} {p i : ℕ} (d : Rowing s at count from old out p i) where
@@ -107,11 +108,11 @@ module _ {A : Type 0} (g : A → List ℕ) (Fits : A → Type 0) where
         record {
           within = omega arith;
           same = length-set out (from + i) v ∙ d .same;
-          short = let l = ap length (f .form) ∙ length-append (celled g v) (drop nx s) in let m = d .short in omega arith;
+          short = let l = ap length (f .form) ∙ length-append (celled g v) (drop nx s) in omega arith;
           left = λ new r t.
               let q : count - i ≡ suc (count - (i + 1)) = omega arith in
               let a : from + (i + 1) ≡ from + i + 1 = omega arith in
-              d .left new r (turn once q f (subst (λ (x : ℕ). TakesRow g Fits s nx (count - (i + 1)) x (set out (from + i) v) new r) a t));
+              d .left new r (turn once q f (rw a at t));
         }
 
     pub rowing-bad : i < count → Nowhere (celled g) Fits (drop p s) → TakesRow g Fits s at count from old out Bad

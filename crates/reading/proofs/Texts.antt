@@ -1,18 +1,19 @@
 -- A whole text: an L line and the lines behind it.
 -- Assumes nothing.
-use mathlib.Core.Path.{_≡_, sym, ap, _∙_, subst}
+use mathlib.Core.Path.{_≡_, sym, ap, _∙_}
 use mathlib.Core.Bool.{Bool, true, false}
 use mathlib.Core.List.{List, _++_}
 use Prim.Native.Nat.{ℕ, _≤_, _<_}
 use native.Mathlib.Omega.{arith}
 use lib.ListN.{length, drop}
 use Rattle.strided.specs.Base.{over}
-use Rattle.strided.specs.Text.{Each, LineFits, Parsed, headLine, extentsLine, operandLine, InForm, NotInForm}
+use Rattle.strided.specs.Text.{Parsed, headLine, extentsLine, operandLine, InForm, NotInForm}
 use Rattle.strided.specs.declared.Purpose.{Purpose}
 use Rattle.laws.specs.Text.Once.{head-once}
 use Rattle.reading.specs.Heads.{HeadHere}
 use Rattle.reading.specs.Lines.{Arrays, TakesLines}
 use Rattle.reading.specs.Texts.{ReadsText}
+use Rattle.reading.proofs.Answers.{clash}
 use Rattle.reading.specs.declared.Said.the-variants.{Layout, Unformed}
 
 -- the L line that a text in the form begins with
@@ -21,10 +22,10 @@ head-of p f = record { rankFits = f .rankFits; operandsFit = f .operandsFit; cho
 
 module _ {text : List ℕ} {old new : Arrays} where
   not-formed : NotInForm text → ReadsText text old new Unformed
-  not-formed none = record { layout = λ u r n e. (let z : _≡_ {A = ℕ} 0 1 = cc in absurd (omega arith)); unformed = λ e. none }
+  not-formed none = record { layout = λ u r n e. clash (cc); unformed = λ e. none }
 
   pub text-long : 16384 < length text → ReadsText text old new Unformed
-  text-long h = not-formed (λ p f. (let s = f .short in omega arith))
+  text-long h = not-formed (λ p f. omega arith)
 
   pub text-none : ((u : Purpose) (r n : ℕ) (rest : List ℕ) → HeadHere text u r n rest → ⊥) → ReadsText text old new Unformed
   text-none none = not-formed (λ p f. none (p .purpose) (p .rank) (p .operands) _ (head-of p f))
@@ -41,7 +42,7 @@ module _ {text : List ℕ} {old new : Arrays} where
               axes = f .axes ∙ sym (s .ranks);
               extentsFit = f .extentsFit;
               operandLines = f .operandLines ∙ sym (s .counts);
-              rows = subst (λ (x : ℕ). Each (LineFits x) (p .lines)) (sym (s .ranks)) (f .rows);
+              rows = rw (s .ranks) (f .rows);
               form = s .rests;
             })
 
@@ -75,5 +76,5 @@ module _ {text : List ℕ} {old new : Arrays} where
                   arrays = w .3;
                 },
               ));
-          unformed = λ q. (let z : _≡_ {A = ℕ} 0 1 = cc in absurd (omega arith));
+          unformed = λ q. clash (cc);
         }

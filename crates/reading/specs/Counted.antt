@@ -1,19 +1,15 @@
--- What a caller has of the reader's answer: what the counted places of the arrays hold, and that no text is refused that is in the form.
+-- What a caller has of the reader's answer: where the arrays have places enough, the counted ones hold what the text says.
 -- Assumes nothing.
-use mathlib.Core.Path.{_≡_, refl, ap, _∙_}
+use mathlib.Core.Path.{_≡_, ap, _∙_}
 use mathlib.Core.List.{List}
 use Prim.Native.Nat.{ℕ, _*_, _≤_}
 use lib.ListN.{length, take}
-use Rattle.strided.specs.Text.{Parsed, NotInForm, sizesOf, stridesOf}
+use Rattle.strided.specs.Text.{Parsed, sizesOf, stridesOf}
 use Rattle.strided.specs.declared.Purpose.{Purpose}
 use Rattle.laws.specs.Text.Planning.{sizes-all, strides-all}
 use Rattle.reading.specs.Laid.{take-laid}
 use Rattle.reading.specs.Lines.{Arrays}
-use Rattle.reading.specs.Texts.{Says, ReadsText}
-use Rattle.reading.specs.declared.Said.{Said}
-use Rattle.reading.specs.declared.Said.the-variants.{Layout, Unformed}
-
--- ---- the arrays have places enough: the counted ones hold what the text says
+use Rattle.reading.specs.Texts.{Says}
 
 module _ {text : List ℕ} {p : Parsed} {u : Purpose} {rank operands : ℕ} {old new : Arrays} (h : Says text p u rank operands old new) where
   pub counted-extents : rank ≤ length (old .extents) → take rank (new .extents) ≡ p .extents
@@ -28,9 +24,3 @@ module _ {text : List ℕ} {p : Parsed} {u : Purpose} {rank operands : ℕ} {old
   counted-strides n =
       let e : length (stridesOf p) ≡ rank * operands = strides-all (h .form) ∙ ap (λ (x : ℕ). x * p .operands) (h .ranks) ∙ ap (λ (x : ℕ). rank * x) (h .counts) in
       ap (λ (a : Arrays). take (rank * operands) (a .strides)) (h .arrays) ∙ take-laid (old .strides) (stridesOf p) (rank * operands) e n
-
--- ---- refused exactly if the text is not in the form
-
-pub refuses : {text : List ℕ} {old new : Arrays} {r : Said} → ReadsText text old new r → NotInForm text → r ≡ Unformed
-refuses {r = Layout u rank operands} h none = let w = h .layout u rank operands refl in absurd (none (w .0) (w .1 .form))
-refuses {r = Unformed} h none = refl

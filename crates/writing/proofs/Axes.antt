@@ -1,38 +1,28 @@
--- Laws of a plan's output: what its precondition gives, the A lines out of the plan's arrays, and the parts of the whole.
+-- Laws of a plan's output: what measuring answers and what row 14 leaves, the A lines out of the plan's arrays, and the parts of the whole.
 -- Assumes nothing.
 use mathlib.Core.Path.{_≡_, refl, sym, ap, ap₂, _∙_}
-use mathlib.Core.Bool.{Bool, true, false, cond}
+use mathlib.Core.Logic.{⊎-elim}
 use mathlib.Core.List.{List, [], _∷_, _++_, map}
 use Prim.Native.Nat.{ℕ, zero, suc, _+_, _-_, _*_, _≤_, _<_}
 use native.Mathlib.Numerals.{add-one}
 use native.Mathlib.Omega.{arith}
-use lib.Dec.{ltb}
 use lib.IntN.{ℤ, pos}
 use lib.ListN.{length, getD, take, drop, replicate, length-append, length-take, length-replicate, length-map}
 use lib.Seq.{ext-getD, getD-take, getD-drop}
-use borrow.Author.Tests.{lt-ltb, le-ltb, ltb-true, ltb-false}
+use borrow.Author.Tests.{lt-ltb, le-ltb}
 use Rattle.strided.specs.Base.{over, run}
-use Rattle.strided.specs.Begin.{planRow, planRows, beginRows, beginRefused}
-use Rattle.strided.specs.Text.{rankLine, axisLine, axisOf, zeroStarts, printedPlan, refusing, filling}
+use Rattle.strided.specs.Begin.{planRow, planRows}
+use Rattle.strided.specs.Text.{rankLine, axisLine, axisOf, printedPlan, refusing, filling}
 use Rattle.strided.specs.declared.Refusal.the-variants.{Room}
 use Rattle.strided.specs.declared.Plan.{Plan}
+use Rattle.laws.specs.Base.Ranges.{below-or}
 use Rattle.laws.specs.Base.Lists.{length-run, getD-run}
-use Rattle.laws.specs.Base.Refusals.{NoneApplies, none-applies}
-use Rattle.laws.specs.Walk.Steps.{Ready, ready}
 use Rattle.advance.specs.Filled.{filled-length, filled-at}
-use Rattle.writing.specs.Plan.{Printable, measured, strideOn, columnTo, axisAt, restFrom, listedIn}
+use Rattle.writing.specs.Plan.{measured, strideOn, columnTo, axisAt, restFrom, listedIn}
 use Rattle.writing.specs.declared.plan.Measured.{Measured}
 use Rattle.writing.specs.declared.plan.Measured.the-variants.{Fits, More}
 
--- ---- what is asked and answered
-
-pub printable-ready : (p : Plan) → Printable p → Ready p (zeroStarts p)
-unfolding beginRefused NoneApplies
-printable-ready p h =
-    let a : NoneApplies (beginRows p (zeroStarts p)) = none-applies (beginRows p (zeroStarts p)) (h .begins) in
-    let axes : p .rank ≤ 64 = ltb-false 64 (p .rank) (a .0) in
-    let l = length-take (p .rank) (p .extents) in
-    ready p (zeroStarts p) (omega (arith, h .sized .extents-all)) (h .begins)
+-- ---- what is answered
 
 pub measured-more : (n limit : ℕ) → limit < n → More ≡ measured n limit
 measured-more n limit h = rw (lt-ltb limit n h)
@@ -42,18 +32,15 @@ measured-fits n limit h = rw (le-ltb limit n h)
 
 -- the answer read back
 pub more-measured : (n limit : ℕ) {m : Measured} → m ≡ measured n limit → m ≡ More → limit < n
-more-measured n limit {m} e f = go (ltb limit n) refl (sym e ∙ f)
-  where
-    go : (b : Bool) → ltb limit n ≡ b → cond b More (Fits n) ≡ More → limit < n
-    go true q h = ltb-true limit n q
-    go false q h = let z : _≡_ {A = ℕ} 0 1 = cc in absurd (omega arith)
+more-measured n limit e f =
+    ⊎-elim (λ h. h) (λ h. (let q = measured-fits n limit h in let z : _≡_ {A = ℕ} 0 1 = cc in absurd (omega arith))) (below-or limit n)
 
 pub fits-measured : (n limit k : ℕ) {m : Measured} → m ≡ measured n limit → m ≡ Fits k → (n ≤ limit) × (k ≡ n)
-fits-measured n limit k {m} e f = go (ltb limit n) refl (sym e ∙ f)
-  where
-    go : (b : Bool) → ltb limit n ≡ b → cond b More (Fits n) ≡ Fits k → (n ≤ limit) × (k ≡ n)
-    go true q h = let z : _≡_ {A = ℕ} 0 1 = cc in absurd (omega arith)
-    go false q h = let same : n ≡ k = cc in (ltb-false limit n q, sym same)
+fits-measured n limit k e f =
+    ⊎-elim
+    (λ h. (let q = measured-more n limit h in let z : _≡_ {A = ℕ} 0 1 = cc in absurd (omega arith)))
+    (λ h. (let q = measured-fits n limit h in let same : k ≡ n = cc in (h, same)))
+    (below-or limit n)
 
 -- row 14
 pub listed-full : (p : Plan) (room : List ℕ) → length room < length (printedPlan p) → refusing Room room ≡ listedIn p room
@@ -71,22 +58,27 @@ column-long axis s n = filled-length (replicate 8 (pos 0)) (strideOn axis s) n �
 column-counted : (axis : ℕ) (s : List ℤ) (n : ℕ) → n ≤ 8 → take n (columnTo axis s n) ≡ map (strideOn axis s) (run 0 n)
 column-counted axis s n h =
     let eight : length {A = ℤ} (replicate 8 (pos 0)) ≡ 8 = length-replicate {A = ℤ} 8 (pos 0) in
-    let many : length (take n (columnTo axis s n)) ≡ n = let l = length-take n (columnTo axis s n) in let m = column-long axis s n in omega arith in
+    let l = length-take n (columnTo axis s n) in
+    let m = column-long axis s n in
+    let many : length (take n (columnTo axis s n)) ≡ n = omega arith in
     ext-getD (pos 0) (take n (columnTo axis s n)) (map (strideOn axis s) (run 0 n))
     (many ∙ sym (length-map (run 0 n) (strideOn axis s) ∙ length-run 0 n))
     (λ j l.
-    let k : j < n = omega (arith, many, l) in
+    let k : j < n = omega arith in
     let z : 0 + j ≡ j = omega arith in
     getD-take n (columnTo axis s n) j (pos 0) k
-    ∙ filled-at (replicate 8 (pos 0)) (strideOn axis s) (pos 0) n j k (omega (arith, eight))
+    ∙ filled-at (replicate 8 (pos 0)) (strideOn axis s) (pos 0) n j k (omega arith)
     ∙ sym (getD-run (strideOn axis s) (pos 0) n 0 j k ∙ ap (strideOn axis s) z))
 
 -- the part of it that is lent
 pub column-lent : (axis : ℕ) (s : List ℤ) (n : ℕ) {strides : List ℤ} → strides ≡ columnTo axis s n → n ≤ 8 → n ≡ length (take n strides)
 column-lent axis s n e h = let l = length-take n (columnTo axis s n) in let m = column-long axis s n in rw e (omega arith)
 
-pub column-is : (axis : ℕ) (s : List ℤ) (n : ℕ) {strides : List ℤ} → strides ≡ columnTo axis s n → n ≤ 8 → take n strides ≡ map (strideOn axis s) (run 0 n)
-column-is axis s n e h = ap (take n) e ∙ column-counted axis s n h
+-- the line that it makes
+pub axis-lent : (operands : ℕ) (e b : List ℕ) (s : List ℤ) (axis : ℕ) {strides : List ℤ} → strides ≡ columnTo axis s operands → operands ≤ 8
+    → axisLine axis (getD e axis 0) (getD b axis 0) (take operands strides) ≡ axisAt operands e b s axis
+axis-lent operands e b s axis q h =
+    ap (axisLine axis (getD e axis 0) (getD b axis 0)) (ap (take operands) q ∙ column-counted axis s operands h)
 
 module _ (p : Plan) where
   abbrev pub lineAt : ℕ → List ℕ
@@ -113,11 +105,7 @@ module _ (p : Plan) where
   printed-parts = ap (λ (l : List ℕ). rankLine (p .rank) ++ (l ++ restFrom p 0)) (axes-of (p .rank) 0 (omega arith))
 
   pub printed-length : length (printedPlan p) ≡ length (rankLine (p .rank)) + length (over (run 0 (p .rank)) lineAt) + length (restFrom p 0)
-  printed-length =
-      let a = ap length printed-parts in
-      let b = length-append (rankLine (p .rank)) (over (run 0 (p .rank)) lineAt ++ restFrom p 0) in
-      let d = length-append (over (run 0 (p .rank)) lineAt) (restFrom p 0) in
-      omega (arith, a, b, d)
+  printed-length = ap length printed-parts ∙ simp length-append (omega arith)
 
 -- ---- a loop from 0 to n, at i
 
@@ -128,6 +116,3 @@ run-at f i n h =
 
 pub run-out : {A : Type 0} (f : ℕ → List A) (i n : ℕ) → n ≤ i → over (run i (n - i)) f ≡ []
 run-out f i n h = let e : n - i ≡ 0 = omega arith in ap (λ (m : ℕ). over (run i m) f) e
-
-pub run-whole : {A : Type 0} (f : ℕ → List A) (n : ℕ) → over (run 0 n) f ≡ over (run 0 (n - 0)) f
-run-whole f n = let e : n ≡ n - 0 = omega arith in ap (λ (m : ℕ). over (run 0 m) f) e

@@ -27,23 +27,15 @@ module _ {old : List ℕ} {at n end : ℕ} {out : List ℕ} {i rest : ℕ} (w : 
   fewer = ap length (w .digits) ∙ length-append (digitsOf rest) (w .done)
 
   pub writing-within : i ≤ end
-  writing-within = let f = fewer in let p = w .place in let e = w .ends in omega arith
+  writing-within = let f = fewer in omega arith
 
   pub writing-length : length out ≡ length old
-  writing-length =
-      let f = fewer in
-      let p = w .place in
-      let e = w .ends in
-      let r = w .room in
-      ap length (w .list) ∙ simp (length-append, length-take, length-drop) (omega arith)
+  writing-length = let f = fewer in ap length (w .list) ∙ simp (length-append, length-take, length-drop) (omega arith)
 
   pub writing-turn : 9 < rest → Writing old at n end (set out (i - 1) (48 + rest % 10)) (i - 1) (rest / 10)
   writing-turn big =
       let l = length-big rest big in
       let f = fewer in
-      let p = w .place in
-      let e = w .ends in
-      let r = w .room in
       let back : i ≡ suc (i - 1) = omega arith in
       let at-end = w .done ++ drop end old in
       record {
@@ -61,31 +53,16 @@ module _ {old : List ℕ} {at n end : ℕ} {out : List ℕ} {i rest : ℕ} (w : 
       let under : rest < 10 = omega arith in
       let s = length-small rest under in
       let f = fewer in
-      let p = w .place in
-      let e = w .ends in
-      let r = w .room in
       let next : i ≡ suc at = omega arith in
       let at-end = w .done ++ drop end old in
       let whole : digitsOf n ≡ (48 + rest) ∷ w .done = w .digits ∙ ap (λ (x : List ℕ). x ++ w .done) (digits-small rest under) in
       ap (λ (x : List ℕ). set x at (48 + rest)) (w .list ∙ ap (λ (k : ℕ). take k old ++ at-end) next)
       ∙ set-back old at-end at (48 + rest) (omega arith)
-      ∙ ap (λ (k : ℕ). take at old ++ (48 + rest) ∷ (w .done ++ drop k old)) e
+      ∙ ap (λ (k : ℕ). take at old ++ (48 + rest) ∷ (w .done ++ drop k old)) (w .ends)
       ∙ ap (λ (x : List ℕ). take at old ++ (x ++ drop (at + length (digitsOf n)) old)) (sym whole)
 
   pub writing-index : 9 < rest → i - 1 < length out
-  writing-index big =
-      let l = length-big rest big in
-      let k = writing-length in
-      let b = writing-within in
-      let p = w .place in
-      let r = w .room in
-      omega arith
+  writing-index big = let l = length-big rest big in let k = writing-length in let b = writing-within in omega arith
 
   pub writing-first : rest ≤ 9 → at < length out
-  writing-first small =
-      let l = length-small rest (omega arith) in
-      let k = writing-length in
-      let b = writing-within in
-      let p = w .place in
-      let r = w .room in
-      omega arith
+  writing-first small = let l = length-small rest (omega arith) in let k = writing-length in let b = writing-within in omega arith

@@ -1,7 +1,7 @@
--- Laws of texts that are put into a list: one behind another, and a text that is written part by part. `Doing` is what every loop and every
--- row of calls that writes keeps.
+-- Laws of texts that are put into a list: one behind another, and a text that is written part by part. `Doing` is what every loop that
+-- writes keeps.
 -- Assumes nothing.
-use mathlib.Core.Path.{_≡_, refl, sym, ap, _∙_, subst}
+use mathlib.Core.Path.{_≡_, refl, sym, ap, _∙_}
 use mathlib.Core.List.{List, [], _∷_, _++_, append-assoc, append-nil}
 use Prim.Native.Nat.{ℕ, zero, suc, _+_, _≤_, _<_}
 use native.Mathlib.Nat.{not-suc-le-zero, le-of-suc-le-suc, add-zero}
@@ -57,11 +57,11 @@ pub wrote-then : {old t mid u new : List ℕ} {at p q : ℕ} → Wrote old at t 
 wrote-then {old} {t} {u} {at} a b h =
     record {
       list = b .list ∙ rw (a .list, a .place) (put-put old at t u h);
-      place = let e = length-append t u in let x = a .place in let y = b .place in omega arith;
+      place = let e = length-append t u in omega arith;
     }
 
 pub wrote-is : {old t u new : List ℕ} {at q : ℕ} → Wrote old at t new q → t ≡ u → Wrote old at u new q
-wrote-is {old} {new} {at} {q} w e = subst (λ (x : List ℕ). Wrote old at x new q) e w
+wrote-is w e = rw e at w
 
 -- written from the first byte on
 pub wrote-first : {old t new : List ℕ} {q : ℕ} → Wrote old 0 t new q → (q ≡ length t) × (new ≡ t ++ drop (length t) old)
@@ -86,28 +86,26 @@ module _ {old : List ℕ} {at : ℕ} {whole new : List ℕ} {p : ℕ} {rest : Li
   doing-lengths = ap length (d .splits) ∙ length-append (d .done) rest
 
   pub doing-length : length new ≡ length old
-  doing-length = let l = doing-lengths in let r = d .room in wrote-length (d .wrote) (omega arith)
+  doing-length = let l = doing-lengths in wrote-length (d .wrote) (omega arith)
 
   -- what is left has room
   doing-fits : p + length rest ≤ length new
-  doing-fits = let l = doing-lengths in let r = d .room in let k = doing-length in let q = d .wrote .place in omega arith
+  doing-fits = let l = doing-lengths in let k = doing-length in omega arith
 
--- the next part u has room, and once it is written the rest is left
-pub doing-room : {old : List ℕ} {at : ℕ} {whole new : List ℕ} {p : ℕ} (u rest : List ℕ) → Doing old at whole new p (u ++ rest) → p + length u ≤ length new
-doing-room u rest d = let f = doing-fits d in let l = length-append u rest in omega arith
+-- what is left begins with u: u has room, and once it is written the rest is left
+module _ {old : List ℕ} {at : ℕ} {whole new : List ℕ} {p : ℕ} {left : List ℕ} (u rest : List ℕ) (e : left ≡ u ++ rest) (d : Doing old at whole new p left) where
+  pub doing-room : p + length u ≤ length new
+  doing-room = let f = doing-fits d in let l = ap length e ∙ length-append u rest in omega arith
 
-pub doing-next : {old : List ℕ} {at : ℕ} {whole new : List ℕ} {p : ℕ} {newer : List ℕ} {q : ℕ} (u rest : List ℕ) → Doing old at whole new p (u ++ rest) → Wrote new p u newer q → Doing old at whole newer q rest
-doing-next u rest d w =
-    record {
-      done = d .done ++ u;
-      wrote = let l = doing-lengths d in let m = length-append u rest in let r = d .room in wrote-then (d .wrote) w (omega arith);
-      splits = d .splits ∙ sym (append-assoc (d .done) u rest);
-      room = d .room;
-    }
+  pub doing-next : {newer : List ℕ} {q : ℕ} → Wrote new p u newer q → Doing old at whole newer q rest
+  doing-next w =
+      record {
+        done = d .done ++ u;
+        wrote = let l = doing-lengths d in let m = ap length e ∙ length-append u rest in wrote-then (d .wrote) w (omega arith);
+        splits = d .splits ∙ ap (λ (l : List ℕ). d .done ++ l) e ∙ sym (append-assoc (d .done) u rest);
+        room = d .room;
+      }
 
-pub doing-end : {old : List ℕ} {at : ℕ} {whole new : List ℕ} {p : ℕ} → Doing old at whole new p [] → Wrote old at whole new p
-doing-end d = wrote-is (d .wrote) (sym (append-nil (d .done)) ∙ sym (d .splits))
-
--- what is left, said in another way
-pub doing-is : {old : List ℕ} {at : ℕ} {whole new : List ℕ} {p : ℕ} {rest rest′ : List ℕ} → Doing old at whole new p rest → rest ≡ rest′ → Doing old at whole new p rest′
-doing-is {old} {at} {whole} {new} {p} d e = subst (λ (x : List ℕ). Doing old at whole new p x) e d
+-- nothing is left
+pub doing-end : {old : List ℕ} {at : ℕ} {whole new : List ℕ} {p : ℕ} {left : List ℕ} → left ≡ [] → Doing old at whole new p left → Wrote old at whole new p
+doing-end e d = wrote-is (d .wrote) (sym (append-nil (d .done)) ∙ ap (λ (l : List ℕ). d .done ++ l) (sym e) ∙ sym (d .splits))

@@ -1,6 +1,6 @@
 -- A plan's walk while its lines are measured and written: what is left of the output, and what the loop has counted.
 -- Assumes nothing.
-use mathlib.Core.Path.{_≡_, refl, sym, ap, ap₂, _∙_, subst}
+use mathlib.Core.Path.{_≡_, refl, sym, ap, ap₂, _∙_}
 use mathlib.Core.Bool.{Bool, true, false, not}
 use mathlib.Core.List.{List, [], _∷_, _++_, append-assoc}
 use mathlib.Core.Option.{none, some}
@@ -19,13 +19,13 @@ use Rattle.strided.specs.Text.{blockLine, blockLines, endLine, cellsOf, planWal
 use Rattle.strided.specs.declared.Plan.{Plan}
 use Rattle.strided.specs.declared.Walk.{Walk}
 use Rattle.laws.specs.Base.Arrays.{take-counted}
-use Rattle.laws.specs.Base.Lists.{nth-map, nth-none}
+use Rattle.laws.specs.Base.Lists.{nth-map, nth-none, nth-before, nth-drop}
 use Rattle.laws.specs.Base.Refusals.{NoneApplies, none-applies}
 use Rattle.laws.specs.Refusals.Zeros.{row5-total}
 use Rattle.laws.specs.Text.Totals.{walk-cells, walk-blocks}
 use Rattle.laws.specs.Walk.Machine.{length-offsets}
 use Rattle.laws.specs.Walk.Reach.{state-nth}
-use Rattle.laws.specs.Walk.Steps.{Ready, none-of, wide, rows-many, as-many}
+use Rattle.laws.specs.Walk.Steps.{Ready, ready, none-of, wide, rows-many, as-many}
 use Rattle.advance.specs.Axis.{widthsTo, startsTo}
 use Rattle.advance.specs.Blocks.{lengthOf}
 use Rattle.advance.specs.Carry.{Roomy, Tiled, Single, AdvancedTo}
@@ -33,20 +33,7 @@ use Rattle.advance.specs.Plans.{Sized}
 use Rattle.advance.specs.Reached.{widths-pos}
 use Rattle.advance.specs.Walking.{Walking, Running, running, over, walking-roomy, walking-length, walking-next, walking-start}
 use Rattle.writing.specs.Line.{figuresLine}
-use Rattle.writing.specs.Plan.{restFrom}
-
--- ---- lists by number
-
-module _ {A : Type 0} where
-  nth-drop : (l : List A) (n : ℕ) (x : A) → nth l n ≡ some x → drop n l ≡ x ∷ drop (suc n) l
-  nth-drop [] n x e = let z : _≡_ {A = ℕ} 0 1 = cc in absurd (omega arith)
-  nth-drop (a ∷ l) zero x e = let q : a ≡ x = cc in ap (λ (b : A). b ∷ l) q
-  nth-drop (a ∷ l) (suc n) x e = nth-drop l n x e
-
-  nth-below : (l : List A) (n : ℕ) (x : A) → nth l n ≡ some x → n < length l
-  nth-below [] n x e = let z : _≡_ {A = ℕ} 0 1 = cc in absurd (omega arith)
-  nth-below (a ∷ l) zero x e = omega arith
-  nth-below (a ∷ l) (suc n) x e = omega (arith, nth-below l n x e)
+use Rattle.writing.specs.Plan.{Printable, restFrom}
 
 -- ---- the walk at block n: `cells` is the sum of the lengths before it
 
@@ -59,9 +46,13 @@ pub record Walks (p : Plan) (w : List ℕ) (inner n cells : ℕ) (more : Bool) (
   pub most : n ≤ length (planWalk p)
   pub counted : cells + cellsOf (drop n (planWalk p)) ≡ cellsOf (planWalk p)
 
-pub walks-while : {p : Plan} {w : List ℕ} {inner n cells : ℕ} {more : Bool} {t c : List ℕ} {o : List ℤ} {b : Bool}
-    → Walks p w inner n cells more t c o → more ≡ b → Walks p w inner n cells b t c o
-walks-while {p} {w} {inner} {n} {cells} {t = t} {c = c} {o = o} k e = subst (λ (m : Bool). Walks p w inner n cells m t c o) e k
+-- the same walk, once the loop's test is known
+module _ {p : Plan} {w : List ℕ} {inner n cells : ℕ} {more : Bool} {t c : List ℕ} {o : List ℤ} where
+  abbrev pub While : Bool → Walks p w inner n cells more t c o → Type 0
+  While b k = Walks p w inner n cells b t c o
+
+  pub walks-while : {b : Bool} (k : Walks p w inner n cells more t c o) → more ≡ b → While b k
+  walks-while k e = rw e at k
 
 -- while it runs
 module _ {p : Plan} {w : List ℕ} {inner n cells : ℕ} {t c : List ℕ} {o : List ℤ} (k : Walks p w inner n cells true t c o) where
@@ -81,31 +72,43 @@ module _ {p : Plan} {w : List ℕ} {inner n cells : ℕ} {t c : List ℕ} {o : L
   left = nth-drop (planWalk p) n (blockAt axs (q .index)) there
 
   pub walks-below : n < length (planWalk p)
-  walks-below = nth-below (planWalk p) n (blockAt axs (q .index)) there
+  walks-below = nth-before (planWalk p) (length (planWalk p)) n _ (nth-none (planWalk p) _ .1 (omega arith)) there
 
   pub walks-roomy : Roomy (p .rank) (p .operands) (p .extents) (p .strides) c o
   walks-roomy = walking-roomy p zs (k .ready) (k .sized) n t c o (k .walking)
 
   pub walks-tiled : Tiled (p .rank) w c t
-  walks-tiled = subst (λ (v : List ℕ). Tiled (p .rank) v c t) (sym (k .widths)) (k .walking .tiles)
+  walks-tiled = rw (k .widths) (k .walking .tiles)
 
   -- the offsets that are lent
   pub walks-lent : (p .operands ≤ 8) × (p .operands ≤ length o) × (p .operands ≡ length (take (p .operands) o))
   walks-lent =
       let r = walks-roomy in
       let l = length-take (p .operands) o in
-      (r .few, omega (arith, r .few, r .offered), omega (arith, l, r .few, r .offered))
+      (r .few, omega arith, omega arith)
 
-  -- the length and the offsets of block n
+  -- its offsets
+  offsets-back : take (p .operands) o ≡ offsetsFrom (planRows p) zs (q .index)
+  offsets-back =
+      ap (take (p .operands)) (q .offsets)
+      ∙ take-counted (pos 0) 8 (p .operands) (offsetsFrom (planRows p) zs (q .index))
+      (length-offsets (planRows p) zs (q .index) (as-many p zs (k .ready)) ∙ rows-many p zs (k .ready)) (k .ready .few)
+
+  -- the walk has at most 2^64 - 1 cells, and no more blocks
+  cells-fit : total (planExtents p) < 2 ^ 64
+  unfolding beginRefused NoneApplies
+  cells-fit =
+      let a : NoneApplies (beginRows p zs) = none-applies (beginRows p zs) (none-of (beginRefused p zs) (k .ready .may)) in
+      let f = ltb-false maxU (total (planExtents p)) (sym (row5-total (planExtents p)) ∙ a .1 .1 .0) in
+      omega arith
+
+  pub walks-number-fits : n + 1 < 2 ^ 64
+  walks-number-fits = let a = walks-below in let b = walk-blocks p in let d = cells-fit in omega arith
+
+  -- its length, as the code has it
   module _ {size : ℕ} (s : size ≡ lengthOf (p .rank) (p .extents) w c) where
     size-is : size ≡ lengthAt axs (q .index)
     size-is = s ∙ ap (λ (v : List ℕ). lengthOf (p .rank) (p .extents) v c) (k .widths) ∙ walking-length p zs (k .ready) (k .sized) n t c o (k .walking)
-
-    offsets-back : take (p .operands) o ≡ offsetsFrom (planRows p) zs (q .index)
-    offsets-back =
-        ap (take (p .operands)) (q .offsets)
-        ∙ take-counted (pos 0) 8 (p .operands) (offsetsFrom (planRows p) zs (q .index))
-        (length-offsets (planRows p) zs (q .index) (as-many p zs (k .ready)) ∙ rows-many p zs (k .ready)) (k .ready .few)
 
     -- its line comes next
     pub walks-line : restFrom p n ≡ blockLine n size (take (p .operands) o) ++ restFrom p (n + 1)
@@ -114,45 +117,29 @@ module _ {p : Plan} {w : List ℕ} {inner n cells : ℕ} {t c : List ℕ} {o : L
         ap (λ (l : List Block). blockLines p n l ++ endLine (planWalk p)) left
         ∙ append-assoc (blockLine n (lengthAt axs (q .index)) (offsetsFrom (planRows p) zs (q .index))) (blockLines p (suc n) (drop (suc n) (planWalk p))) (endLine (planWalk p))
         ∙ ap₂ (λ (x : List ℕ) (m : ℕ). x ++ (blockLines p m (drop m (planWalk p)) ++ endLine (planWalk p)))
-        (ap₂ (λ (m : ℕ) (os : List ℤ). blockLine n m os) (sym size-is) (sym offsets-back)) (sym (add-one n))
+        (ap₂ (blockLine n) (sym size-is) (sym offsets-back)) (sym (add-one n))
 
     counted-next : cells + size + cellsOf (drop (suc n) (planWalk p)) ≡ cellsOf (planWalk p)
-    counted-next =
-        let a = ap cellsOf left in
-        let b = size-is in
-        let d = k .counted in
-        omega (arith, a, b, d)
+    counted-next = let a = ap cellsOf left in let b = size-is in omega arith
 
     -- the move to the next block
     pub walks-next : {more : Bool} {t′ c′ : List ℕ} {o′ : List ℤ}
         → AdvancedTo (p .rank) (p .operands) (p .extents) w (p .strides) c o more t′ c′ o′ → Walks p w inner (n + 1) (cells + size) more t′ c′ o′
-    walks-next {more} {t′} {c′} {o′} a =
+    walks-next a =
         rw (add-one n)
         (record {
           ready = k .ready;
           sized = k .sized;
           widths = k .widths;
           single = k .single;
-          walking =
-              walking-next p zs (k .ready) (k .sized) n t c o (k .walking)
-              (subst (λ (v : List ℕ). AdvancedTo (p .rank) (p .operands) (p .extents) v (p .strides) c o more t′ c′ o′) (k .widths) a);
+          walking = walking-next p zs (k .ready) (k .sized) n t c o (k .walking) (rw (k .widths) at a);
           most = walks-below;
           counted = counted-next;
         })
 
     -- what is counted fits
-    cells-fit : total (planExtents p) < 2 ^ 64
-    unfolding beginRefused NoneApplies
-    cells-fit =
-        let a : NoneApplies (beginRows p zs) = none-applies (beginRows p zs) (none-of (beginRefused p zs) (k .ready .may)) in
-        let f = ltb-false maxU (total (planExtents p)) (sym (row5-total (planExtents p)) ∙ a .1 .1 .0) in
-        omega (arith, f)
-
-    pub walks-number-fits : n + 1 < 2 ^ 64
-    walks-number-fits = let a = walks-below in let b = walk-blocks p in let d = cells-fit in omega (arith, a, b, d)
-
     pub walks-cells-fit : cells + size < 2 ^ 64
-    walks-cells-fit = let a = counted-next in let b = walk-cells p in let d = cells-fit in omega (arith, a, b, d)
+    walks-cells-fit = let a = counted-next in let b = walk-cells p in let d = cells-fit in omega arith
 
 -- at its end only the Z line is left, with the figures that were counted
 pub walks-end : {p : Plan} {w : List ℕ} {inner n cells : ℕ} {t c : List ℕ} {o : List ℤ} → Walks p w inner n cells false t c o
@@ -163,14 +150,15 @@ walks-end {p} {n = n} {cells = cells} {t = t} {c = c} {o = o} k =
     let e = sym (state-nth (planCutAxes p) (wide p zs (k .ready)) n) ∙ over p zs (k .ready) (k .sized) n t c o (k .walking) in
     let l = nth-none (counters (planCutAxes p)) n .0 e in
     let m = length-map (counters (planCutAxes p)) (blockAt (planCutAxes p)) in
-    let short : length (planWalk p) ≤ n = omega (arith, l, m) in
+    let short : length (planWalk p) ≤ n = omega arith in
     let gone : drop n (planWalk p) ≡ [] = drop-of-length-le (planWalk p) short in
-    let number : length (planWalk p) ≡ n = omega (arith, short, k .most) in
+    let number : length (planWalk p) ≡ n = omega arith in
     let d = ap cellsOf gone in
-    let sum : cellsOf (planWalk p) ≡ cells = omega (arith, d, k .counted) in
+    let sum : cellsOf (planWalk p) ≡ cells = omega arith in
     ap (λ (b : List Block). blockLines p n b ++ endLine (planWalk p)) gone ∙ ap₂ figuresLine number sum
 
--- its beginning
+-- ---- its beginning, which the precondition allows
+
 padded-zeros : (m n : ℕ) → padded m (pos 0) (replicate n (pos 0)) ≡ replicate m (pos 0)
 padded-zeros zero n = refl
 padded-zeros (suc m) zero = ap (λ (l : List ℤ). pos 0 ∷ l) (padded-zeros m 0)
@@ -181,24 +169,33 @@ begun : (p : Plan) → beginRefused p (zeroStarts p) ≡ none
 unfolding begunAt
 begun p h = rw h (λ i. record { ended = hasZero (planExtents p); counters = replicate 64 0; offsets = sym (padded-zeros 8 (p .operands)) i })
 
--- the block sizes in force are 1 or more
-pub widths-some : {p : Plan} → Ready p (zeroStarts p) → Sized p → {w : List ℕ} → w ≡ widthsTo (p .rank) (p .extents) (p .blocks) (p .rank)
-    → (i : ℕ) → i < p .rank → 0 < getD w i 0
-widths-some {p} r z e i h = subst (λ (v : List ℕ). 0 < getD v i 0) (sym e) (widths-pos p (zeroStarts p) r z i h)
+pub printable-ready : (p : Plan) → Printable p → Ready p (zeroStarts p)
+unfolding beginRefused NoneApplies
+printable-ready p h =
+    let a : NoneApplies (beginRows p (zeroStarts p)) = none-applies (beginRows p (zeroStarts p)) (h .begins) in
+    let axes : p .rank ≤ 64 = ltb-false 64 (p .rank) (a .0) in
+    let l = length-take (p .rank) (p .extents) in
+    ready p (zeroStarts p) (omega arith) (h .begins)
 
-pub walks-start : {p : Plan} → Ready p (zeroStarts p) → Sized p → beginRefused p (zeroStarts p) ≡ none → {w : List ℕ} {inner : ℕ}
-    → w ≡ widthsTo (p .rank) (p .extents) (p .blocks) (p .rank) → Single inner (p .rank) w
-    → {t : List ℕ} → t ≡ startsTo w (replicate 64 0) (p .rank) → {more : Bool} → hasZero (planExtents p) ≡ not more
-    → Walks p w inner 0 0 more t (replicate 64 0) (replicate 8 (pos 0))
-walks-start {p} r z b {w} e s {t} f {more} h =
-    record {
-      ready = r;
-      sized = z;
-      widths = e;
-      single = s;
-      walking =
-          walking-start p (zeroStarts p) r z (record { ended = hasZero (planExtents p); counters = replicate 64 0; offsets = replicate 8 (pos 0) }) (begun p b) h t
-          (subst (λ (v : List ℕ). t ≡ startsTo v (replicate 64 0) (p .rank)) e f);
-      most = omega arith;
-      counted = omega arith;
-    }
+module _ {p : Plan} (h : Printable p) {w : List ℕ} (e : w ≡ widthsTo (p .rank) (p .extents) (p .blocks) (p .rank)) where
+  abbrev r : Ready p (zeroStarts p)
+  r = printable-ready p h
+
+  -- the block sizes in force are 1 or more
+  pub widths-some : (i : ℕ) → i < p .rank → 0 < getD w i 0
+  widths-some i l = rw e (widths-pos p (zeroStarts p) r (h .sized) i l)
+
+  pub walks-start : {inner : ℕ} → Single inner (p .rank) w → {t : List ℕ} → t ≡ startsTo w (replicate 64 0) (p .rank)
+      → {more : Bool} → hasZero (planExtents p) ≡ not more → Walks p w inner 0 0 more t (replicate 64 0) (replicate 8 (pos 0))
+  walks-start s {t} f z =
+      record {
+        ready = r;
+        sized = h .sized;
+        widths = e;
+        single = s;
+        walking =
+            walking-start p (zeroStarts p) r (h .sized) (record { ended = hasZero (planExtents p); counters = replicate 64 0; offsets = replicate 8 (pos 0) }) (begun p (h .begins)) z t
+            (rw e at f);
+        most = omega arith;
+        counted = omega arith;
+      }

@@ -1,6 +1,6 @@
 -- The walk's lines as they are measured and written: block n's line has room and comes next, and the Z line is the last.
 -- Assumes nothing.
-use mathlib.Core.Path.{_≡_, sym, ap, _∙_}
+use mathlib.Core.Path.{_≡_, refl, sym, ap, _∙_}
 use mathlib.Core.Bool.{true, false}
 use mathlib.Core.List.{List, [], _++_, append-nil}
 use Prim.Native.Nat.{ℕ, _+_, _-_, _≤_, _<_}
@@ -13,7 +13,7 @@ use Rattle.advance.specs.Blocks.{lengthOf}
 use Rattle.writing.specs.Line.{figuresLine}
 use Rattle.writing.specs.Put.{Wrote}
 use Rattle.writing.specs.Plan.{measured, restFrom}
-use Rattle.writing.proofs.Putting.{Doing, doing-room, doing-next, doing-end, doing-is}
+use Rattle.writing.proofs.Putting.{Doing, doing-room, doing-next, doing-end}
 use Rattle.writing.proofs.Axes.{measured-more, measured-fits}
 use Rattle.writing.specs.declared.plan.Measured.the-variants.{Fits, More}
 use Rattle.writing.proofs.Walks.{Walks, walks-line, walks-end}
@@ -30,14 +30,14 @@ module _ {p : Plan} {w : List ℕ} {inner n cells : ℕ} {t c : List ℕ} {o : L
   pub block-over : (total used limit line : ℕ) → line ≡ length (blockLine n size (take (p .operands) o))
       → total + length (restFrom p n) ≡ used + length (restFrom p 0) → total ≤ limit → limit - total < line
       → More ≡ measured (used + length (restFrom p 0)) limit
-  block-over total used limit line e f g h = let l = block-measured in measured-more (used + length (restFrom p 0)) limit (omega (arith, l, e, f, g, h))
+  block-over total used limit line e f g h = let l = block-measured in measured-more (used + length (restFrom p 0)) limit (omega arith)
 
   module _ {old : List ℕ} {at : ℕ} {whole new : List ℕ} {next : ℕ} (d : Doing old at whole new next (restFrom p n)) where
     pub block-room : next + length (blockLine n size (take (p .operands) o)) ≤ length new
-    block-room = doing-room line (restFrom p (n + 1)) (doing-is d (walks-line k s))
+    block-room = doing-room line (restFrom p (n + 1)) (walks-line k s) d
 
     pub block-next : {newer : List ℕ} {q : ℕ} → Wrote new next (blockLine n size (take (p .operands) o)) newer q → Doing old at whole newer q (restFrom p (n + 1))
-    block-next v = doing-next line (restFrom p (n + 1)) (doing-is d (walks-line k s)) v
+    block-next v = doing-next line (restFrom p (n + 1)) (walks-line k s) d v
 
 module _ {p : Plan} {w : List ℕ} {inner n cells : ℕ} {t c : List ℕ} {o : List ℤ} (k : Walks p w inner n cells false t c o) where
   end-measured : length (restFrom p n) ≡ length (figuresLine n cells)
@@ -45,20 +45,20 @@ module _ {p : Plan} {w : List ℕ} {inner n cells : ℕ} {t c : List ℕ} {o : L
 
   module _ (total used limit line : ℕ) (e : line ≡ length (figuresLine n cells)) (f : total + length (restFrom p n) ≡ used + length (restFrom p 0)) where
     pub end-over : total ≤ limit → limit - total < line → More ≡ measured (used + length (restFrom p 0)) limit
-    end-over g h = let l = end-measured in measured-more (used + length (restFrom p 0)) limit (omega (arith, l, e, f, g, h))
+    end-over g h = let l = end-measured in measured-more (used + length (restFrom p 0)) limit (omega arith)
 
     pub end-within : total ≤ limit → line ≤ limit - total → Fits (total + line) ≡ measured (used + length (restFrom p 0)) limit
     end-within g h =
         let l = end-measured in
-        let m : total + line ≡ used + length (restFrom p 0) = omega (arith, l, e, f) in
-        ap Fits m ∙ measured-fits (used + length (restFrom p 0)) limit (omega (arith, m, g, h))
+        let m : total + line ≡ used + length (restFrom p 0) = omega arith in
+        ap Fits m ∙ measured-fits (used + length (restFrom p 0)) limit (omega arith)
 
   module _ {old : List ℕ} {at : ℕ} {whole new : List ℕ} {next : ℕ} (d : Doing old at whole new next (restFrom p n)) where
-    last : Doing old at whole new next (figuresLine n cells ++ [])
-    last = doing-is d (walks-end k ∙ sym (append-nil (figuresLine n cells)))
+    last : restFrom p n ≡ figuresLine n cells ++ []
+    last = walks-end k ∙ sym (append-nil (figuresLine n cells))
 
     pub end-room : next + length (figuresLine n cells) ≤ length new
-    end-room = doing-room (figuresLine n cells) [] last
+    end-room = doing-room (figuresLine n cells) [] last d
 
     pub end-done : {newer : List ℕ} {q : ℕ} → Wrote new next (figuresLine n cells) newer q → Wrote old at whole newer q
-    end-done v = doing-end (doing-next (figuresLine n cells) [] last v)
+    end-done v = doing-end refl (doing-next (figuresLine n cells) [] last d v)

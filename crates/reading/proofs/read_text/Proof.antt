@@ -1,4 +1,5 @@
--- `reading::read_text` meets its contract. Assumes nothing.
+-- `reading::read_text` meets its contract: a law for each way out: too long, no L line, other lines wrong, all there.
+-- Assumes nothing.
 use borrow.Author.Needs.{needs}
 use Rattle.reading.proofs.Texts.{text-long, text-none, text-open, text-told}
 use Rattle.reading.proofs.read_text.Statement.{statement}

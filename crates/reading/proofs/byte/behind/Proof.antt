@@ -1,4 +1,5 @@
--- `reading::byte::behind` meets its contract. Assumes nothing.
+-- `reading::byte::behind` meets its contract: a law for each way out: past the end, the byte, another byte.
+-- Assumes nothing.
 use borrow.Author.Needs.{needs}
 use Rattle.reading.proofs.Bytes.{behind-here, behind-other, behind-out}
 use Rattle.reading.proofs.byte.behind.Statement.{statement}

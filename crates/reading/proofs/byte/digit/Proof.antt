@@ -1,4 +1,5 @@
--- `reading::byte::digit` meets its contract. Assumes nothing.
+-- `reading::byte::digit` meets its contract: its two tests are those of `isDigit`, and behind the end no digit stands.
+-- Assumes nothing.
 use mathlib.Core.Path.{sym, _∙_}
 use borrow.Author.Needs.{needs}
 use borrow.Author.Tests.{lt-leb, le-leb}

@@ -1,8 +1,9 @@
--- `reading::head::behind_all` meets its contract. Assumes nothing.
+-- `reading::head::behind_all` meets its contract: the loop keeps `Passing`: what is left of the bytes is to stand at p.
+-- Assumes nothing.
 use Prim.Native.Nat.{_-_}
 use lib.ListN.{length}
 use borrow.Author.Needs.{needs}
-use Rattle.reading.proofs.Bytes.{Passing, passing-start, passing-turn, passing-bad, passing-end}
+use Rattle.reading.proofs.Bytes.{Passing, passing-turn, passing-bad, passing-end}
 use Rattle.reading.proofs.head.behind_all.Statement.{statement}
 use Rattle.reading.proofs.head.behind_all.Tie as tie
 
@@ -13,7 +14,7 @@ abbrev μ-loop : tie.MeasureT-loop
 μ-loop s at t p₀ i₀ p i = length t - i
 
 loop-holds : tie.Need-loop-holds Inv-loop μ-loop
-loop-holds c = passing-start _ _ _
+loop-holds c = search needs
 
 shared-slice-read-behind : tie.Need-shared-slice-read-behind Inv-loop μ-loop
 shared-slice-read-behind c = search needs

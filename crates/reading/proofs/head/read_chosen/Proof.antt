@@ -1,4 +1,5 @@
--- `reading::head::read_chosen` meets its contract. Assumes nothing.
+-- `reading::head::read_chosen` meets its contract: the letter picks the reader.
+-- Assumes nothing.
 use borrow.Author.Needs.{needs}
 use Rattle.reading.proofs.head.read_chosen.Statement.{statement}
 use Rattle.reading.proofs.head.read_chosen.Tie as tie

@@ -1,4 +1,5 @@
--- `reading::head::read_counts` meets its contract. Assumes nothing.
+-- `reading::head::read_counts` meets its contract: a law for each way out: no field, one, two.
+-- Assumes nothing.
 use borrow.Author.Needs.{needs}
 use Rattle.reading.proofs.Heads.{counts-told, counts-open, counts-none}
 use Rattle.reading.proofs.head.read_counts.Statement.{statement}

@@ -1,4 +1,5 @@
--- `reading::head::read_fold` meets its contract. Assumes nothing.
+-- `reading::head::read_fold` meets its contract: with F a number is chosen.
+-- Assumes nothing.
 use borrow.Author.Needs.{needs}
 use Rattle.reading.proofs.Heads.{fold-told, fold-bad}
 use Rattle.reading.proofs.head.read_fold.Statement.{statement}

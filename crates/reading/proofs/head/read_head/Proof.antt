@@ -1,4 +1,5 @@
--- `reading::head::read_head` meets its contract. Assumes nothing.
+-- `reading::head::read_head` meets its contract: the text begins with `L,P`, with `L,F`, or it has no L line.
+-- Assumes nothing.
 use borrow.Author.Needs.{needs}
 use Rattle.reading.proofs.Heads.{head-reads, head-none}
 use Rattle.reading.proofs.head.read_head.Statement.{statement}

@@ -1,4 +1,5 @@
--- `reading::head::read_last` meets its contract. Assumes nothing.
+-- `reading::head::read_last` meets its contract: a law for each way out: no field, a field that does not end the line, one that does.
+-- Assumes nothing.
 use borrow.Author.Needs.{needs}
 use Rattle.reading.proofs.Heads.{last-told, last-open, last-none}
 use Rattle.reading.proofs.head.read_last.Statement.{statement}

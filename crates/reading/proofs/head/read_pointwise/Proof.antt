@@ -1,4 +1,5 @@
--- `reading::head::read_pointwise` meets its contract. Assumes nothing.
+-- `reading::head::read_pointwise` meets its contract: with P either `-` or a number is chosen.
+-- Assumes nothing.
 use borrow.Author.Needs.{needs}
 use Rattle.reading.proofs.Heads.{point-none, point-into, point-bad}
 use Rattle.reading.proofs.head.read_pointwise.Statement.{statement}

@@ -1,4 +1,5 @@
--- `reading::head::read_told` meets its contract. Assumes nothing.
+-- `reading::head::read_told` meets its contract: a law for each way out: no counts, counts and no line's end, both.
+-- Assumes nothing.
 use borrow.Author.Needs.{needs}
 use Rattle.reading.proofs.Heads.{told-is, told-open, told-none}
 use Rattle.reading.proofs.head.read_told.Statement.{statement}

@@ -1,4 +1,5 @@
--- `reading::line::read_extents` meets its contract. Assumes nothing.
+-- `reading::line::read_extents` meets its contract: `E` in front of a row.
+-- Assumes nothing.
 use borrow.Author.Needs.{needs}
 use Rattle.reading.proofs.Lines.{extents-reads, extents-none}
 use Rattle.reading.proofs.line.read_extents.Statement.{statement}

@@ -1,4 +1,5 @@
--- `reading::line::read_lines` meets its contract. Assumes nothing.
+-- `reading::line::read_lines` meets its contract: a law for each way out: no E line, no O lines, all lines and the text's end or not.
+-- Assumes nothing.
 use borrow.Author.Needs.{needs}
 use Rattle.reading.proofs.Lines.{lines-told, lines-open, lines-none}
 use Rattle.reading.proofs.line.read_lines.Statement.{statement}

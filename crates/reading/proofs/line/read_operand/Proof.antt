@@ -1,4 +1,6 @@
--- `reading::line::read_operand` meets its contract. Assumes nothing.
+-- `reading::line::read_operand` meets its contract: a law for each way out: no size, a size and no row, both. The size takes bytes, so less
+-- of the text is left.
+-- Assumes nothing.
 use native.Mathlib.Omega.{arith}
 use borrow.Author.Needs.{needs}
 use Rattle.reading.proofs.Lines.{size-short, operand-told, operand-open, operand-none}
@@ -32,7 +34,7 @@ same-length c = search needs
 returns : tie.Need-returns
 returns c =
     let z = c .before .before .before .before .before .before .before in
-    operand-told (z .size .given .0 .1 .0) (z .before .before .read-size .ensures .value _ _ (z .size .given .1)) (c .before .before .before .before .read-signed-row .ensures) _ (c .before .next .given .1)
+    operand-told (z .size .given .0 .1 .0) (z .before .before .read-size .ensures .value _ _ (z .size .given .1)) _ (c .before .before .before .before .read-signed-row .ensures .to _ (c .before .next .given .1))
 
 same-length-2 : tie.Need-same-length-2
 same-length-2 c = search needs
@@ -40,7 +42,7 @@ same-length-2 c = search needs
 returns-2 : tie.Need-returns-2
 returns-2 c =
     let z = c .before .before .before .before .before .before in
-    operand-open (z .size .given .0 .1 .0) (z .before .before .read-size .ensures .value _ _ (z .size .given .1)) (c .before .before .before .read-signed-row .ensures) (c .enum-told .given .1)
+    operand-open (z .size .given .0 .1 .0) (z .before .before .read-size .ensures .value _ _ (z .size .given .1)) (c .before .before .before .read-signed-row .ensures .bad (c .enum-told .given .1))
 
 returns-3 : tie.Need-returns-3
 returns-3 c = operand-none (c .before .before .read-size .ensures .bad (c .enum-told2 .given .1))

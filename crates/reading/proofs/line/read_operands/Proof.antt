@@ -1,7 +1,7 @@
--- `reading::line::read_operands` meets its contract. Assumes nothing.
+-- `reading::line::read_operands` meets its contract: the loop keeps `Lining`: whoever reads the lines that are left has read all. A
+-- line takes more bytes than its rank, so `from` does not wrap.
+-- Assumes nothing.
 use Prim.Native.Nat.{_-_}
-use native.Mathlib.Omega.{arith}
-use lib.ListN.{length-drop}
 use borrow.Author.Needs.{needs}
 use Rattle.reading.proofs.Lines.{Lining, lining-start, lining-short, lining-turn, lining-bad, lining-end}
 use Rattle.reading.proofs.line.read_operands.Statement.{statement}
@@ -14,12 +14,10 @@ abbrev μ-loop : tie.MeasureT-loop
 μ-loop s at rank operands sizes₀ strides₀ p₀ k₀ from₀ sizes strides p k from = operands - k
 
 loop-holds : tie.Need-loop-holds Inv-loop μ-loop
-loop-holds c =
-    let a = c .before .before .args in
-    lining-start _ _ _ _ _ _ (omega (arith, length-drop (a .at) (a .s .now)))
+loop-holds c = lining-start _ _ _ _ _ _
 
 read-operand-requires : tie.Need-read-operand-requires Inv-loop μ-loop
-read-operand-requires c κs = c .before .before .loop .inv .short
+read-operand-requires c κs = search needs
 
 enum-known-size : tie.Need-enum-known-size Inv-loop μ-loop
 enum-known-size c = search needs
@@ -39,13 +37,13 @@ same-length-2 c = search needs
 returns : tie.Need-returns Inv-loop μ-loop
 returns c =
     let l = c .before .before .before .before .before in
-    lining-bad (l .before .loop .inv) (c .before .before .before .read-operand .ensures) (l .loop-test .taken) (c .enum-told .given .1)
+    lining-bad (l .before .loop .inv) (l .loop-test .taken) (c .before .before .before .read-operand .ensures .bad (c .enum-told .given .1))
 
 add-from : tie.Need-add-from Inv-loop μ-loop
 add-from c =
     let l = c .before .before .before .before .before .before .before .before .before .before in
     let z = c .before .before .before .before .before in
-    let h = lining-short (l .before .loop .inv) (z .before .before .before .read-operand .ensures) _ _ (z .size .given .1) in
+    let h = lining-short (l .before .loop .inv) (z .size .given .0 .1 .0) (z .before .before .before .read-operand .ensures .value _ _ (z .size .given .1)) in
     search needs
 
 add-k : tie.Need-add-k Inv-loop μ-loop
@@ -58,7 +56,7 @@ loop-again : tie.Need-loop-again Inv-loop μ-loop
 loop-again c =
     let l = c .before .before .before .before .before .before .before .before .before .before in
     let z = c .before .before .before .before .before in
-    rw (c .before .before .keep .ensures) (lining-turn (l .before .loop .inv) (z .before .before .before .read-operand .ensures) _ _ (l .loop-test .taken) (z .size .given .1))
+    rw (c .before .before .keep .ensures) (lining-turn (l .before .loop .inv) _ (z .before .before .before .read-operand .ensures .value _ _ (z .size .given .1)) (l .loop-test .taken))
 
 same-length-3 : tie.Need-same-length-3 Inv-loop μ-loop
 same-length-3 c = search needs

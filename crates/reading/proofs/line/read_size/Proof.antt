@@ -1,6 +1,8 @@
--- `reading::line::read_size` meets its contract. Assumes nothing.
+-- `reading::line::read_size` meets its contract: `O` in front of a field.
+-- Assumes nothing.
 use borrow.Author.Needs.{needs}
-use Rattle.reading.proofs.Lines.{size-reads, size-none}
+use Rattle.strided.specs.Text.{field}
+use Rattle.reading.proofs.Answers.{front-reads, front-bad}
 use Rattle.reading.proofs.line.read_size.Statement.{statement}
 use Rattle.reading.proofs.line.read_size.Tie as tie
 
@@ -17,10 +19,10 @@ enum-told : tie.Need-enum-told
 enum-told c = search needs
 
 returns : tie.Need-returns
-returns c = size-reads (c .before .before .from .given .0 .0) (c .before .before .before .before .behind .ensures .to _ (c .before .before .from .given .1)) (c .field .ensures)
+returns c = front-reads 79 field (c .before .before .before .before .behind .ensures .to _ (c .before .before .from .given .1)) (c .field .ensures)
 
 returns-2 : tie.Need-returns-2
-returns-2 c = size-none (c .before .before .behind .ensures .bad (c .enum-told .given .1))
+returns-2 c = front-bad 79 field (c .before .before .behind .ensures .bad (c .enum-told .given .1))
 
 pub read-size-spec : {M : Type 1} → statement M
 read-size-spec =

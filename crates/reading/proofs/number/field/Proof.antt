@@ -1,6 +1,8 @@
--- `reading::number::field` meets its contract. Assumes nothing.
+-- `reading::number::field` meets its contract: a comma in front of a number.
+-- Assumes nothing.
 use borrow.Author.Needs.{needs}
-use Rattle.reading.proofs.Signs.{field-reads, field-none}
+use Rattle.strided.specs.Digits.{digitsOf}
+use Rattle.reading.proofs.Answers.{front-reads, front-bad}
 use Rattle.reading.proofs.number.field.Statement.{statement}
 use Rattle.reading.proofs.number.field.Tie as tie
 
@@ -17,10 +19,10 @@ enum-told : tie.Need-enum-told
 enum-told c = search needs
 
 returns : tie.Need-returns
-returns c = field-reads (c .before .before .before .before .behind .ensures .to _ (c .before .before .from .given .1)) (c .read-u64 .ensures)
+returns c = front-reads 44 digitsOf (c .before .before .before .before .behind .ensures .to _ (c .before .before .from .given .1)) (c .read-u64 .ensures)
 
 returns-2 : tie.Need-returns-2
-returns-2 c = field-none (c .before .before .behind .ensures .bad (c .enum-told .given .1))
+returns-2 c = front-bad 44 digitsOf (c .before .before .behind .ensures .bad (c .enum-told .given .1))
 
 pub field-spec : {M : Type 1} → statement M
 field-spec =

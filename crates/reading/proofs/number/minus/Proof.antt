@@ -1,4 +1,5 @@
--- `reading::number::minus` meets its contract. Assumes nothing.
+-- `reading::number::minus` meets its contract: a size of 1 to 2^63 is a number below 0, no other is.
+-- Assumes nothing.
 use mathlib.Core.Path.{refl}
 use Prim.Native.Nat.{_-_, _^_, _<_}
 use native.Mathlib.Omega.{arith}

@@ -1,4 +1,5 @@
--- `reading::number::negative` meets its contract. Assumes nothing.
+-- `reading::number::negative` meets its contract: -1 - (n - 1) is within 64 bits, 2^63 included.
+-- Assumes nothing.
 use Prim.Native.Nat.{_-_}
 use native.Mathlib.Omega.{arith}
 use borrow.Author.Needs.{needs}

@@ -1,4 +1,5 @@
--- `reading::number::positive` meets its contract. Assumes nothing.
+-- `reading::number::positive` meets its contract: below 2^63 the bits are the number.
+-- Assumes nothing.
 use mir.Syntax.{w64}
 use mir.Facts.{toZ-pos}
 use borrow.Author.Needs.{needs}

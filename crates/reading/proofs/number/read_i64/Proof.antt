@@ -1,4 +1,5 @@
--- `reading::number::read_i64` meets its contract. Assumes nothing.
+-- `reading::number::read_i64` meets its contract: a law for each way out: with and without `-`, a size or none.
+-- Assumes nothing.
 use borrow.Author.Needs.{needs}
 use Rattle.reading.proofs.Signs.{minus-reads, minus-none, plus-reads, plus-none}
 use Rattle.reading.proofs.number.read_i64.Statement.{statement}

@@ -1,4 +1,5 @@
--- `reading::number::read_more` meets its contract: what stands behind the digits read so far is what stood at the start. Assumes nothing.
+-- `reading::number::read_more` meets its contract: what stands behind the digits read so far is what stood at the start.
+-- Assumes nothing.
 use mathlib.Core.Path.{refl, sym, _∙_}
 use mathlib.Core.List.{List}
 use mathlib.Core.Logic.{_↔_}
@@ -6,7 +7,8 @@ use Prim.Native.Nat.{ℕ, _+_, _-_, _*_, _^_, _≤_, _<_}
 use native.Mathlib.Omega.{arith}
 use lib.ListN.{length, drop}
 use borrow.Author.Needs.{needs}
-use Rattle.reading.specs.Numbers.{More}
+use Rattle.reading.specs.Numbers.{More, ReadsMore}
+use Rattle.reading.specs.declared.number.Number.the-variants.{Bad}
 use Rattle.reading.proofs.Bytes.{DigitAt, digit-at}
 use Rattle.reading.proofs.Digits.{more-none, more-turn, more-over, more-value, more-bad}
 use Rattle.reading.proofs.number.read_more.Statement.{statement}
@@ -20,11 +22,21 @@ abbrev μ-loop : tie.MeasureT-loop
 
 -- the digit of a turn
 digit-here : (c : tie.After-wide Inv-loop μ-loop)
-    → DigitAt (c .before .before .before .before .before .before .args .s .now) (c .before .before .before .before .loop .i) (c .wide .result)
+    → let l = c .before .before .before .before in DigitAt (l .before .before .args .s .now) (l .loop .i) (c .wide .result)
 digit-here c = digit-at _ _ _ (c .wide .ensures) (sym (c .before .before .before .digit .ensures) ∙ c .before .before .if1 .taken)
 
+-- with it the digits say too much, and no number stands there
+too-much : (c : tie.After-wide Inv-loop μ-loop)
+    → let l = c .before .before .before .before in
+    let a = l .before .before .args in
+    2 ^ 64 ≤ l .loop .n * 10 + (c .wide .result - 48) → ReadsMore (a .first) (a .s .now) (a .at) Bad
+too-much c over =
+    let d = digit-here c in
+    let i = c .before .before .before .before .loop .inv .1 in
+    more-bad (λ v rest m. more-over _ over (more-turn _ _ (d .rest) (d .is) v rest .1 (i v rest .1 m)))
+
 loop-holds : tie.Need-loop-holds Inv-loop μ-loop
-loop-holds c = (search needs, λ v rest. ((λ m. m), (λ m. m)))
+loop-holds c = search needs
 
 digit-requires : tie.Need-digit-requires Inv-loop μ-loop
 digit-requires c κs = search needs
@@ -39,30 +51,22 @@ sub-d : tie.Need-sub-d Inv-loop μ-loop
 sub-d c = digit-here c .low
 
 returns : tie.Need-returns Inv-loop μ-loop
-returns c =
-    let d = digit-here (c .before) in
-    let l = c .before .before .before .before .before .loop in
-    let o : 2 ^ 64 ≤ l .n * 10 + (c .before .wide .result - 48) = omega arith in
-    more-bad (λ v rest m. more-over _ o (more-turn _ _ (d .rest) (d .is) v rest .1 (l .inv .1 v rest .1 m)))
+returns c = too-much (c .before) (omega arith)
 
 sub-if3 : tie.Need-sub-if3 Inv-loop μ-loop
-sub-if3 c = let d = digit-here (c .before) in omega arith
+sub-if3 c = search needs
 
 mul-if3 : tie.Need-mul-if3 Inv-loop μ-loop
 mul-if3 c = search needs
 
 returns-2 : tie.Need-returns-2 Inv-loop μ-loop
-returns-2 c =
-    let d = digit-here (c .before .before) in
-    let l = c .before .before .before .before .before .before .loop in
-    let o : 2 ^ 64 ≤ l .n * 10 + (c .before .before .wide .result - 48) = omega arith in
-    more-bad (λ v rest m. more-over _ o (more-turn _ _ (d .rest) (d .is) v rest .1 (l .inv .1 v rest .1 m)))
+returns-2 c = let d = digit-here (c .before .before) in too-much (c .before .before) (omega arith)
 
 mul-n : tie.Need-mul-n Inv-loop μ-loop
 mul-n c = search needs
 
 add-n : tie.Need-add-n Inv-loop μ-loop
-add-n c = let d = digit-here (c .before .before) in search needs
+add-n c = search needs
 
 add-i : tie.Need-add-i Inv-loop μ-loop
 add-i c = let d = digit-here (c .before .before) in search needs

@@ -1,6 +1,6 @@
--- `reading::number::read_u64` meets its contract. Assumes nothing.
+-- `reading::number::read_u64` meets its contract: the first digit tells: none, `0`, another.
+-- Assumes nothing.
 use mathlib.Core.Path.{refl, sym, _∙_}
-use Prim.Native.Nat.{_-_}
 use lib.ListN.{getD}
 use borrow.Author.Needs.{needs}
 use Rattle.reading.proofs.Bytes.{DigitAt, digit-at}
@@ -10,8 +10,7 @@ use Rattle.reading.proofs.number.read_u64.Tie as tie
 
 -- the first digit
 digit-here : (c : tie.After-shared-slice-known2)
-    → DigitAt (c .before .before .before .before .args .s .now) (c .before .before .before .before .args .at)
-    (getD (c .before .before .before .before .args .s .now) (c .before .before .before .before .args .at) 0)
+    → let a = c .before .before .before .before .args in DigitAt (a .s .now) (a .at) (getD (a .s .now) (a .at) 0)
 digit-here c = digit-at _ _ _ refl (sym (c .before .before .digit .ensures) ∙ c .before .if1 .taken)
 
 digit-requires : tie.Need-digit-requires

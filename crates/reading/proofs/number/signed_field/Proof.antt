@@ -1,6 +1,8 @@
--- `reading::number::signed_field` meets its contract. Assumes nothing.
+-- `reading::number::signed_field` meets its contract: a comma in front of a number with a sign.
+-- Assumes nothing.
 use borrow.Author.Needs.{needs}
-use Rattle.reading.proofs.Signs.{signed-reads, signed-none}
+use Rattle.strided.specs.Digits.{signedOf}
+use Rattle.reading.proofs.Answers.{front-signed, front-bad-signed}
 use Rattle.reading.proofs.number.signed_field.Statement.{statement}
 use Rattle.reading.proofs.number.signed_field.Tie as tie
 
@@ -17,10 +19,10 @@ enum-told : tie.Need-enum-told
 enum-told c = search needs
 
 returns : tie.Need-returns
-returns c = signed-reads (c .before .before .before .before .behind .ensures .to _ (c .before .before .from .given .1)) (c .read-i64 .ensures)
+returns c = front-signed 44 signedOf (c .before .before .before .before .behind .ensures .to _ (c .before .before .from .given .1)) (c .read-i64 .ensures)
 
 returns-2 : tie.Need-returns-2
-returns-2 c = signed-none (c .before .before .behind .ensures .bad (c .enum-told .given .1))
+returns-2 c = front-bad-signed 44 signedOf (c .before .before .behind .ensures .bad (c .enum-told .given .1))
 
 pub signed-field-spec : {M : Type 1} → statement M
 signed-field-spec =

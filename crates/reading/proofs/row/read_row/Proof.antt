@@ -1,4 +1,5 @@
--- `reading::row::read_row` meets its contract. Assumes nothing.
+-- `reading::row::read_row` meets its contract: the loop keeps `Rowing`: whoever reads what is left of the row has read the row.
+-- Assumes nothing.
 use mathlib.Core.Path.{_≡_, sym, ap, _∙_}
 use Prim.Native.Nat.{_-_, ℕ, _+_}
 use native.Mathlib.Nat.{zero-add}

@@ -1,4 +1,6 @@
--- `reading::row::read_signed_row` meets its contract. Assumes nothing.
+-- `reading::row::read_signed_row` meets its contract: the loop keeps `Rowing`, as in `read_row`. Each number takes bytes, so `from + i`
+-- does not wrap.
+-- Assumes nothing.
 use mathlib.Core.Path.{_≡_, ap, _∙_}
 use Prim.Native.Nat.{_-_, _+_}
 use lib.ListN.{set}
@@ -28,10 +30,7 @@ enum-known-v : tie.Need-enum-known-v Inv-loop μ-loop
 enum-known-v c = search needs
 
 add-keep-signed : tie.Need-add-keep-signed Inv-loop μ-loop
-add-keep-signed c =
-    let l = c .before .before .before .before .before .before in
-    let n = l .loop .inv .short in
-    search needs
+add-keep-signed c = search needs
 
 keep-signed-requires : tie.Need-keep-signed-requires Inv-loop μ-loop
 keep-signed-requires c κs = search needs

@@ -1,4 +1,5 @@
--- `writing::line::axis_len` meets its contract. Assumes nothing.
+-- `writing::line::axis_len` meets its contract: its fields are those of an A line.
+-- Assumes nothing.
 use Rattle.writing.proofs.Lines.{line-measured, axis-fields}
 use borrow.Author.Needs.{needs}
 use Rattle.writing.proofs.line.axis_len.Statement.{statement}

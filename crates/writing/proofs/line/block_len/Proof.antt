@@ -1,4 +1,5 @@
--- `writing::line::block_len` meets its contract. Assumes nothing.
+-- `writing::line::block_len` meets its contract: its fields are those of a B line.
+-- Assumes nothing.
 use Rattle.writing.proofs.Lines.{line-measured, block-fields}
 use borrow.Author.Needs.{needs}
 use Rattle.writing.proofs.line.block_len.Statement.{statement}

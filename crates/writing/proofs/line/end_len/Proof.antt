@@ -1,4 +1,5 @@
--- `writing::line::end_len` meets its contract. Assumes nothing.
+-- `writing::line::end_len` meets its contract: its fields are those of a Z line.
+-- Assumes nothing.
 use Rattle.writing.proofs.Lines.{line-measured, figures-fields}
 use borrow.Author.Needs.{needs}
 use Rattle.writing.proofs.line.end_len.Statement.{statement}

@@ -1,4 +1,5 @@
--- `writing::line::line_len` meets its contract. Assumes nothing.
+-- `writing::line::line_len` meets its contract: a letter, the fields and LF.
+-- Assumes nothing.
 use native.Mathlib.Omega.{arith}
 use lib.ListN.{length-append}
 use Rattle.strided.specs.Base.{over}

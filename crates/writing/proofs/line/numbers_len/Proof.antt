@@ -1,21 +1,24 @@
--- `writing::line::numbers_len` meets its contract. Assumes nothing.
+-- `writing::line::numbers_len` meets its contract: the loop keeps `Measuring`.
+-- Assumes nothing.
 use borrow.Author.Needs.{needs}
 use native.Mathlib.Omega.{arith}
-use mathlib.Core.Path.{_≡_, ap}
-use Prim.Native.Nat.{_+_, _-_, _*_, _≤_}
-use lib.ListN.{length, getD, drop}
-use Rattle.strided.specs.Base.{over}
+use Prim.Native.Nat.{_-_, _≤_}
+use lib.ListN.{length}
 use Rattle.strided.specs.Text.{field}
 use Rattle.laws.specs.Text.Lengths.{digits-most}
-use Rattle.writing.proofs.Lines.{over-at-length, over-out}
+use Rattle.writing.proofs.Lines.{Measuring, measuring-turn, measuring-end}
 use Rattle.writing.proofs.line.numbers_len.Statement.{statement}
 use Rattle.writing.proofs.line.numbers_len.Tie as tie
 
 abbrev Inv-loop : tie.InvT-loop
-Inv-loop numbers k₀ i₀ k i = (k + length (over (drop i numbers) field) ≡ length (over numbers field)) × (k ≤ 21 * i) × (i ≤ length numbers)
+Inv-loop numbers k₀ i₀ k i = Measuring field numbers k i
 
 abbrev μ-loop : tie.MeasureT-loop
 μ-loop numbers k₀ i₀ k i = length numbers - i
+
+-- a number takes 20 bytes at most
+few : (c : tie.After-u64-len Inv-loop μ-loop) → c .u64-len .result ≤ 20
+few c = omega (arith, c .u64-len .ensures, digits-most _ (c .before .shared-slice-known2 .given (c .before .before .before .loop .i) .fits))
 
 loop-holds : tie.Need-loop-holds Inv-loop μ-loop
 loop-holds c = search needs
@@ -30,18 +33,10 @@ u64-len-requires : tie.Need-u64-len-requires Inv-loop μ-loop
 u64-len-requires c κs = search needs
 
 add-k : tie.Need-add-k Inv-loop μ-loop
-add-k c =
-    let ns = c .before .before .before .before .before .args .numbers .now in
-    let l = c .before .before .before .loop in
-    let m = digits-most (getD ns (l .i) 0) (c .before .shared-slice-known2 .given (l .i) .fits) in
-    omega arith
+add-k c = omega (arith, few c)
 
 add-k-2 : tie.Need-add-k-2 Inv-loop μ-loop
-add-k-2 c =
-    let ns = c .before .before .before .before .before .args .numbers .now in
-    let l = c .before .before .before .loop in
-    let m = digits-most (getD ns (l .i) 0) (c .before .shared-slice-known2 .given (l .i) .fits) in
-    omega arith
+add-k-2 c = omega (arith, few c)
 
 add-i : tie.Need-add-i Inv-loop μ-loop
 add-i c = search needs
@@ -51,16 +46,10 @@ loop-less c = search needs
 
 loop-again : tie.Need-loop-again Inv-loop μ-loop
 loop-again c =
-    let ns = c .before .before .before .before .before .args .numbers .now in
-    let l = c .before .before .before .loop in
-    let m = digits-most (getD ns (l .i) 0) (c .before .shared-slice-known2 .given (l .i) .fits) in
-    let f = over-at-length 0 field ns (l .i) (c .before .before .loop-test .taken) in
-    omega arith
+    measuring-turn (c .before .before .before .loop .inv) 0 _ (c .before .before .loop-test .taken) (omega arith) (omega (arith, few c))
 
 returns : tie.Need-returns Inv-loop μ-loop
-returns c =
-    let f = ap length (over-out 0 field (c .before .before .before .args .numbers .now) (c .before .loop .i) (c .loop-test .left)) in
-    omega arith
+returns c = (measuring-end (c .before .loop .inv) (c .loop-test .left), omega arith)
 
 pub numbers-len-spec : {M : Type 1} → statement M
 numbers-len-spec =

@@ -1,4 +1,5 @@
--- `writing::line::put_axis` meets its contract. Assumes nothing.
+-- `writing::line::put_axis` meets its contract: its fields are those of an A line.
+-- Assumes nothing.
 use Rattle.writing.proofs.Lines.{line-room, line-written, axis-fields}
 use borrow.Author.Needs.{needs}
 use Rattle.writing.proofs.line.put_axis.Statement.{statement}

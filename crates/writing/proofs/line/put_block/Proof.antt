@@ -1,4 +1,5 @@
--- `writing::line::put_block` meets its contract. Assumes nothing.
+-- `writing::line::put_block` meets its contract: its fields are those of a B line.
+-- Assumes nothing.
 use Rattle.writing.proofs.Lines.{line-room, line-written, block-fields}
 use borrow.Author.Needs.{needs}
 use Rattle.writing.proofs.line.put_block.Statement.{statement}

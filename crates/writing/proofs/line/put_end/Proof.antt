@@ -1,4 +1,5 @@
--- `writing::line::put_end` meets its contract. Assumes nothing.
+-- `writing::line::put_end` meets its contract: its fields are those of a Z line.
+-- Assumes nothing.
 use Rattle.writing.proofs.Lines.{line-room, line-written, figures-fields}
 use borrow.Author.Needs.{needs}
 use Rattle.writing.proofs.line.put_end.Statement.{statement}

@@ -1,4 +1,5 @@
--- `writing::line::put_field` meets its contract. Assumes nothing.
+-- `writing::line::put_field` meets its contract: a comma and then the number.
+-- Assumes nothing.
 use native.Mathlib.Omega.{arith}
 use Rattle.writing.proofs.Putting.{wrote-then}
 use borrow.Author.Needs.{needs}

@@ -1,10 +1,10 @@
--- `writing::line::put_line` meets its contract. Assumes nothing.
+-- `writing::line::put_line` meets its contract: the line's length is that of its parts, so each part has room, and the parts in a row are the
+-- line.
+-- Assumes nothing.
 use native.Mathlib.Omega.{arith}
-use mathlib.Core.List.{[], _∷_}
-use Rattle.strided.specs.Base.{over}
-use Rattle.strided.specs.Text.{field, signedField}
-use Rattle.writing.proofs.Lines.{line-parts}
-use Rattle.writing.proofs.Putting.{doing-start, doing-room, doing-next, doing-end, doing-is}
+use mathlib.Core.Path.{sym}
+use Rattle.writing.proofs.Lines.{line-parts, line-length}
+use Rattle.writing.proofs.Putting.{wrote-then, wrote-is}
 use borrow.Author.Needs.{needs}
 use Rattle.writing.proofs.line.put_line.Statement.{statement}
 use Rattle.writing.proofs.line.put_line.Tie as tie
@@ -14,30 +14,20 @@ put-byte-requires c κs = search needs
 
 put-numbers-requires : tie.Need-put-numbers-requires
 put-numbers-requires c κs =
-    let s = c .before .before .before .before .before .before .before in
-    let a = s .args in
-    let d0 = doing-is (doing-start _ _ _ (s .pre)) (line-parts (a .letter) (a .numbers .now) (a .signed .now)) in
-    let d1 = doing-next (a .letter ∷ []) _ d0 (c .before .before .before .put-byte .ensures) in
-    doing-room (over (a .numbers .now) field) _ d1
+    let a = c .before .before .before .before .before .before .before .args in
+    let l = line-length (a .letter) (a .numbers .now) (a .signed .now) in
+    omega arith
 
 put-signed-requires : tie.Need-put-signed-requires
 put-signed-requires c κs =
-    let s = c .before .before .before .before .before .before .before .before .before .before .before in
-    let a = s .args in
-    let d0 = doing-is (doing-start _ _ _ (s .pre)) (line-parts (a .letter) (a .numbers .now) (a .signed .now)) in
-    let d1 = doing-next (a .letter ∷ []) _ d0 (c .before .before .before .before .before .before .before .put-byte .ensures) in
-    let d2 = doing-next (over (a .numbers .now) field) _ d1 (c .before .before .before .put-numbers .ensures) in
-    doing-room (over (a .signed .now) signedField) _ d2
+    let a = c .before .before .before .before .before .before .before .before .before .before .before .args in
+    let l = line-length (a .letter) (a .numbers .now) (a .signed .now) in
+    omega arith
 
 put-byte-requires-2 : tie.Need-put-byte-requires-2
 put-byte-requires-2 c κs =
-    let s = c .before .before .before .before .before .before .before .before .before .before .before .before .before .before .before in
-    let a = s .args in
-    let d0 = doing-is (doing-start _ _ _ (s .pre)) (line-parts (a .letter) (a .numbers .now) (a .signed .now)) in
-    let d1 = doing-next (a .letter ∷ []) _ d0 (c .before .before .before .before .before .before .before .before .before .before .before .put-byte .ensures) in
-    let d2 = doing-next (over (a .numbers .now) field) _ d1 (c .before .before .before .before .before .before .before .put-numbers .ensures) in
-    let d3 = doing-next (over (a .signed .now) signedField) _ d2 (c .before .before .before .put-signed .ensures) in
-    let r = doing-room (10 ∷ []) [] d3 in
+    let a = c .before .before .before .before .before .before .before .before .before .before .before .before .before .before .before .args in
+    let l = line-length (a .letter) (a .numbers .now) (a .signed .now) in
     omega arith
 
 same-length : tie.Need-same-length
@@ -45,13 +35,15 @@ same-length c = search needs
 
 returns : tie.Need-returns
 returns c =
-    let s = c .before .before .before .before .before .before .before .before .before .before .before .before .before .before .before .before .before .before in
-    let a = s .args in
-    let d0 = doing-is (doing-start _ _ _ (s .pre)) (line-parts (a .letter) (a .numbers .now) (a .signed .now)) in
-    let d1 = doing-next (a .letter ∷ []) _ d0 (c .before .before .before .before .before .before .before .before .before .before .before .before .before .before .put-byte .ensures) in
-    let d2 = doing-next (over (a .numbers .now) field) _ d1 (c .before .before .before .before .before .before .before .before .before .before .put-numbers .ensures) in
-    let d3 = doing-next (over (a .signed .now) signedField) _ d2 (c .before .before .before .before .before .before .put-signed .ensures) in
-    doing-end (doing-next (10 ∷ []) [] d3 (c .before .before .put-byte2 .ensures))
+    let signed = c .before .before .before .before .before .before in
+    let numbers = signed .before .before .before .before in
+    let first = numbers .before .before .before .before in
+    let a = first .before .before .before .before .args in
+    let l = line-length (a .letter) (a .numbers .now) (a .signed .now) in
+    let behind = wrote-then (signed .put-signed .ensures) (c .before .before .put-byte2 .ensures) (omega arith) in
+    wrote-is
+    (wrote-then (first .put-byte .ensures) (wrote-then (numbers .put-numbers .ensures) behind (omega arith)) (omega arith))
+    (sym (line-parts (a .letter) (a .numbers .now) (a .signed .now)))
 
 pub put-line-spec : {M : Type 1} → statement M
 put-line-spec =

@@ -1,11 +1,12 @@
--- `writing::line::put_numbers` meets its contract. Assumes nothing.
+-- `writing::line::put_numbers` meets its contract: the loop keeps `Doing`: the fields from the i-th on are left to write.
+-- Assumes nothing.
 use borrow.Author.Needs.{needs}
-use Prim.Native.Nat.{_+_, _-_}
-use lib.ListN.{length, getD, drop}
+use Prim.Native.Nat.{_-_}
+use lib.ListN.{length, drop}
 use Rattle.strided.specs.Base.{over}
 use Rattle.strided.specs.Text.{field}
-use Rattle.writing.proofs.Lines.{over-at, over-out}
-use Rattle.writing.proofs.Putting.{Doing, doing-start, doing-room, doing-next, doing-end, doing-is, doing-length}
+use Rattle.writing.proofs.Lines.{each-room, each-next, each-end}
+use Rattle.writing.proofs.Putting.{Doing, doing-start, doing-length}
 use Rattle.writing.proofs.line.put_numbers.Statement.{statement}
 use Rattle.writing.proofs.line.put_numbers.Tie as tie
 
@@ -26,9 +27,8 @@ shared-slice-read-put-field c = search needs
 
 put-field-requires : tie.Need-put-field-requires Inv-loop μ-loop
 put-field-requires c κs =
-    let l = c .before .before .before .loop in
-    let ns = c .before .before .before .before .before .before .args .numbers .now in
-    doing-room (field (getD ns (l .i) 0)) (over (drop (l .i + 1) ns) field) (doing-is (l .inv) (over-at 0 field ns (l .i) (c .before .before .loop-test .taken)))
+    let l = c .before .before .before in
+    each-room field (l .before .before .before .args .numbers .now) (l .loop .i) (l .loop .inv) 0 (c .before .before .loop-test .taken)
 
 add-i : tie.Need-add-i Inv-loop μ-loop
 add-i c = search needs
@@ -38,15 +38,15 @@ loop-less c = search needs
 
 loop-again : tie.Need-loop-again Inv-loop μ-loop
 loop-again c =
-    let l = c .before .before .before .before .before .before .loop in
-    let ns = c .before .before .before .before .before .before .before .before .before .args .numbers .now in
-    doing-next (field (getD ns (l .i) 0)) _ (doing-is (l .inv) (over-at 0 field ns (l .i) (c .before .before .before .before .before .loop-test .taken))) (c .before .before .put-field .ensures)
+    let h = c .before .before .before .before .before in
+    let l = h .before in
+    each-next field (l .before .before .before .args .numbers .now) (l .loop .i) (l .loop .inv) 0 (h .loop-test .taken) (c .before .before .put-field .ensures)
 
 same-length : tie.Need-same-length Inv-loop μ-loop
 same-length c = doing-length (c .before .loop .inv)
 
 returns : tie.Need-returns Inv-loop μ-loop
-returns c = doing-end (doing-is (c .before .loop .inv) (over-out 0 field _ _ (c .loop-test .left)))
+returns c = each-end field _ _ (c .before .loop .inv) (c .loop-test .left)
 
 pub put-numbers-spec : {M : Type 1} → statement M
 put-numbers-spec =

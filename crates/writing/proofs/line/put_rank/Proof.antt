@@ -1,4 +1,5 @@
--- `writing::line::put_rank` meets its contract. Assumes nothing.
+-- `writing::line::put_rank` meets its contract: its fields are those of a K line.
+-- Assumes nothing.
 use Rattle.writing.proofs.Lines.{line-room, line-written, rank-fields}
 use borrow.Author.Needs.{needs}
 use Rattle.writing.proofs.line.put_rank.Statement.{statement}

@@ -1,4 +1,5 @@
--- `writing::line::put_refusal` meets its contract. Assumes nothing.
+-- `writing::line::put_refusal` meets its contract: its field is that of an R line.
+-- Assumes nothing.
 use Rattle.writing.proofs.Lines.{line-room, line-written, rank-fields}
 use borrow.Author.Needs.{needs}
 use Rattle.writing.proofs.line.put_refusal.Statement.{statement}

@@ -1,14 +1,15 @@
--- `writing::line::put_signed` meets its contract. Assumes nothing.
+-- `writing::line::put_signed` meets its contract: the loop keeps `Doing`, as in `put_numbers`; a number is handed on as its bits.
+-- Assumes nothing.
 use borrow.Author.Needs.{needs}
 use mathlib.Core.Path.{ap}
-use Prim.Native.Nat.{_+_, _-_}
+use Prim.Native.Nat.{_-_}
 use lib.IntN.{pos}
 use lib.ListN.{length, getD, drop}
 use Rattle.strided.specs.Base.{over}
 use Rattle.strided.specs.Text.{signedField}
 use Rattle.laws.specs.Base.Bits.{read-back}
-use Rattle.writing.proofs.Lines.{over-at, over-out}
-use Rattle.writing.proofs.Putting.{Doing, doing-start, doing-room, doing-next, doing-end, doing-is, doing-length, wrote-is}
+use Rattle.writing.proofs.Lines.{each-room, each-next, each-end}
+use Rattle.writing.proofs.Putting.{Doing, doing-start, doing-length, wrote-is}
 use Rattle.writing.proofs.line.put_signed.Statement.{statement}
 use Rattle.writing.proofs.line.put_signed.Tie as tie
 
@@ -30,11 +31,10 @@ shared-slice-copy-out-put-signed-field c = search needs
 
 put-signed-field-requires : tie.Need-put-signed-field-requires Inv-loop μ-loop
 put-signed-field-requires c κs =
-    let l = c .before .before .before .loop in
-    let ns = c .before .before .before .before .before .args .numbers .now in
-    let z = getD ns (l .i) (pos 0) in
-    rw (read-back z (c .put-signed-field-arg2 .given))
-    (doing-room (signedField z) (over (drop (l .i + 1) ns) signedField) (doing-is (l .inv) (over-at (pos 0) signedField ns (l .i) (c .before .before .loop-test .taken))))
+    let l = c .before .before .before in
+    let ns = l .before .before .args .numbers .now in
+    rw (read-back (getD ns (l .loop .i) (pos 0)) (c .put-signed-field-arg2 .given))
+    (each-room signedField ns (l .loop .i) (l .loop .inv) (pos 0) (c .before .before .loop-test .taken))
 
 add-i : tie.Need-add-i Inv-loop μ-loop
 add-i c = search needs
@@ -44,17 +44,18 @@ loop-less c = search needs
 
 loop-again : tie.Need-loop-again Inv-loop μ-loop
 loop-again c =
-    let l = c .before .before .before .before .before .before .loop in
-    let ns = c .before .before .before .before .before .before .before .before .args .numbers .now in
-    let z = getD ns (l .i) (pos 0) in
-    doing-next (signedField z) _ (doing-is (l .inv) (over-at (pos 0) signedField ns (l .i) (c .before .before .before .before .before .loop-test .taken)))
-    (wrote-is (c .before .before .put-signed-field .ensures) (ap signedField (read-back z (c .before .before .before .put-signed-field-arg2 .given))))
+    let h = c .before .before .before .before .before in
+    let l = h .before in
+    let ns = l .before .before .args .numbers .now in
+    let back = read-back (getD ns (l .loop .i) (pos 0)) (c .before .before .before .put-signed-field-arg2 .given) in
+    each-next signedField ns (l .loop .i) (l .loop .inv) (pos 0) (h .loop-test .taken)
+    (wrote-is (c .before .before .put-signed-field .ensures) (ap signedField back))
 
 same-length : tie.Need-same-length Inv-loop μ-loop
 same-length c = doing-length (c .before .loop .inv)
 
 returns : tie.Need-returns Inv-loop μ-loop
-returns c = doing-end (doing-is (c .before .loop .inv) (over-out (pos 0) signedField _ _ (c .loop-test .left)))
+returns c = each-end signedField _ _ (c .before .loop .inv) (c .loop-test .left)
 
 pub put-signed-spec : {M : Type 1} → statement M
 put-signed-spec =

@@ -1,4 +1,5 @@
--- `writing::line::put_signed_field` meets its contract. Assumes nothing.
+-- `writing::line::put_signed_field` meets its contract: a comma and then the number, which is handed on as its bits.
+-- Assumes nothing.
 use native.Mathlib.Omega.{arith}
 use mathlib.Core.Path.{ap}
 use mir.Facts.{toZ-ofZ}

@@ -1,4 +1,5 @@
--- `writing::line::rank_len` meets its contract. Assumes nothing.
+-- `writing::line::rank_len` meets its contract: its fields are those of a K line.
+-- Assumes nothing.
 use Rattle.writing.proofs.Lines.{line-measured, rank-fields}
 use borrow.Author.Needs.{needs}
 use Rattle.writing.proofs.line.rank_len.Statement.{statement}

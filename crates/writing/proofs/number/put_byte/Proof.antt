@@ -1,4 +1,5 @@
--- `writing::number::put_byte` meets its contract. Assumes nothing.
+-- `writing::number::put_byte` meets its contract: one element set is one byte put.
+-- Assumes nothing.
 use borrow.Author.Needs.{needs}
 use mathlib.Core.Path.{refl}
 use Rattle.writing.proofs.Putting.{put-one}

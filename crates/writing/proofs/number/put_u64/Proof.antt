@@ -1,4 +1,5 @@
--- `writing::number::put_u64` meets its contract. Assumes nothing.
+-- `writing::number::put_u64` meets its contract: the loop keeps `Writing`: the digits of `rest` are left to write, in front of i.
+-- Assumes nothing.
 use borrow.Author.Needs.{needs}
 use native.Mathlib.Omega.{arith}
 use lib.ListN.{length-set}

@@ -1,4 +1,5 @@
--- `writing::number::u64_len` meets its contract. Assumes nothing.
+-- `writing::number::u64_len` meets its contract: the loop keeps the sum of the digits counted and those left.
+-- Assumes nothing.
 use native.Mathlib.Omega.{arith}
 use mathlib.Core.Path.{_≡_}
 use Prim.Native.Nat.{_+_}

@@ -1,13 +1,16 @@
--- `writing::plan::axes_len` meets its contract. Assumes nothing.
+-- `writing::plan::axes_len` meets its contract: the loop keeps the sum of the lines measured and those left, and each is at most
+-- `longest`.
+-- Assumes nothing.
 use borrow.Author.Needs.{needs}
 use native.Mathlib.Omega.{arith}
 use mathlib.Core.Path.{_≡_, ap, _∙_}
-use Prim.Native.Nat.{_+_, _-_, _*_, _≤_}
+use mathlib.Core.List.{List}
+use Prim.Native.Nat.{ℕ, _+_, _-_, _*_, _≤_}
 use lib.ListN.{length, length-append}
 use Rattle.strided.specs.Base.{over, run}
 use Rattle.writing.specs.Line.{longest}
 use Rattle.writing.specs.Plan.{axisAt}
-use Rattle.writing.proofs.Axes.{run-at, run-out, run-whole}
+use Rattle.writing.proofs.Axes.{run-at, run-out}
 use Rattle.writing.proofs.plan.axes_len.Statement.{statement}
 use Rattle.writing.proofs.plan.axes_len.Tie as tie
 
@@ -19,11 +22,14 @@ Inv-loop rank operands e b s k₀ i₀ k i =
 abbrev μ-loop : tie.MeasureT-loop
 μ-loop rank operands e b s k₀ i₀ k i = rank - i
 
+-- an axis's line
+abbrev lineOn : tie.Start Inv-loop μ-loop → ℕ → List ℕ
+lineOn c = let a = c .args in axisAt (a .operands) (a .e .now) (a .b .now) (a .s .now)
+
 loop-holds : tie.Need-loop-holds Inv-loop μ-loop
 loop-holds c =
-    let a = c .args in
-    let h = ap length (run-whole (axisAt (a .operands) (a .e .now) (a .b .now) (a .s .now)) (a .rank)) in
-    omega arith
+    let e : c .args .rank - 0 ≡ c .args .rank = omega arith in
+    rw e (search needs)
 
 axis-at-len-requires : tie.Need-axis-at-len-requires Inv-loop μ-loop
 axis-at-len-requires c κs = search needs
@@ -39,15 +45,14 @@ loop-less c = search needs
 
 loop-again : tie.Need-loop-again Inv-loop μ-loop
 loop-again c =
-    let a = c .before .before .before .args in
     let i = c .before .before .loop .i in
-    let h = ap length (run-at (axisAt (a .operands) (a .e .now) (a .b .now) (a .s .now)) i (a .rank) (c .before .loop-test .taken)) ∙ length-append (axisAt (a .operands) (a .e .now) (a .b .now) (a .s .now) i) _ in
+    let line = lineOn (c .before .before .before) in
+    let h = ap length (run-at line i _ (c .before .loop-test .taken)) ∙ length-append (line i) _ in
     omega arith
 
 returns : tie.Need-returns Inv-loop μ-loop
 returns c =
-    let a = c .before .before .args in
-    let h = ap length (run-out (axisAt (a .operands) (a .e .now) (a .b .now) (a .s .now)) (c .before .loop .i) (a .rank) (c .loop-test .left)) in
+    let h = ap length (run-out (lineOn (c .before .before)) (c .before .loop .i) _ (c .loop-test .left)) in
     omega arith
 
 pub axes-len-spec : {M : Type 1} → statement M

@@ -1,14 +1,16 @@
--- `writing::plan::axis_at_len` meets its contract. Assumes nothing.
+-- `writing::plan::axis_at_len` meets its contract: the strides lent make the axis's line.
+-- Assumes nothing.
 use native.Mathlib.Omega.{arith}
-use mathlib.Core.Path.{ap, _∙_}
-use mathlib.Core.List.{List}
-use lib.IntN.{ℤ}
-use lib.ListN.{length, getD}
-use Rattle.strided.specs.Text.{axisLine}
-use Rattle.writing.proofs.Axes.{column-lent, column-is}
+use mathlib.Core.Path.{_≡_, ap, _∙_}
+use lib.ListN.{length, take}
+use Rattle.writing.proofs.Axes.{column-lent, axis-lent}
 use borrow.Author.Needs.{needs}
 use Rattle.writing.proofs.plan.axis_at_len.Statement.{statement}
 use Rattle.writing.proofs.plan.axis_at_len.Tie as tie
+
+-- as many strides are lent as there are operands
+lent : (c : tie.After-column) → c .before .args .operands ≡ length (take (c .before .args .operands) (c .column .result))
+lent c = let a = c .before .args in column-lent (a .axis) (a .s .now) (a .operands) (c .column .ensures) (c .before .pre .1)
 
 column-requires : tie.Need-column-requires
 column-requires c κs = search needs
@@ -29,21 +31,19 @@ array-share-prefix-strides : tie.Need-array-share-prefix-strides
 array-share-prefix-strides c = search needs
 
 slice-aggregate-axis-len : tie.Need-slice-aggregate-axis-len
-slice-aggregate-axis-len c =
-    let a = c .before .before .before .before .args in
-    column-lent (a .axis) (a .s .now) (a .operands) (c .before .before .before .column .ensures) (c .before .before .before .before .pre .1)
+slice-aggregate-axis-len c = lent (c .before .before .before)
 
 axis-len-requires : tie.Need-axis-len-requires
 axis-len-requires c κs =
-    let a = c .before .before .before .before .args in
-    let l = column-lent (a .axis) (a .s .now) (a .operands) (c .before .before .before .column .ensures) (c .before .before .before .before .pre .1) in
-    omega (arith, l, c .before .before .before .before .pre .1)
+    let o = c .before .before .before in
+    omega (arith, lent o, o .before .pre .1)
 
 returns : tie.Need-returns
 returns c =
-    let a = c .before .before .before .before .before .args in
-    let e = column-is (a .axis) (a .s .now) (a .operands) (c .before .before .before .before .column .ensures) (c .before .before .before .before .before .pre .1) in
-    (c .axis-len .ensures .0 ∙ ap (λ (ts : List ℤ). length (axisLine (a .axis) (getD (a .e .now) (a .axis) 0) (getD (a .b .now) (a .axis) 0) ts)) e, c .axis-len .ensures .1)
+    let o = c .before .before .before .before in
+    let s = o .before in
+    let e = axis-lent (s .args .operands) (s .args .e .now) (s .args .b .now) (s .args .s .now) (s .args .axis) (o .column .ensures) (s .pre .1) in
+    (c .axis-len .ensures .0 ∙ ap length e, c .axis-len .ensures .1)
 
 pub axis-at-len-spec : {M : Type 1} → statement M
 axis-at-len-spec =

@@ -1,5 +1,5 @@
--- `writing::plan::column` meets its contract. Assumes nothing.
-use borrow.Author.Needs.{needs}
+-- `writing::plan::column` meets its contract: the loop keeps the first k strides filled in.
+-- Assumes nothing.
 use borrow.Author.Needs.{needs, sfits-of}
 use native.Mathlib.Omega.{arith}
 use native.Mathlib.Nat.{le-antisymm}

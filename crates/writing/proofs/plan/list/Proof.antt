@@ -1,7 +1,8 @@
--- `writing::plan::list` meets its contract. Assumes nothing.
+-- `writing::plan::list` meets its contract: what was measured is what is written, and it is within the room.
+-- Assumes nothing.
 use native.Mathlib.Omega.{arith}
-use mathlib.Core.Path.{ap, _∙_}
-use Prim.Native.Nat.{_^_, _<_}
+use mathlib.Core.Path.{_≡_, ap, _∙_}
+use Prim.Native.Nat.{_^_, _≤_, _<_}
 use lib.ListN.{length}
 use mir.Syntax.{w64}
 use mir.Facts.{toZ-pos}
@@ -12,6 +13,23 @@ use Rattle.writing.proofs.Axes.{more-measured, fits-measured, listed-fu
 use borrow.Author.Needs.{needs}
 use Rattle.writing.proofs.plan.list.Statement.{statement}
 use Rattle.writing.proofs.plan.list.Tie as tie
+
+-- the plan that the arguments tell
+abbrev plan : tie.Start → Plan
+plan c = let a = c .args in planOf (a .rank) (a .operands) (a .e .now) (a .b .now) (a .s .now)
+
+-- the output fits, and n is its length
+fitting : (c : tie.After-n)
+    → let s = c .before .before .before .before in
+    (length (printedPlan (plan s)) ≤ length (s .args .room .now)) × (c .n .given .0 .0 ≡ length (printedPlan (plan s)))
+fitting c = fits-measured _ _ _ (c .before .before .measure .ensures) (c .n .given .1)
+
+-- no slice is longer than 2^63 - 1 bytes
+small : (c : tie.After-n) → c .n .given .0 .0 < 2 ^ 63
+small c =
+    let f = fitting c in
+    let g = c .before .before .before .before .good .1 .1 .1 .1 .1 .0 .1 in
+    omega arith
 
 measure-requires : tie.Need-measure-requires
 measure-requires c κs = search needs
@@ -24,41 +42,28 @@ enum-told c = search needs
 
 returns : tie.Need-returns
 returns c =
-    let a = c .before .before .before .before .args in
-    let p : Plan = planOf (a .rank) (a .operands) (a .e .now) (a .b .now) (a .s .now) in
-    let e = listed-full p (a .room .now) (more-measured (length (printedPlan p)) (length (a .room .now)) (c .before .before .measure .ensures) (c .enum-told .given .1)) in
+    let s = c .before .before .before .before in
+    let p : Plan = plan s in
+    let room = s .args .room .now in
+    let e = listed-full p room (more-measured (length (printedPlan p)) (length room) (c .before .before .measure .ensures) (c .enum-told .given .1)) in
     (ap (λ (l : Listing). l .answer) e, ap (λ (l : Listing). l .room) e)
 
 write-requires : tie.Need-write-requires
-write-requires c κs =
-    let a = c .before .before .before .before .before .before .args in
-    let p : Plan = planOf (a .rank) (a .operands) (a .e .now) (a .b .now) (a .s .now) in
-    let m = c .before .before .n in
-    (c .before .before .before .before .before .before .pre, fits-measured (length (printedPlan p)) (length (a .room .now)) _ (c .before .before .before .before .measure .ensures) (m .given .1) .0)
+write-requires c κs = (c .before .before .before .before .before .before .pre, fitting (c .before .before) .0)
 
 cast-result : tie.Need-cast-result
-cast-result c =
-    let s = c .before .before .before .before .before .before .before .before .before in
-    let a = s .args in
-    let p : Plan = planOf (a .rank) (a .operands) (a .e .now) (a .b .now) (a .s .now) in
-    let f = fits-measured (length (printedPlan p)) (length (a .room .now)) _ (c .before .before .before .before .before .before .before .measure .ensures) (c .before .before .before .before .before .n .given .1) in
-    let g = s .good .1 .1 .1 .1 .1 .0 .1 in
-    record { sfits = omega (arith, f .0, f .1, g) }
+cast-result c = record { sfits = small (c .before .before .before .before .before) }
 
 same-length : tie.Need-same-length
 same-length c = search needs
 
 returns-2 : tie.Need-returns-2
 returns-2 c =
-    let s = c .before .before .before .before .before .before .before .before .before in
-    let a = s .args in
-    let p : Plan = planOf (a .rank) (a .operands) (a .e .now) (a .b .now) (a .s .now) in
-    let n = c .before .before .before .before .before .n .given .0 .0 in
-    let f = fits-measured (length (printedPlan p)) (length (a .room .now)) n (c .before .before .before .before .before .before .before .measure .ensures) (c .before .before .before .before .before .n .given .1) in
-    let g = s .good .1 .1 .1 .1 .1 .0 .1 in
-    let small : n < 2 ^ 63 = omega (arith, f .0, f .1, g) in
-    let e = listed-filled p (a .room .now) (f .0) (f .1) (c .before .before .write .ensures .1) in
-    (toZ-pos w64 small ∙ e .0, e .1)
+    let n = c .before .before .before .before .before in
+    let s = n .before .before .before .before in
+    let f = fitting n in
+    let e = listed-filled (plan s) (s .args .room .now) (f .0) (f .1) (c .before .before .write .ensures .1) in
+    (toZ-pos w64 (small n) ∙ e .0, e .1)
 
 pub list-spec : {M : Type 1} → statement M
 list-spec =

@@ -1,10 +1,14 @@
--- `writing::plan::put_axes` meets its contract. Assumes nothing.
+-- `writing::plan::put_axes` meets its contract: the loop keeps `Doing`: the lines from axis i on are left to write.
+-- Assumes nothing.
 use borrow.Author.Needs.{needs}
-use Prim.Native.Nat.{_-_}
+use native.Mathlib.Omega.{arith}
+use mathlib.Core.Path.{_≡_}
+use mathlib.Core.List.{List}
+use Prim.Native.Nat.{ℕ, _-_}
 use Rattle.strided.specs.Base.{over, run}
 use Rattle.writing.specs.Plan.{axisAt}
-use Rattle.writing.proofs.Axes.{run-at, run-out, run-whole}
-use Rattle.writing.proofs.Putting.{Doing, doing-start, doing-room, doing-next, doing-end, doing-is, doing-length}
+use Rattle.writing.proofs.Axes.{run-at, run-out}
+use Rattle.writing.proofs.Putting.{Doing, doing-start, doing-room, doing-next, doing-end, doing-length}
 use Rattle.writing.proofs.plan.put_axes.Statement.{statement}
 use Rattle.writing.proofs.plan.put_axes.Tie as tie
 
@@ -14,17 +18,20 @@ Inv-loop out₀ at rank operands e b s next₀ i₀ out next i = Doing out₀ at
 abbrev μ-loop : tie.MeasureT-loop
 μ-loop out₀ at rank operands e b s next₀ i₀ out next i = rank - i
 
+-- an axis's line
+abbrev lineOn : tie.Start Inv-loop μ-loop → ℕ → List ℕ
+lineOn c = let a = c .args in axisAt (a .operands) (a .e .now) (a .b .now) (a .s .now)
+
 loop-holds : tie.Need-loop-holds Inv-loop μ-loop
 loop-holds c =
-    let a = c .before .args in
-    doing-is (doing-start _ _ _ (c .before .pre .1)) (run-whole (axisAt (a .operands) (a .e .now) (a .b .now) (a .s .now)) (a .rank))
+    let e : c .before .args .rank - 0 ≡ c .before .args .rank = omega arith in
+    rw e (doing-start _ _ _ (c .before .pre .1))
 
 put-axis-at-requires : tie.Need-put-axis-at-requires Inv-loop μ-loop
 put-axis-at-requires c κs =
-    let a = c .before .before .before .before .args in
-    let l = c .before .before .loop in
-    let line = axisAt (a .operands) (a .e .now) (a .b .now) (a .s .now) in
-    (search needs, doing-room (line (l .i)) _ (doing-is (l .inv) (run-at line (l .i) (a .rank) (c .before .loop-test .taken))))
+    let l = c .before .before in
+    let line = lineOn (l .before .before) in
+    (search needs, doing-room (line (l .loop .i)) _ (run-at line (l .loop .i) _ (c .before .loop-test .taken)) (l .loop .inv))
 
 add-i : tie.Need-add-i Inv-loop μ-loop
 add-i c = search needs
@@ -34,18 +41,16 @@ loop-less c = search needs
 
 loop-again : tie.Need-loop-again Inv-loop μ-loop
 loop-again c =
-    let a = c .before .before .before .before .before .before .before .args in
-    let l = c .before .before .before .before .before .loop in
-    let line = axisAt (a .operands) (a .e .now) (a .b .now) (a .s .now) in
-    doing-next (line (l .i)) _ (doing-is (l .inv) (run-at line (l .i) (a .rank) (c .before .before .before .before .loop-test .taken))) (c .before .before .put-axis-at .ensures)
+    let h = c .before .before .before .before in
+    let l = h .before in
+    let line = lineOn (l .before .before) in
+    doing-next (line (l .loop .i)) _ (run-at line (l .loop .i) _ (h .loop-test .taken)) (l .loop .inv) (c .before .before .put-axis-at .ensures)
 
 same-length : tie.Need-same-length Inv-loop μ-loop
 same-length c = doing-length (c .before .loop .inv)
 
 returns : tie.Need-returns Inv-loop μ-loop
-returns c =
-    let a = c .before .before .before .args in
-    doing-end (doing-is (c .before .loop .inv) (run-out (axisAt (a .operands) (a .e .now) (a .b .now) (a .s .now)) (c .before .loop .i) (a .rank) (c .loop-test .left)))
+returns c = doing-end (run-out (lineOn (c .before .before .before)) (c .before .loop .i) _ (c .loop-test .left)) (c .before .loop .inv)
 
 pub put-axes-spec : {M : Type 1} → statement M
 put-axes-spec =

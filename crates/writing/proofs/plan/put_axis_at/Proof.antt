@@ -1,15 +1,24 @@
--- `writing::plan::put_axis_at` meets its contract. Assumes nothing.
-use mathlib.Core.Path.{sym, ap, subst}
-use mathlib.Core.List.{List}
-use Prim.Native.Nat.{_+_, _≤_}
-use lib.IntN.{ℤ}
-use lib.ListN.{length, getD}
+-- `writing::plan::put_axis_at` meets its contract: the strides lent make the axis's line.
+-- Assumes nothing.
+use native.Mathlib.Omega.{arith}
+use mathlib.Core.Path.{_≡_, ap}
+use lib.ListN.{length, getD, take}
 use Rattle.strided.specs.Text.{axisLine}
-use Rattle.writing.proofs.Axes.{column-lent, column-is}
+use Rattle.writing.specs.Plan.{axisAt}
+use Rattle.writing.proofs.Axes.{column-lent, axis-lent}
 use Rattle.writing.proofs.Putting.{wrote-is}
 use borrow.Author.Needs.{needs}
 use Rattle.writing.proofs.plan.put_axis_at.Statement.{statement}
 use Rattle.writing.proofs.plan.put_axis_at.Tie as tie
+
+-- the line of the strides that are lent
+the-line : (c : tie.After-column)
+    → let a = c .before .before .args in
+    axisLine (a .axis) (getD (a .e .now) (a .axis) 0) (getD (a .b .now) (a .axis) 0) (take (a .operands) (c .column .result))
+    ≡ axisAt (a .operands) (a .e .now) (a .b .now) (a .s .now) (a .axis)
+the-line c =
+    let s = c .before .before in
+    axis-lent (s .args .operands) (s .args .e .now) (s .args .b .now) (s .args .s .now) (s .args .axis) (c .column .ensures) (s .pre .0 .1)
 
 column-requires : tie.Need-column-requires
 column-requires c κs = search needs
@@ -31,23 +40,20 @@ array-share-prefix-strides c = search needs
 
 slice-aggregate-put-axis : tie.Need-slice-aggregate-put-axis
 slice-aggregate-put-axis c =
-    let a = c .before .before .before .before .before .before .args in
-    column-lent (a .axis) (a .s .now) (a .operands) (c .before .before .before .before .column .ensures) (c .before .before .before .before .before .before .pre .0 .1)
+    let o = c .before .before .before .before in
+    let s = o .before .before in
+    column-lent (s .args .axis) (s .args .s .now) (s .args .operands) (o .column .ensures) (s .pre .0 .1)
 
 put-axis-requires : tie.Need-put-axis-requires
 put-axis-requires c κs =
-    let a = c .before .before .before .before .before .before .args in
-    let e = column-is (a .axis) (a .s .now) (a .operands) (c .before .before .before .before .column .ensures) (c .before .before .before .before .before .before .pre .0 .1) in
-    subst (λ (ts : List ℤ). a .at + length (axisLine (a .axis) (getD (a .e .now) (a .axis) 0) (getD (a .b .now) (a .axis) 0) ts) ≤ length (a .out .now)) (sym e) (c .before .before .before .before .before .before .pre .1)
+    let e = ap length (the-line (c .before .before .before .before)) in
+    omega arith
 
 same-length : tie.Need-same-length
 same-length c = search needs
 
 returns : tie.Need-returns
-returns c =
-    let a = c .before .before .before .before .before .before .before .before .before .args in
-    let e = column-is (a .axis) (a .s .now) (a .operands) (c .before .before .before .before .before .before .before .column .ensures) (c .before .before .before .before .before .before .before .before .before .pre .0 .1) in
-    wrote-is (c .before .before .put-axis .ensures) (ap (λ (ts : List ℤ). axisLine (a .axis) (getD (a .e .now) (a .axis) 0) (getD (a .b .now) (a .axis) 0) ts) e)
+returns c = wrote-is (c .before .before .put-axis .ensures) (the-line (c .before .before .before .before .before .before .before))
 
 pub put-axis-at-spec : {M : Type 1} → statement M
 put-axis-at-spec =
