@@ -3,7 +3,7 @@ use region::memory_region;
 use shrink::BLOCK_MEMORY_SIZE;
 use shrink::shrink;
 ghost use mathlib.Core.Path.{_≡_};
-ghost use Prim.Native.Nat.{ℕ, _-_, _<_, _≤_};
+ghost use Prim.Native.Nat.{_-_, _<_, _≤_};
 ghost use lib.ListN.{getD};
 ghost use Rattle.strided.specs.Base.{least};
 ghost use Rattle.strided.specs.Region.{byteAt};

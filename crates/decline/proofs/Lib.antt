@@ -1,3 +1,3 @@
--- Laws that several proofs use.
+-- Laws that belong to no one function.
 pub mod Rooms
 pub mod Answers

@@ -30,7 +30,7 @@ rests-fit a b =
 pub reach-room : (sizes es : List ℕ) (strides : List ℤ) (rank k : ℕ) → k < length sizes → WithinReach sizes strides es rank
     → slab (strideSize strides k) es rank ≤ 2 ^ 63
 unfolding slab
-reach-room sizes es strides rank k h r = omega (arith, r .near k h, reach-sum es strides rank k (omega arith) (omega arith))
+reach-room sizes es strides rank k h r = omega (arith, r .near k h, reach-sum es strides rank k)
 
 module _ (f : ℕ → ℕ) (es : List ℕ) where
   -- one axis more, before the cut

@@ -1,10 +1,10 @@
 // When tiles are declined. A layout whose cut leaves slabs of whole lines, no two of which share a line, gains nothing from tiles: the flat
-// walk visits each line once as it is. Sums are in elements: an operand's size is a common factor of all its spans, so only the tests for whole
-// lines look at it, and everything stays within 1 + reach, which row 6 bounds.
+// walk visits each line once as it is. Sums are in elements: an operand's size is a common factor of all its spans, so only the tests for size 0
+// and for whole lines look at it, and everything stays within 1 + reach, which row 6 bounds.
 use layout::sizes::less_one;
 use layout::sizes::magnitude;
 ghost use mathlib.Core.Path.{_≡_};
-ghost use Prim.Native.Nat.{ℕ, _+_, _-_, _*_, _^_, _<_, _≤_};
+ghost use Prim.Native.Nat.{_+_, _-_, _*_, _^_, _<_, _≤_};
 ghost use lib.ListN.{length};
 ghost use Rattle.strided.specs.Base.{sum, every};
 ghost use Rattle.strided.specs.Region.{byteTable};

@@ -1,4 +1,5 @@
--- The plan put together from its arrays, and what its arrays have for cutting. Assumes nothing.
+-- What the plan's arrays give: all that cutting asks of them, the plan put together from them, and the answer of the entry.
+-- Assumes nothing.
 use mathlib.Core.Path.{_≡_, sym, _∙_, subst}
 use mathlib.Core.Bool.{true, false}
 use mathlib.Core.List.{List}

@@ -20,7 +20,6 @@ ghost use mathlib.Core.Bool.{cond};
 ghost use mathlib.Core.List.{map};
 ghost use Prim.Native.Nat.{_≤_};
 ghost use lib.Dec.{eqb};
-ghost use lib.IntN.{pos};
 ghost use lib.ListN.{length, replicate};
 ghost use Rattle.strided.specs.Base.{padded};
 ghost use Rattle.strided.specs.Layout.{extents as extentsOf};
@@ -42,7 +41,7 @@ enum Destination {
 // ---- the plan's axes
 
 // The axes of the plan, their extents and strides written into arrays of zeros. Their number is answered.
-fn axes_into(
+pub fn axes_into(
     extents: &[u64],
     strides: &[i64],
     operands: usize,

@@ -1,2 +1,2 @@
--- Laws that several proofs use.
+-- Laws that belong to no one function.
 pub mod Loads

@@ -1,32 +1,35 @@
--- The load and the tests of the fit, by the numbers of live axes. Assumes nothing.
-use mathlib.Core.Path.{_≡_, refl, sym, ap, ap₂, subst, _∙_}
+-- The fit's definitions by the two numbers of live axes, which is how the code knows them: what each operand adds to the load, which axes
+-- enter a product, which are shortened. And the load grows with each block. Assumes nothing.
+use mathlib.Core.Path.{_≡_, refl, sym, ap, _∙_}
 use mathlib.Core.List.{List}
 use mathlib.Core.Logic.{⊎-elim}
-use mathlib.Core.Bool.{Bool, true, false, cond, not, _&&_, _||_}
-use Prim.Native.Nat.{ℕ, _+_, _<_, _≤_}
+use mathlib.Core.Bool.{Bool, true, false, cond, not, _&&_}
+use Prim.Native.Nat.{ℕ, _<_, _≤_}
 use native.Mathlib.Nat.{add-le-add, le-refl}
 use native.Mathlib.Omega.{arith}
 use lib.Dec.{ltb, leb, eqb}
 use lib.ListN.{getD, set}
 use lib.Seq.{set-set}
-use borrow.Author.Tests.{ltb-true, lt-ltb, le-ltb, ne-eqb}
-use Rattle.strided.specs.Base.{sum, product, seek, greatest}
+use borrow.Author.Tests.{ltb-true, ltb-false, lt-ltb, le-ltb, ne-eqb}
+use Rattle.strided.specs.Base.{sum, product, greatest}
 use Rattle.strided.specs.Region.{line, live, byteAt}
 use Rattle.strided.specs.Fit.{reuse, counts, aliases, factor, loadOf, load, entersOf, enters, shortens, mostOf}
-use Rattle.laws.specs.Cut.Ranges.{le-or-lt, true-or-false, cond-true, cond-false, cond-mono, product-termwise, seek-le}
+use Rattle.laws.specs.Cut.Ranges.{true-or-false, cond-true, cond-false, cond-mono, product-termwise, seek-le}
 use Rattle.laws.specs.Cut.Grow.{set-mono}
 use Rattle.l1.specs.Live.{liveAxes, productOf, Of, loadBy, entersBy, shortensBy, mostBy}
 use Rattle.l1.specs.declared.L1Sets.{L1Sets}
+
+and-second : (a b c : Bool) → a && (b && c) ≡ true → b ≡ true
+and-second true true c e = refl
+and-second true false c e = e
+and-second false b c e = absurd (let z : _≡_ {A = ℕ} 0 1 = cc in omega arith)
+
+-- ---- one operand's live axes
 
 module _ (bytes sizes : List ℕ) (rank k : ℕ) where
   reuse-le : reuse bytes rank k ≤ rank
   unfolding reuse
   reuse-le = omega (arith, seek-le (λ i. ltb (byteAt bytes k i) line) 0 rank)
-
-  and-second : (a b c : Bool) → a && (b && c) ≡ true → b ≡ true
-  and-second true true c e = refl
-  and-second true false c e = e
-  and-second false b c e = absurd (let z : _≡_ {A = ℕ} 0 1 = cc in omega arith)
 
   -- an operand that counts has a live axis
   counts-above : counts bytes sizes rank k ≡ true → 0 < reuse bytes rank k
@@ -36,11 +39,11 @@ module _ (bytes sizes : List ℕ) (rank k : ℕ) where
 
   live-counted : counts bytes sizes rank k ≡ true → liveAxes bytes sizes rank k ≡ reuse bytes rank k
   unfolding liveAxes
-  live-counted e = cond-true (counts bytes sizes rank k) (reuse bytes rank k) 0 e
+  live-counted e = rw e
 
   live-not : counts bytes sizes rank k ≡ false → liveAxes bytes sizes rank k ≡ 0
   unfolding liveAxes
-  live-not e = cond-false (counts bytes sizes rank k) (reuse bytes rank k) 0 e
+  live-not e = rw e
 
   pub live-le : liveAxes bytes sizes rank k ≤ rank
   live-le = ⊎-elim
@@ -53,20 +56,13 @@ module _ (bytes sizes : List ℕ) (rank k : ℕ) where
   unfolding liveAxes counts
   live-empty e = rw e
 
-  none-either : (t : Bool) (r : ℕ) → (t ≡ false → r ≡ 0) → cond t r 0 ≡ r
-  none-either true r h = refl
-  none-either false r h = sym (h refl)
-
   pub live-some : eqb (getD sizes k 0) 0 ≡ false → reuse bytes rank k < rank → liveAxes bytes sizes rank k ≡ reuse bytes rank k
   unfolding liveAxes counts
   live-some e h = rw (e, lt-ltb (reuse bytes rank k) rank h) (go (ltb 0 (reuse bytes rank k)) refl)
     where
       go : (t : Bool) → ltb 0 (reuse bytes rank k) ≡ t → cond (t && true) (reuse bytes rank k) 0 ≡ reuse bytes rank k
       go true q = refl
-      go false q = ⊎-elim
-          (λ (z : reuse bytes rank k ≤ 0). omega arith)
-          (λ (z : 0 < reuse bytes rank k). absurd (let w : true ≡ false = sym (lt-ltb 0 (reuse bytes rank k) z) ∙ q in let y : _≡_ {A = ℕ} 0 1 = cc in omega arith))
-          (le-or-lt (reuse bytes rank k) 0)
+      go false q = omega (arith, ltb-false 0 (reuse bytes rank k) q)
 
   pub live-none : rank ≤ reuse bytes rank k → liveAxes bytes sizes rank k ≡ 0
   unfolding liveAxes counts
@@ -81,23 +77,20 @@ module _ (bytes sizes : List ℕ) (rank k : ℕ) where
   pub load-of : (b : List ℕ) → loadOf bytes sizes rank b k ≡ productOf bytes b k (liveAxes bytes sizes rank k)
   unfolding loadOf productOf
   load-of b =
-      let p : ℕ → ℕ = product (factor bytes b k) 0 in
-      ⊎-elim
-      (λ e.
       let r : ℕ = reuse bytes rank k in
-      let h = counts-above e in
-      cond-true (counts bytes sizes rank k) (p r) 0 e
-      ∙ sym (ap (λ (x : ℕ). cond (eqb x 0) 0 (p x)) (live-counted e) ∙ cond-false (eqb r 0) 0 (p r) (ne-eqb r 0 (λ z. absurd (omega arith)))))
-      (λ e. cond-false (counts bytes sizes rank k) (p (reuse bytes rank k)) 0 e ∙ sym (ap (λ (x : ℕ). cond (eqb x 0) 0 (p x)) (live-not e)))
+      let p : ℕ = product (factor bytes b k) 0 r in
+      ⊎-elim
+      (λ e. let h = counts-above e in cond-true (counts bytes sizes rank k) p 0 e ∙ rw (live-counted e, ne-eqb r 0 (λ z. absurd (omega arith))))
+      (λ e. cond-false (counts bytes sizes rank k) p 0 e ∙ rw (live-not e))
       (true-or-false (counts bytes sizes rank k))
 
   pub enters-of : (i : ℕ) → entersOf bytes sizes rank i k ≡ ltb i (liveAxes bytes sizes rank k) && aliases (byteAt bytes k i)
   unfolding entersOf
   enters-of i =
-      let al : Bool = aliases (byteAt bytes k i) in
+      let within : Bool = ltb i (reuse bytes rank k) && aliases (byteAt bytes k i) in
       ⊎-elim
-      (λ e. ap (λ (t : Bool). t && (ltb i (reuse bytes rank k) && al)) e ∙ ap (λ (x : ℕ). ltb i x && al) (sym (live-counted e)))
-      (λ e. ap (λ (t : Bool). t && (ltb i (reuse bytes rank k) && al)) e ∙ ap (λ (t : Bool). t && al) (sym (ap (ltb i) (live-not e) ∙ le-ltb i 0 (omega arith))))
+      (λ e. ap (λ (t : Bool). t && within) e ∙ rw (live-counted e))
+      (λ e. ap (λ (t : Bool). t && within) e ∙ rw (live-not e, le-ltb i 0 (omega arith)))
       (true-or-false (counts bytes sizes rank k))
 
 -- ---- the definitions by the live axes
@@ -111,22 +104,15 @@ module _ (bytes sizes : List ℕ) (rank : ℕ) (s : L1Sets) (is : Of bytes sizes
 
   pub load-by : (b : List ℕ) → load bytes sizes rank b ≡ loadBy bytes s b
   unfolding load sum
-  load-by b =
-      ap₂ (λ (x y : ℕ). 0 + x + y)
-      (load-of bytes sizes rank 0 b ∙ ap (productOf bytes b 0) (sym (is .first)))
-      (load-of bytes sizes rank 1 b ∙ ap (productOf bytes b 1) (sym (is .second)))
-      ∙ omega arith
+  load-by b = rw (is .first, is .second, load-of bytes sizes rank 0 b, load-of bytes sizes rank 1 b) (omega arith)
 
   enters-by : (i : ℕ) → enters bytes sizes rank i ≡ entersBy bytes s i
   unfolding enters
-  enters-by i =
-      ap₂ (λ (x y : Bool). x || y)
-      (enters-of bytes sizes rank 0 i ∙ ap (λ (x : ℕ). ltb i x && aliases (byteAt bytes 0 i)) (sym (is .first)))
-      (enters-of bytes sizes rank 1 i ∙ ap (λ (x : ℕ). ltb i x && aliases (byteAt bytes 1 i)) (sym (is .second)))
+  enters-by i = rw (is .first, is .second, enters-of bytes sizes rank 0 i, enters-of bytes sizes rank 1 i)
 
   pub shortens-by : (chosen : ℕ → ℕ) (b : List ℕ) (i : ℕ) → shortens bytes sizes rank chosen b i ≡ shortensBy bytes s chosen b i
   unfolding shortens shortensBy
-  shortens-by chosen b i = ap (λ (x : Bool). not (eqb (chosen i) 0) && (x && ltb 1 (getD b i 0))) (enters-by i)
+  shortens-by chosen b i = rw (enters-by i)
 
   -- also where the block has been put at 1 before
   pub most-by : (b : List ℕ) (i v : ℕ) → mostOf bytes sizes rank b i ≡ mostBy bytes s (set b i v) i (getD b i 0)

@@ -1,63 +1,67 @@
--- The table of byte strides, filled row by row. Assumes nothing.
-use mathlib.Core.Path.{_≡_, refl, sym, ap, ap₂, _∙_}
-use mathlib.Core.List.{List, [], _∷_, _++_, map, append-assoc, append-nil}
-use Prim.Native.Nat.{ℕ, zero, suc, _+_, _*_, _≤_, _<_}
+-- The table of byte strides, filled row by row and read back. Behind the plan's axes it holds 0, where the definition's table may not: no rule
+-- looks there. Assumes nothing.
+use mathlib.Core.Path.{_≡_, sym, ap, _∙_}
+use mathlib.Core.List.{List, [], _++_, map, append-nil}
+use Prim.Native.Nat.{ℕ, _+_, _*_, _≤_, _<_}
 use native.Mathlib.Nat.{zero-add}
 use native.Mathlib.Numerals.{add-one}
 use native.Mathlib.Omega.{arith}
 use lib.IntN.{ℤ}
-use lib.ListN.{length, getD, set, length-append}
+use lib.ListN.{length, getD, set, take}
+use lib.Seq.{take-all}
 use Rattle.strided.specs.Base.{padded, over, run}
 use Rattle.strided.specs.Region.{byteAt}
 use Rattle.laws.specs.Base.Arrays.{length-padded, getD-padded, getD-rows}
-use Rattle.laws.specs.Base.Filling.{fill-none, fill-at, length-rows}
-use Rattle.laws.specs.Base.Stores.{set-behind, padded-row}
+use Rattle.laws.specs.Base.Lists.{getD-run}
+use Rattle.laws.specs.Base.Filling.{fill-at, length-rows}
+use Rattle.laws.specs.Base.Stores.{fill-next, padded-row}
 use Rattle.laws.specs.Fuse.Arrays.{rows-more, length-rows as length-over}
 use Rattle.model.specs.ByteRows.{byteOf, byteRow, byteRows}
 use Rattle.model.specs.Plannable.{Bytes}
 
--- one more by the rule
-map-more : (f : ℕ → ℕ) (n s : ℕ) → map f (run s (suc n)) ≡ map f (run s n) ++ (f (s + n) ∷ [])
-map-more f zero s = let e : s + 0 ≡ s = omega arith in rw e
-map-more f (suc n) s = let e : s + suc n ≡ suc s + n = omega arith in rw e (ap (λ (r : List ℕ). f s ∷ r) (map-more f n (suc s)))
-
 module _ (sizes : List ℕ) (strides : List ℤ) (rank : ℕ) where
-  -- the rows before k, and the first i places of row k
-  abbrev pub Filling : ℕ → ℕ → List ℕ → Type 0
-  Filling k i t = t ≡ padded 512 0 (over (run 0 k) (byteRow sizes strides rank) ++ map (byteOf sizes strides k) (run 0 i))
+  -- the rows before operand k's, and its own without the padding
+  front : ℕ → List ℕ
+  front k = over (run 0 k) (byteRow sizes strides rank)
+
+  own : ℕ → List ℕ
+  own k = map (byteOf sizes strides k) (run 0 rank)
+
+  front-long : (k : ℕ) → length (front k) ≡ k * 64
+  unfolding front
+  front-long k = length-over (byteRow sizes strides rank) 64 0 k (λ j. length-padded 0 64 (map (byteOf sizes strides j) (run 0 rank)))
+
+  own-long : (k : ℕ) → length (own k) ≡ rank
+  unfolding own
+  own-long k = length-rows (byteOf sizes strides k) 0 rank
+
+  -- the rows before k stand, and the first i places of row k
+  pub Filling : ℕ → ℕ → List ℕ → Type 0
+  Filling k i t = t ≡ padded 512 0 (front k ++ take i (own k))
 
   pub rows-none : (t : List ℕ) → t ≡ padded 512 0 [] → t ≡ byteRows sizes strides rank 0
   unfolding byteRows
   rows-none t e = e
 
   pub row-first : (k : ℕ) (t : List ℕ) → t ≡ byteRows sizes strides rank k → Filling k 0 t
-  unfolding byteRows
+  unfolding byteRows front Filling
   row-first k t e = e ∙ ap (padded 512 0) (sym (append-nil (over (run 0 k) (byteRow sizes strides rank))))
 
-  front-long : (k : ℕ) → length (over (run 0 k) (byteRow sizes strides rank)) ≡ k * 64
-  front-long k = length-over (byteRow sizes strides rank) 64 0 k (λ j. length-padded 0 64 (map (byteOf sizes strides j) (run 0 rank)))
-
-  pub row-turn : (k i : ℕ) (t : List ℕ) (v : ℕ) → k < 8 → i < 64 → Filling k i t → v ≡ byteOf sizes strides k i → Filling k (i + 1) (set t (k * 64 + i) v)
-  row-turn k i t v h l f e =
-      let front : List ℕ = over (run 0 k) (byteRow sizes strides rank) in
-      let done : List ℕ = map (byteOf sizes strides k) (run 0 i) in
-      let long : length (over (run 0 k) (byteRow sizes strides rank) ++ map (byteOf sizes strides k) (run 0 i)) ≡ k * 64 + i =
-      length-append front done ∙ ap₂ (λ (a b : ℕ). a + b) (front-long k) (length-rows (byteOf sizes strides k) 0 i) in
-      ap₂ (λ (x : List ℕ) (j : ℕ). set x j v) f (sym long)
-      ∙ set-behind 0 512 (front ++ done) v (omega (arith, long))
-      ∙ ap (padded 512 0)
-      (append-assoc front done (v ∷ [])
-      ∙ ap (λ (r : List ℕ). front ++ r) (ap (λ (x : ℕ). done ++ (x ∷ [])) (e ∙ ap (byteOf sizes strides k) (sym (zero-add i))) ∙ sym (map-more (byteOf sizes strides k) i 0) ∙ ap (λ (n : ℕ). map (byteOf sizes strides k) (run 0 n)) (sym (add-one i))))
+  pub row-turn : (k i : ℕ) (t : List ℕ) (v : ℕ) → k < 8 → i < rank → rank ≤ 64 → Filling k i t → v ≡ byteOf sizes strides k i → Filling k (i + 1) (set t (k * 64 + i) v)
+  unfolding own Filling
+  row-turn k i t v h l axes f e =
+      let z : 0 + i ≡ i = omega arith in
+      let at : k * 64 + i ≡ length (front k) + i = omega (arith, front-long k) in
+      let is : v ≡ getD (map (byteOf sizes strides k) (run 0 rank)) i 0 = e ∙ sym (getD-run (byteOf sizes strides k) 0 rank 0 i l ∙ ap (byteOf sizes strides k) z) in
+      rw (f, at, is) (fill-next 0 512 (front k) (map (byteOf sizes strides k) (run 0 rank)) i (omega (arith, front-long k, own-long k)) (omega (arith, own-long k)))
 
   pub row-done : (k i : ℕ) (t : List ℕ) → k < 8 → rank ≤ 64 → i ≡ rank → Filling k i t → t ≡ byteRows sizes strides rank (k + 1)
-  unfolding byteRows
+  unfolding byteRows front own Filling
   row-done k i t h l e f =
-      let front : List ℕ = over (run 0 k) (byteRow sizes strides rank) in
-      let row : List ℕ = map (byteOf sizes strides k) (run 0 rank) in
       f
-      ∙ ap (λ (n : ℕ). padded 512 0 (front ++ map (byteOf sizes strides k) (run 0 n))) e
-      ∙ sym (padded-row 0 512 64 front row (omega (arith, front-long k)) (omega (arith, length-rows (byteOf sizes strides k) 0 rank)))
-      ∙ ap (padded 512 0) (ap (λ (j : ℕ). front ++ byteRow sizes strides rank j) (sym (zero-add k)) ∙ sym (rows-more (byteRow sizes strides rank) 0 k) ∙ ap (λ (n : ℕ). over (run 0 n) (byteRow sizes strides rank)) (sym (add-one k)))
+      ∙ ap (λ (r : List ℕ). padded 512 0 (front k ++ r)) (take-all i (own k) (omega (arith, own-long k)))
+      ∙ sym (padded-row 0 512 64 (front k) (own k) (omega (arith, front-long k)) (omega (arith, own-long k)))
+      ∙ ap (padded 512 0) (ap (λ (j : ℕ). front k ++ byteRow sizes strides rank j) (sym (zero-add k)) ∙ sym (rows-more (byteRow sizes strides rank) 0 k) ∙ ap (λ (n : ℕ). over (run 0 n) (byteRow sizes strides rank)) (sym (add-one k)))
 
   -- what is read from the whole table
   pub rows-read : (m : ℕ) (t : List ℕ) → m ≡ length sizes → m ≤ 8 → rank ≤ 64 → t ≡ byteRows sizes strides rank m → Bytes sizes strides rank t

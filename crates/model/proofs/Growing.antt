@@ -1,11 +1,11 @@
--- Growing strides, by the tests of the code. Assumes nothing.
-use mathlib.Core.Path.{_≡_, refl, sym, ap, ap₂, subst, _∙_}
-use mathlib.Core.Bool.{Bool, true, false, _&&_}
+-- Strictly growing strides, by the tests in the order of the code: the first stride, one stride against the one before, one operand of all.
+-- Assumes nothing.
+use mathlib.Core.Path.{_≡_, sym, ap, _∙_}
+use mathlib.Core.Bool.{Bool, true, false}
 use mathlib.Core.List.{List}
 use Prim.Native.Nat.{ℕ, suc, _+_, _-_, _*_, _≤_, _<_}
 use native.Mathlib.Nat.{add-zero}
 use native.Mathlib.Omega.{arith}
-use lib.Dec.{ltb}
 use lib.IntN.{ℤ, pos, natAbs}
 use lib.ListN.{getD}
 use borrow.Author.Tests.{lt-ltb, le-ltb}
@@ -21,11 +21,11 @@ first-stride strides k = ap (λ (j : ℕ). natAbs (getD strides j (pos 0))) (sym
 module _ (strides : List ℤ) (rank k : ℕ) where
   pub increasing-zero : strideSize strides k 0 ≤ 0 → increasing strides rank k ≡ false
   unfolding increasing
-  increasing-zero h = ap (λ (t : Bool). t && every (rises strides k) 0 (rank - 1)) (le-ltb 0 (strideSize strides k 0) h)
+  increasing-zero h = rw (le-ltb 0 (strideSize strides k 0) h)
 
   pub increasing-rest : (r : Bool) → 0 < strideSize strides k 0 → every (rises strides k) 0 (rank - 1) ≡ r → increasing strides rank k ≡ r
   unfolding increasing
-  increasing-rest r h e = ap (λ (t : Bool). t && every (rises strides k) 0 (rank - 1)) (lt-ltb 0 (strideSize strides k 0) h) ∙ e
+  increasing-rest r h e = rw (lt-ltb 0 (strideSize strides k 0) h) e
 
   -- stride i is not above the one before, or it is
   at-one : (i : ℕ) → 1 ≤ i → strideSize strides k (suc (i - 1)) ≡ strideSize strides k i
@@ -54,5 +54,4 @@ module _ (strides : List ℤ) (rank k : ℕ) where
   pub grows-is : (sizes : List ℕ) → 0 < getD sizes k 0 → grows sizes strides rank k ≡ increasing strides rank k
   unfolding grows increasing
   grows-is sizes h =
-      rw (lt-ltb 0 (getD sizes k 0) h)
-      (ap (λ (x : ℕ). ltb 0 x && every (rises strides k) 0 (rank - 1)) (first-stride strides k))
+      rw (lt-ltb 0 (getD sizes k 0) h, first-stride strides k)

@@ -1,4 +1,4 @@
--- Laws that several proofs use.
+-- Laws that belong to no one function.
 pub mod Filled
 pub mod Growing
 pub mod Rooms

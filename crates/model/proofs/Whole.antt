@@ -1,8 +1,9 @@
--- The cases of `cutBlocks`, over the table that the code makes. Assumes nothing.
-use mathlib.Core.Path.{_≡_, refl, sym, ap, ap₂, _∙_}
+-- The cases of `cutBlocks`, by the tests of the code and over the table that the code makes: the exits, declining, the fit.
+-- That the definition's table says the same is handed in as `same`. Assumes nothing.
+use mathlib.Core.Path.{_≡_, refl, sym, ap, _∙_}
 use mathlib.Core.Bool.{Bool, true, false, cond, _||_}
 use mathlib.Core.List.{List}
-use Prim.Native.Nat.{ℕ, _+_, _≤_, _<_}
+use Prim.Native.Nat.{ℕ}
 use native.Mathlib.Omega.{arith}
 use lib.Dec.{leb, eqb}
 use lib.IntN.{ℤ}
@@ -17,7 +18,6 @@ use Rattle.strided.specs.Fit.{fitted}
 use Rattle.strided.specs.Plan.{grows, fittedFor, cutBlocks}
 use Rattle.strided.specs.declared.Purpose.{Purpose}
 use Rattle.strided.specs.declared.Purpose.the-variants.{Pointwise, PointwiseInto, Fold}
-use Rattle.laws.specs.Cut.Ranges.{cond-true, cond-false}
 use Rattle.laws.specs.Cut.Same.{SameBytes, SameCosts, SameRanks, region-same, cutting-same, fitted-same}
 use Rattle.laws.specs.Cut.Tables.{strideSize}
 use Rattle.model.specs.Exits.{inOrder, exits}

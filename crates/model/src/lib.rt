@@ -1,5 +1,5 @@
 // The blocks of a plan whose total is above 1,024: the model's exits that keep every axis whole, cutting, declining, and the L1 fit of a
-// copy. All tables hold operand k's entry for axis i at place k * 64 + i.
+// copy. Strides and byte strides stand in flat tables, operand k's for axis i at place k * 64 + i.
 use block::compute_blocks_at;
 use decline::declines_tiles;
 use l1::L1Sets;
@@ -8,7 +8,7 @@ use region::memory_region;
 use shrink::BLOCK_MEMORY_SIZE;
 use strided::Purpose;
 ghost use mathlib.Core.Path.{_≡_};
-ghost use Prim.Native.Nat.{ℕ, _+_, _<_, _≤_};
+ghost use Prim.Native.Nat.{_+_, _<_, _≤_};
 ghost use lib.Dec.{leb};
 ghost use lib.ListN.{length, replicate};
 ghost use Rattle.strided.specs.Base.{every};

@@ -8,7 +8,7 @@ use lib.ListN.{length, take}
 use Rattle.strided.specs.Base.{padded}
 use Rattle.strided.specs.Layout.{Axis, noAxis, extents, axesOf}
 use Rattle.strided.specs.Order.{pick, fusingOrder}
-use Rattle.strided.specs.Fuse.{fuse, fusedAxes, planAxes}
+use Rattle.strided.specs.Fuse.{fuse, planAxes}
 use Rattle.strided.specs.Plan.{strideTable}
 use Rattle.strided.specs.Costs.{costs}
 use Rattle.strided.specs.declared.Purpose.{Purpose}
@@ -16,7 +16,7 @@ use Rattle.laws.specs.Fuse.Maps.{plan-short}
 use Rattle.laws.specs.Fuse.Places.{axesBy}
 use Rattle.auxiliary.specs.Fitting.{Fitting}
 use Rattle.arrange.specs.Axes.{InOrder}
-use Rattle.arrange.specs.Fusing.{take-order, as-planned, in-order}
+use Rattle.arrange.specs.Fusing.{take-order, in-order}
 use Rattle.fuse.proofs.Planning.{put-axes}
 use Rattle.parts.specs.Answers.{fusedExtents, planCosts}
 
@@ -32,9 +32,6 @@ module _ (es : List ℕ) (m : ℕ) (ss : List ℤ) (u : Purpose) (fits : Fitting
         fused
         ∙ ap (λ (xs : List Axis). padded 64 0 (extents (fuse xs)))
         (put-axes ordered put ∙ ap (pick noAxis (axesOf es m ss)) (take-order es m ss u (fits .rank-few) is))
-
-    pub axes-made : {A : Type 0} (f : List Axis → A) {x : A} → x ≡ f (fusedAxes (pick noAxis (axesOf es m ss) (take (length es) order))) → x ≡ f (planAxes es m ss u)
-    axes-made f q = as-planned es m ss u (fits .rank-few) is f q
 
   module _ {rank : ℕ} (number : rank ≡ length (planAxes es m ss u)) where
     pub few-made : rank ≤ 64

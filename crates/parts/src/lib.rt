@@ -5,7 +5,6 @@
 ghost use mathlib.Core.Path.{_≡_};
 ghost use mathlib.Core.List.{map, [], _∷_};
 ghost use Prim.Native.Nat.{_<_};
-ghost use lib.IntN.{pos};
 ghost use lib.ListN.{length, replicate};
 ghost use Rattle.strided.specs.Base.{padded};
 ghost use Rattle.strided.specs.Layout.{lead, extents as extentsOf};
@@ -21,8 +20,8 @@ use arrange::pick_into;
 use auxiliary::rank_table_into;
 use fuse::compute_costs;
 use fuse::fuse_dims;
-use fuse::plan_axes;
 use importance::compute_importance;
+use kernel::axes_into;
 use layout::check_layout;
 use layout::lead;
 use layout::number;
@@ -186,25 +185,6 @@ fn fused_extents(
     fuse_dims(fused, strides, rank, operands, &order, rank);
 }
 
-// The axes of the plan, written into arrays of zeros. Answers how many there are.
-fn axes_of(
-    extents: &[u64],
-    strides: &[i64],
-    operands: usize,
-    purpose: Purpose,
-    es: &mut [u64; 64],
-    table: &mut [i64; 512],
-) -> usize
-    requires layout { ⌜ Fitting (now strides) (length (now extents)) operands ⌝ }
-    requires zeros { ⌜ (now es ≡ replicate 64 0) × (now table ≡ replicate 512 (pos 0)) ⌝ }
-    ensures rank { λ r. ⌜ r ≡ length (planAxes (now (extents .entry)) operands (now (strides .entry)) purpose) ⌝ }
-    ensures extents { λ _. ⌜ now (es .exit) ≡ padded 64 0 (extentsOf (planAxes (now (extents .entry)) operands (now (strides .entry)) purpose)) ⌝ }
-    ensures strides { λ _. ⌜ now (table .exit) ≡ strideTable (planAxes (now (extents .entry)) operands (now (strides .entry)) purpose) operands ⌝ }
-{
-    let order = fusing_order(extents, strides, operands, purpose);
-    plan_axes(extents, strides, operands, &order, es, table)
-}
-
 // The costs of the plan's axes.
 fn costs_of(extents: &[u64], strides: &[i64], operands: usize, purpose: Purpose) -> [u64; 64]
     requires layout { ⌜ Fitting (now strides) (length (now extents)) operands ⌝ }
@@ -213,7 +193,7 @@ fn costs_of(extents: &[u64], strides: &[i64], operands: usize, purpose: Purpose)
 {
     let mut es = [0u64; 64];
     let mut table = [0i64; 512];
-    let rank = axes_of(extents, strides, operands, purpose, &mut es, &mut table);
+    let rank = axes_into(extents, strides, operands, purpose, &mut es, &mut table);
     compute_costs(&table, operands, rank)
 }
 
@@ -264,7 +244,7 @@ pub extern "C" fn parts_axes<'a>(
         Answer::Served => {
             *kept = [0u64; 64];
             *table = [0i64; 512];
-            let rank = axes_of(extents, strides, sizes.len(), purpose, kept, table);
+            let rank = axes_into(extents, strides, sizes.len(), purpose, kept, table);
             *count = [rank];
             0
         }

@@ -1,7 +1,7 @@
 // The memory region of a tile: an estimate of the bytes that it touches, in whole cache lines. Strides below a line fill contiguous lines,
-// larger ones multiply them. Numbers above 65,536 are not told apart: both limits that regions are held against are below.
+// larger ones multiply them. Numbers above 65,536 are not told apart: no limit that regions are held against is greater.
 ghost use mathlib.Core.Path.{_≡_};
-ghost use Prim.Native.Nat.{ℕ, _+_, _-_, _*_, _<_, _≤_, min};
+ghost use Prim.Native.Nat.{_+_, _-_, _*_, _<_, _≤_, min};
 ghost use Rattle.strided.specs.Region.{regionOf, region};
 ghost use Rattle.laws.specs.Cut.Saturate.{cap};
 

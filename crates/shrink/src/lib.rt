@@ -3,14 +3,14 @@
 use region::less_one;
 use region::memory_region;
 ghost use mathlib.Core.Path.{_≡_};
-ghost use Prim.Native.Nat.{ℕ, _+_, _-_, _/_, _≤_};
+ghost use Prim.Native.Nat.{_+_, _-_, _/_, _≤_};
 ghost use Rattle.strided.specs.Cut.{score, greatestScore, halved, lessened, shrunk};
 ghost use Rattle.laws.specs.Cut.Steps.{ScoresFit};
 ghost use Rattle.laws.specs.Cut.Picks.{topOf};
 ghost use Rattle.laws.specs.Cut.Jump.{clippedOver};
 ghost use Rattle.shrink.specs.Picked.{picked};
 
-// Half of a typical L1 data cache: a tile of this size leaves room for what else is live.
+// The size of a typical L1 data cache, which the blocks of a tile are to fit.
 pub const BLOCK_MEMORY_SIZE: u64 = 32768;
 
 // Blocks are halved while the region is at least this; the rest is taken off one by one.

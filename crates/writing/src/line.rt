@@ -1,6 +1,6 @@
 // Lines of fields, measured and written: a letter, numbers, signed numbers, LF. The lines K, A, B, Z and R are such lines.
 ghost use mathlib.Core.Path.{_≡_};
-ghost use Prim.Native.Nat.{_+_, _*_, _≤_};
+ghost use Prim.Native.Nat.{_+_, _≤_};
 ghost use lib.ListN.{length};
 ghost use Rattle.strided.specs.Base.{over};
 ghost use Rattle.strided.specs.Text.{field, signedField, lineOf, rankLine, axisLine, blockLine};

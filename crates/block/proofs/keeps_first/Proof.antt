@@ -1,7 +1,9 @@
--- A loop tests the operands in turn against the least rank.
+-- `block::keeps_first` meets its contract. The invariant: the first rank of each operand before k is the least one.
+-- Assumes nothing.
 use native.Mathlib.Omega.{arith}
 use mathlib.Core.Path.{_≡_, sym, ap, _∙_}
-use mathlib.Core.Bool.{true}
+use mathlib.Core.Bool.{Bool, true}
+use mathlib.Core.List.{List}
 use Prim.Native.Nat.{ℕ, _-_, _≤_}
 use lib.Dec.{eqb}
 use borrow.Author.Tests.{eq-eqb, ne-eqb}
@@ -10,12 +12,13 @@ use Rattle.strided.specs.Cut.{rankAt, keepsFirst}
 use Rattle.laws.specs.Cut.Ranges.{every-none, every-more, every-fails-at}
 use Rattle.block.proofs.keeps_first.Statement.{statement}
 use Rattle.block.proofs.keeps_first.Tie as tie
-use Rattle.block.proofs.keeps_first.Reads as reads
-use Rattle.block.proofs.keeps_first.Lts as lts
-use Rattle.block.proofs.least_rank.Reads as least-rank-reads
+
+-- whether operand j's first rank is m
+abbrev firstIs : List (List ℕ) → ℕ → ℕ → ℕ → Bool
+firstIs ranks offset m j = eqb (rankAt ranks j offset) m
 
 abbrev Inv-loop : tie.InvT-loop
-Inv-loop ranks operands offset rank m k₀ k = (k ≤ operands) × (every (λ j. eqb (rankAt ranks j offset) m) 0 k ≡ true)
+Inv-loop ranks operands offset rank m k₀ k = (k ≤ operands) × (every (firstIs ranks offset m) 0 k ≡ true)
 
 abbrev μ-loop : tie.MeasureT-loop
 μ-loop ranks operands offset rank m k₀ k = operands - k
@@ -43,8 +46,8 @@ unfolding keepsFirst
 returns c = let a = c .before .before .before .before .before .args in
     let l = c .before .before .before .loop in
     let q = c .before .before .before .before .least-rank in
-    sym (ap (λ (m : ℕ). every (λ j. eqb (rankAt (a .ranks .now) j (a .offset)) m) 0 (a .operands)) (sym (q .ensures))
-    ∙ every-fails-at (λ j. eqb (rankAt (a .ranks .now) j (a .offset)) (q .result)) 0 (l .k) (a .operands) (omega arith) (omega arith) (ne-eqb _ _ (c .if1 .taken)))
+    sym (ap (λ (m : ℕ). every (firstIs (a .ranks .now) (a .offset) m) 0 (a .operands)) (sym (q .ensures))
+    ∙ every-fails-at (firstIs (a .ranks .now) (a .offset) (q .result)) 0 (l .k) (a .operands) (omega arith) (omega arith) (ne-eqb _ _ (c .if1 .taken)))
 
 add-k : tie.Need-add-k Inv-loop μ-loop
 add-k c = omega arith
@@ -56,7 +59,7 @@ loop-again : tie.Need-loop-again Inv-loop μ-loop
 loop-again c = let a = c .before .before .before .before .before .args in
     let l = c .before .before .before .loop in
     let m : ℕ = c .before .before .before .before .least-rank .result in
-    (omega arith, every-more (λ j. eqb (rankAt (a .ranks .now) j (a .offset)) m) (l .k) (eq-eqb _ _ (c .if1 .left)) ∙ l .inv .1)
+    (omega arith, every-more (firstIs (a .ranks .now) (a .offset) m) (l .k) (eq-eqb _ _ (c .if1 .left)) ∙ l .inv .1)
 
 returns-2 : tie.Need-returns-2 Inv-loop μ-loop
 unfolding keepsFirst
@@ -64,8 +67,8 @@ returns-2 c = let a = c .before .before .before .args in
     let l = c .before .loop in
     let q = c .before .before .least-rank in
     let e : l .k ≡ a .operands = omega arith in
-    sym (ap (λ (m : ℕ). every (λ j. eqb (rankAt (a .ranks .now) j (a .offset)) m) 0 (a .operands)) (sym (q .ensures))
-    ∙ ap (every (λ j. eqb (rankAt (a .ranks .now) j (a .offset)) (q .result)) 0) (sym e) ∙ l .inv .1)
+    sym (ap (λ (m : ℕ). every (firstIs (a .ranks .now) (a .offset) m) 0 (a .operands)) (sym (q .ensures))
+    ∙ ap (every (firstIs (a .ranks .now) (a .offset) (q .result)) 0) (sym e) ∙ l .inv .1)
 
 pub keeps-first-spec : {M : Type 1} → statement M
 keeps-first-spec =

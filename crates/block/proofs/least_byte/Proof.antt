@@ -1,6 +1,8 @@
--- A loop keeps the least of the operands so far.
+-- `block::least_byte` meets its contract. The invariant: m is the least byte stride of the operands before k; there is one, operand 0.
+-- Assumes nothing.
 use native.Mathlib.Omega.{arith}
 use mathlib.Core.Path.{_≡_, sym, ap, _∙_}
+use mathlib.Core.List.{List}
 use mathlib.Core.Logic.{⊎-elim}
 use Prim.Native.Nat.{ℕ, _-_, _≤_, _<_}
 use Rattle.strided.specs.Base.{least}
@@ -9,12 +11,13 @@ use Rattle.strided.specs.Cut.{leastByte}
 use Rattle.laws.specs.Cut.Ranges.{least-first, least-more}
 use Rattle.block.proofs.least_byte.Statement.{statement}
 use Rattle.block.proofs.least_byte.Tie as tie
-use Rattle.block.proofs.least_byte.Reads as reads
-use Rattle.block.proofs.least_byte.Lts as lts
-use Rattle.block.proofs.least_byte_of.Reads as least-byte-of-reads
+
+-- the least byte stride of operand j in the tail
+abbrev leastOf : List ℕ → ℕ → ℕ → ℕ → ℕ
+leastOf bytes offset rank j = least (byteAt bytes j) offset (rank - offset)
 
 abbrev Inv-loop : tie.InvT-loop
-Inv-loop bytes operands offset rank m₀ k₀ m k = (0 < k) × (k ≤ operands) × (m ≡ least (λ j. least (byteAt bytes j) offset (rank - offset)) 0 k)
+Inv-loop bytes operands offset rank m₀ k₀ m k = (0 < k) × (k ≤ operands) × (m ≡ least (leastOf bytes offset rank) 0 k)
 
 abbrev μ-loop : tie.MeasureT-loop
 μ-loop bytes operands offset rank m₀ k₀ m k = operands - k
@@ -37,7 +40,7 @@ loop-less c = omega arith
 loop-again : tie.Need-loop-again Inv-loop μ-loop
 loop-again c = let a = c .before .before .before .before .before .args in
     let l = c .before .before .before .loop in
-    let st = least-more (λ j. least (byteAt (a .bytes .now) j) (a .offset) (a .rank - a .offset)) (l .k) (l .inv .0) in
+    let st = least-more (leastOf (a .bytes .now) (a .offset) (a .rank)) (l .k) (l .inv .0) in
     ⊎-elim (λ w. omega (arith, c .before .least-byte-of2 .ensures)) (λ w. omega (arith, c .before .least-byte-of2 .ensures)) (c .if1 .came)
 
 returns : tie.Need-returns Inv-loop μ-loop
@@ -45,7 +48,7 @@ unfolding leastByte
 returns c = let a = c .before .before .before .args in
     let l = c .before .loop in
     let e : l .k ≡ a .operands = omega arith in
-    l .inv .2 ∙ ap (least (λ j. least (byteAt (a .bytes .now) j) (a .offset) (a .rank - a .offset)) 0) e
+    l .inv .2 ∙ ap (least (leastOf (a .bytes .now) (a .offset) (a .rank)) 0) e
 
 pub least-byte-spec : {M : Type 1} → statement M
 least-byte-spec =

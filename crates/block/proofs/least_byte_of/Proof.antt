@@ -1,4 +1,5 @@
--- A loop keeps the least byte stride so far.
+-- `block::least_byte_of` meets its contract. The invariant: m is the least byte stride of the axes before i; there is one, the first.
+-- Assumes nothing.
 use native.Mathlib.Omega.{arith}
 use mathlib.Core.Path.{_≡_, sym, ap, _∙_}
 use mathlib.Core.Logic.{⊎-elim}
@@ -8,8 +9,6 @@ use Rattle.strided.specs.Region.{byteAt}
 use Rattle.laws.specs.Cut.Ranges.{least-one, least-step}
 use Rattle.block.proofs.least_byte_of.Statement.{statement}
 use Rattle.block.proofs.least_byte_of.Tie as tie
-use Rattle.block.proofs.least_byte_of.Reads as reads
-use Rattle.block.proofs.least_byte_of.Lts as lts
 
 abbrev Inv-loop : tie.InvT-loop
 Inv-loop bytes k offset rank m₀ i₀ m i = (offset < i) × (i ≤ rank) × (m ≡ least (byteAt bytes k) offset (i - offset))

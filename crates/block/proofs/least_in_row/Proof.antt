@@ -1,4 +1,5 @@
--- A loop keeps the least rank so far.
+-- `block::least_in_row` meets its contract. The invariant: m is the least rank of the axes before i; there is one, the first.
+-- Assumes nothing.
 use native.Mathlib.Omega.{arith}
 use mathlib.Core.Path.{_≡_, sym, ap, _∙_}
 use mathlib.Core.Logic.{⊎-elim}
@@ -8,8 +9,6 @@ use Rattle.strided.specs.Base.{least}
 use Rattle.laws.specs.Cut.Ranges.{least-one, least-step}
 use Rattle.block.proofs.least_in_row.Statement.{statement}
 use Rattle.block.proofs.least_in_row.Tie as tie
-use Rattle.block.proofs.least_in_row.Reads as reads
-use Rattle.block.proofs.least_in_row.Lts as lts
 
 abbrev Inv-loop : tie.InvT-loop
 Inv-loop row offset rank m₀ i₀ m i = (offset < i) × (i ≤ rank) × (m ≡ least (λ j. getD row j 0) offset (i - offset))

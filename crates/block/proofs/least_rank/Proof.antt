@@ -1,6 +1,8 @@
--- A loop keeps the least of the operands so far.
+-- `block::least_rank` meets its contract. The invariant: m is the least rank of the operands before k; there is one, operand 0.
+-- Assumes nothing.
 use native.Mathlib.Omega.{arith}
 use mathlib.Core.Path.{_≡_, sym, ap, _∙_}
+use mathlib.Core.List.{List}
 use mathlib.Core.Logic.{⊎-elim}
 use Prim.Native.Nat.{ℕ, _-_, _≤_, _<_}
 use Rattle.strided.specs.Base.{least}
@@ -8,12 +10,13 @@ use Rattle.strided.specs.Cut.{rankAt, leastRank}
 use Rattle.laws.specs.Cut.Ranges.{least-first, least-more}
 use Rattle.block.proofs.least_rank.Statement.{statement}
 use Rattle.block.proofs.least_rank.Tie as tie
-use Rattle.block.proofs.least_rank.Reads as reads
-use Rattle.block.proofs.least_rank.Lts as lts
-use Rattle.block.proofs.least_in_row.Reads as least-in-row-reads
+
+-- the least rank of operand j in the tail
+abbrev leastOf : List (List ℕ) → ℕ → ℕ → ℕ → ℕ
+leastOf ranks offset rank j = least (rankAt ranks j) offset (rank - offset)
 
 abbrev Inv-loop : tie.InvT-loop
-Inv-loop ranks operands offset rank m₀ k₀ m k = (0 < k) × (k ≤ operands) × (m ≡ least (λ j. least (rankAt ranks j) offset (rank - offset)) 0 k)
+Inv-loop ranks operands offset rank m₀ k₀ m k = (0 < k) × (k ≤ operands) × (m ≡ least (leastOf ranks offset rank) 0 k)
 
 abbrev μ-loop : tie.MeasureT-loop
 μ-loop ranks operands offset rank m₀ k₀ m k = operands - k
@@ -45,7 +48,7 @@ loop-less c = omega arith
 loop-again : tie.Need-loop-again Inv-loop μ-loop
 loop-again c = let a = c .before .before .before .before .before .before .before .args in
     let l = c .before .before .before .before .loop in
-    let st = least-more (λ j. least (rankAt (a .ranks .now) j) (a .offset) (a .rank - a .offset)) (l .k) (l .inv .0) in
+    let st = least-more (leastOf (a .ranks .now) (a .offset) (a .rank)) (l .k) (l .inv .0) in
     ⊎-elim (λ w. omega (arith, c .before .least-in-row2 .ensures)) (λ w. omega (arith, c .before .least-in-row2 .ensures)) (c .if1 .came)
 
 returns : tie.Need-returns Inv-loop μ-loop
@@ -53,7 +56,7 @@ unfolding leastRank
 returns c = let a = c .before .before .before .before .args in
     let l = c .before .loop in
     let e : l .k ≡ a .operands = omega arith in
-    l .inv .2 ∙ ap (least (λ j. least (rankAt (a .ranks .now) j) (a .offset) (a .rank - a .offset)) 0) e
+    l .inv .2 ∙ ap (least (leastOf (a .ranks .now) (a .offset) (a .rank)) 0) e
 
 pub least-rank-spec : {M : Type 1} → statement M
 least-rank-spec =

@@ -1,4 +1,4 @@
--- The invariant: the blocks before i are 1.
+-- `block::set_ones` meets its contract. The invariant: the blocks from offset to i are 1, the others as they were. Assumes nothing.
 use native.Mathlib.Omega.{arith}
 use mathlib.Core.Path.{_≡_, sym, ap, _∙_}
 use mathlib.Core.List.{List}

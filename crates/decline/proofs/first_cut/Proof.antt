@@ -1,5 +1,7 @@
--- A loop seeks from the first axis on.
+-- `decline::first_cut` meets its contract. The invariant: seeking on from axis i finds what is sought. Assumes nothing.
 use native.Mathlib.Omega.{arith}
+use mathlib.Core.Bool.{Bool}
+use mathlib.Core.List.{List}
 use mathlib.Core.Path.{_≡_, sym, ap, _∙_}
 use Prim.Native.Nat.{ℕ, _-_, _≤_}
 use native.Mathlib.Nat.{sub-zero}
@@ -11,18 +13,20 @@ use Rattle.strided.specs.Decline.{firstCut}
 use Rattle.laws.specs.Cut.Ranges.{seek-none, seek-hit, seek-miss}
 use Rattle.decline.proofs.first_cut.Statement.{statement}
 use Rattle.decline.proofs.first_cut.Tie as tie
-use Rattle.decline.proofs.first_cut.Reads as reads
-use Rattle.decline.proofs.first_cut.Lts as lts
+
+-- whether axis j is cut
+abbrev cutAt : List ℕ → List ℕ → ℕ → Bool
+cutAt extents blocks j = ltb (getD blocks j 0) (getD extents j 0)
 
 abbrev Inv-loop : tie.InvT-loop
-Inv-loop extents blocks rank i₀ i = (i ≤ rank) × (seek (λ j. ltb (getD blocks j 0) (getD extents j 0)) i (rank - i) ≡ firstCut extents blocks rank)
+Inv-loop extents blocks rank i₀ i = (i ≤ rank) × (seek (cutAt extents blocks) i (rank - i) ≡ firstCut extents blocks rank)
 
 abbrev μ-loop : tie.MeasureT-loop
 μ-loop extents blocks rank i₀ i = rank - i
 
 loop-holds : tie.Need-loop-holds Inv-loop μ-loop
 unfolding firstCut
-loop-holds c = (omega arith, ap (seek (λ j. ltb (getD (c .args .blocks .now) j 0) (getD (c .args .extents .now) j 0)) 0) (sub-zero (c .args .rank)))
+loop-holds c = (omega arith, ap (seek (cutAt (c .args .extents .now) (c .args .blocks .now)) 0) (sub-zero (c .args .rank)))
 
 mul-if1 : tie.Need-mul-if1 Inv-loop μ-loop
 mul-if1 c = omega arith
@@ -39,7 +43,7 @@ element-copy-out-if1-2 c = omega arith
 returns : tie.Need-returns Inv-loop μ-loop
 returns c = let a = c .before .before .before .before .before .args in
     let l = c .before .before .before .before .loop in
-    (sym (seek-hit (λ j. ltb (getD (a .blocks .now) j 0) (getD (a .extents .now) j 0)) (l .i) (a .rank) (omega arith) (lt-ltb _ _ (c .if1 .taken))) ∙ l .inv .1, omega arith)
+    (sym (seek-hit (cutAt (a .extents .now) (a .blocks .now)) (l .i) (a .rank) (omega arith) (lt-ltb _ _ (c .if1 .taken))) ∙ l .inv .1, omega arith)
 
 add-i : tie.Need-add-i Inv-loop μ-loop
 add-i c = omega arith
@@ -50,13 +54,12 @@ loop-less c = omega arith
 loop-again : tie.Need-loop-again Inv-loop μ-loop
 loop-again c = let a = c .before .before .before .before .before .args in
     let l = c .before .before .before .before .loop in
-    (omega arith, sym (seek-miss (λ j. ltb (getD (a .blocks .now) j 0) (getD (a .extents .now) j 0)) (l .i) (a .rank) (omega arith) (le-ltb _ _ (c .if1 .left))) ∙ l .inv .1)
+    (omega arith, sym (seek-miss (cutAt (a .extents .now) (a .blocks .now)) (l .i) (a .rank) (omega arith) (le-ltb _ _ (c .if1 .left))) ∙ l .inv .1)
 
 returns-2 : tie.Need-returns-2 Inv-loop μ-loop
 returns-2 c = let a = c .before .before .args in
     let l = c .before .loop in
-    let e : l .i ≡ a .rank = omega arith in
-    (sym (ap (λ (r : ℕ). seek (λ j. ltb (getD (a .blocks .now) j 0) (getD (a .extents .now) j 0)) (l .i) (r - l .i)) (sym e) ∙ seek-none _ (l .i)) ∙ l .inv .1, omega arith)
+    (sym (seek-none (cutAt (a .extents .now) (a .blocks .now)) (l .i) (a .rank) (omega arith)) ∙ l .inv .1, omega arith)
 
 pub first-cut-spec : {M : Type 1} → statement M
 first-cut-spec =

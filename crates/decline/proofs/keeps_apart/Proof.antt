@@ -1,4 +1,5 @@
--- `decline::keeps_apart` meets its contract. Assumes nothing.
+-- `decline::keeps_apart` meets its contract: the test for whole lines, and only if it holds the span. Each answer is a case of `separates`
+-- (laws, Cut/Elements). Assumes nothing.
 use mathlib.Core.Path.{_≡_, sym, ap, ap₂, _∙_}
 use mathlib.Core.Bool.{Bool}
 use Prim.Native.Nat.{ℕ, _-_}
@@ -8,11 +9,6 @@ use Rattle.laws.specs.Cut.Tables.{strideSize}
 use borrow.Author.Needs.{needs}
 use Rattle.decline.proofs.keeps_apart.Statement.{statement}
 use Rattle.decline.proofs.keeps_apart.Tie as tie
-use Rattle.decline.proofs.keeps_apart.Reads as reads
-use Rattle.decline.proofs.keeps_apart.Lts as lts
-use Rattle.decline.proofs.span_so_far.Reads as span-so-far-reads
-use Rattle.decline.proofs.stride_size.Reads as stride-size-reads
-use Rattle.decline.proofs.whole_lines.Reads as whole-lines-reads
 
 stride-size-requires : tie.Need-stride-size-requires
 stride-size-requires c κs = search needs

@@ -1,4 +1,5 @@
--- A loop adds what each axis spans; row 6 leaves room.
+-- `decline::slab_width` meets its contract. The invariant: w is 1 and what the axes before i span. Row 6 leaves room for one axis more.
+-- Assumes nothing.
 use native.Mathlib.Omega.{arith}
 use mathlib.Core.Path.{_≡_, ap, _∙_}
 use Prim.Native.Nat.{ℕ, _+_, _-_, _≤_, _^_}
@@ -11,9 +12,6 @@ use Rattle.laws.specs.Cut.Tables.{strideSize}
 use Rattle.decline.proofs.Rooms.{width-room}
 use Rattle.decline.proofs.slab_width.Statement.{statement}
 use Rattle.decline.proofs.slab_width.Tie as tie
-use Rattle.decline.proofs.slab_width.Reads as reads
-use Rattle.decline.proofs.slab_width.Lts as lts
-use Rattle.decline.proofs.way_of.Reads as way-of-reads
 
 abbrev Inv-loop : tie.InvT-loop
 Inv-loop strides extents cut k w₀ i₀ w i = (i ≤ cut) × (w ≡ 1 + sum (wayOf (strideSize strides k) extents) 0 i)

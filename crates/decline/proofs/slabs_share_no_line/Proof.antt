@@ -1,8 +1,9 @@
--- Each way out is an answer of `passes`, over the table of byte strides that the code does not make.
+-- `decline::slabs_share_no_line` meets its contract: each way out is an answer of `passes`. The table of byte strides that `passes` looks at is
+-- never made. Row 6 leaves room for the slab and the axes behind it. Assumes nothing.
 use native.Mathlib.Omega.{arith}
-use mathlib.Core.Path.{_≡_, sym, ap, subst, subst⁻¹, _∙_}
+use mathlib.Core.Path.{_≡_, sym, ap, subst⁻¹, _∙_}
 use mathlib.Core.Bool.{Bool, true, false}
-use Prim.Native.Nat.{ℕ, _+_, _-_, _≤_, _<_, _^_}
+use Prim.Native.Nat.{ℕ, _+_, _-_, _≤_, _^_}
 use lib.ListN.{getD}
 use Rattle.strided.specs.Base.{sum, every}
 use Rattle.laws.specs.Cut.Rising.{wayOf}
@@ -13,11 +14,6 @@ use Rattle.decline.proofs.Answers.{passes-empty, passes-width, passes-r
 use borrow.Author.Needs.{needs}
 use Rattle.decline.proofs.slabs_share_no_line.Statement.{statement}
 use Rattle.decline.proofs.slabs_share_no_line.Tie as tie
-use Rattle.decline.proofs.slabs_share_no_line.Reads as reads
-use Rattle.decline.proofs.slabs_share_no_line.Lts as lts
-use Rattle.decline.proofs.slab_width.Reads as slab-width-reads
-use Rattle.decline.proofs.tail_separated.Reads as tail-separated-reads
-use Rattle.decline.proofs.whole_lines.Reads as whole-lines-reads
 
 mul-size : tie.Need-mul-size
 mul-size c = search needs
@@ -66,7 +62,7 @@ returns-2 c = let v = c .before .before in
     let a = s .args in
     let f : ℕ → ℕ = strideSize (a .strides .now) (a .k) in
     let z : ℕ = getD (a .sizes .now) (a .k) 0 in
-    sym (passes-rest (a .sizes .now) (a .extents .now) (a .strides .now) (a .cut) (a .rank) (a .k) (s .pre .0 .0) (s .pre .0 .1) (s .pre .1) (omega (arith, v .before .before .if1 .left))
+    sym (passes-rest (a .sizes .now) (a .extents .now) (a .strides .now) (a .cut) (a .rank) (a .k) (s .pre .0 .1) (s .pre .1 .axes) (omega (arith, v .before .before .if1 .left))
     (c .tail-separated .result) (lined v true (c .before .if2 .taken))
     (sym (c .tail-separated .ensures ∙ ap (λ (w : ℕ). every (separates z f (a .extents .now) (a .cut) (a .rank - a .cut) w) (a .cut) (a .rank - a .cut)) (v .before .slab-width .ensures))))
 
@@ -74,7 +70,7 @@ returns-3 : tie.Need-returns-3
 returns-3 c = let v = c .before in
     let s = v .before .before .before .before .before in
     let a = s .args in
-    sym (passes-width (a .sizes .now) (a .extents .now) (a .strides .now) (a .cut) (a .rank) (a .k) (s .pre .0 .0) (s .pre .0 .1) (s .pre .1) (omega (arith, v .before .before .if1 .left))
+    sym (passes-width (a .sizes .now) (a .extents .now) (a .strides .now) (a .cut) (a .rank) (a .k) (s .pre .0 .1) (s .pre .1 .axes) (omega (arith, v .before .before .if1 .left))
     (lined v false (c .if2 .left)))
 
 pub slabs-share-no-line-spec : {M : Type 1} → statement M

@@ -1,9 +1,10 @@
--- A loop adds what the axes that come before span; row 6 leaves room.
+-- `decline::span_so_far` meets its contract. The invariant: s is w and what those axes before j add that come before axis i. Row 6 leaves room
+-- for one axis more. Assumes nothing.
 use native.Mathlib.Omega.{arith}
 use mathlib.Core.Path.{_≡_, sym, ap, _∙_}
 use mathlib.Core.Logic.{⊎-elim}
 use mathlib.Core.List.{List}
-use Prim.Native.Nat.{ℕ, _+_, _-_, _≤_, _<_, _^_}
+use Prim.Native.Nat.{ℕ, _+_, _-_, _≤_, _^_}
 use Rattle.strided.specs.Base.{sum}
 use Rattle.laws.specs.Cut.Tables.{strideSize}
 use Rattle.laws.specs.Cut.Ranges.{sum-start, sum-step, cond-true, cond-false}
@@ -11,10 +12,6 @@ use Rattle.laws.specs.Cut.Rising.{before, wayOf, adds}
 use Rattle.decline.proofs.Rooms.{tail-room}
 use Rattle.decline.proofs.span_so_far.Statement.{statement}
 use Rattle.decline.proofs.span_so_far.Tie as tie
-use Rattle.decline.proofs.span_so_far.Reads as reads
-use Rattle.decline.proofs.span_so_far.Lts as lts
-use Rattle.decline.proofs.comes_before.Reads as comes-before-reads
-use Rattle.decline.proofs.way_of.Reads as way-of-reads
 
 abbrev Inv-loop : tie.InvT-loop
 Inv-loop strides extents cut rank k w i s₀ j₀ s j = (cut ≤ j) × (j ≤ rank) × (s ≡ w + sum (adds (strideSize strides k) extents i) cut (j - cut))

@@ -1,5 +1,5 @@
--- `decline::stride_size` meets its contract. Assumes nothing.
-use mathlib.Core.Path.{_≡_, ap, _∙_}
+-- `decline::stride_size` meets its contract: the stride is read as bits, which say the same number. Assumes nothing.
+use mathlib.Core.Path.{ap, _∙_}
 use Prim.Native.Nat.{_+_, _*_}
 use lib.IntN.{ℤ, pos, natAbs}
 use lib.ListN.{getD}
@@ -7,9 +7,6 @@ use Rattle.laws.specs.Base.Bits.{read-back}
 use borrow.Author.Needs.{needs}
 use Rattle.decline.proofs.stride_size.Statement.{statement}
 use Rattle.decline.proofs.stride_size.Tie as tie
-use Rattle.decline.proofs.stride_size.Reads as reads
-use Rattle.decline.proofs.stride_size.Lts as lts
-use Rattle.layout.proofs.magnitude.Reads as magnitude-reads
 
 mul-t : tie.Need-mul-t
 mul-t c = search needs

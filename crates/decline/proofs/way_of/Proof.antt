@@ -1,4 +1,4 @@
--- `decline::way_of` meets its contract. Assumes nothing.
+-- `decline::way_of` meets its contract: the product is the definition's, and it fits since the caller knows a bound. Assumes nothing.
 use native.Mathlib.Omega.{arith}
 use mathlib.Core.Path.{_≡_, ap₂}
 use Prim.Native.Nat.{ℕ, _*_}
@@ -7,10 +7,6 @@ use Rattle.laws.specs.Cut.Tables.{strideSize}
 use borrow.Author.Needs.{needs}
 use Rattle.decline.proofs.way_of.Statement.{statement}
 use Rattle.decline.proofs.way_of.Tie as tie
-use Rattle.decline.proofs.way_of.Reads as reads
-use Rattle.decline.proofs.way_of.Lts as lts
-use Rattle.decline.proofs.stride_size.Reads as stride-size-reads
-use Rattle.layout.proofs.sizes.less_one.Reads as less-one-reads
 
 mul-less-one : tie.Need-mul-less-one
 mul-less-one c = search needs

@@ -1,6 +1,7 @@
--- A product's remainder from those of its factors.
+-- `decline::whole_lines` meets its contract: the remainders of the factors give that of the product, and their product is small.
+-- Assumes nothing.
 use native.Mathlib.Omega.{arith}
-use mathlib.Core.Path.{_≡_, ap}
+use mathlib.Core.Path.{ap}
 use Prim.Native.Nat.{ℕ}
 use lib.Dec.{eqb}
 use Rattle.strided.specs.Region.{line}
@@ -8,8 +9,6 @@ use Rattle.laws.specs.Cut.Elements.{mod-both}
 use Rattle.decline.proofs.Rooms.{rests-fit}
 use Rattle.decline.proofs.whole_lines.Statement.{statement}
 use Rattle.decline.proofs.whole_lines.Tie as tie
-use Rattle.decline.proofs.whole_lines.Reads as reads
-use Rattle.decline.proofs.whole_lines.Lts as lts
 
 mul-result : tie.Need-mul-result
 mul-result c = omega (arith, rests-fit (c .args .n) (c .args .size))

@@ -1,6 +1,6 @@
 -- `kernel::block_sizes` meets its contract: each test that keeps the axes whole is a case of `cutBlocks`, and the tables are those that cutting
 -- asks for. Assumes nothing.
-use mathlib.Core.Path.{_≡_, refl, sym, ap, _∙_}
+use mathlib.Core.Path.{refl, sym, ap, _∙_}
 use mathlib.Core.List.{List}
 use Prim.Native.Nat.{ℕ}
 use native.Mathlib.Omega.{arith}
@@ -50,7 +50,7 @@ returns-2 c =
     let a = s .args in
     let es = a .es .now in
     let t = b .byte-table-into .last .1 .1 .1 .0 in
-    sym (whole-exits (a .sizes .now) es (a .table .now) (a .rank) (a .purpose) t (same-bytes (a .sizes .now) es (a .table .now) (a .rank) (a .purpose) (s .pre) t (bytes-are b))
+    sym (whole-exits (a .sizes .now) es (a .table .now) (a .rank) (a .purpose) t (same-bytes (a .sizes .now) (a .table .now) (a .rank) t (s .pre .axes) (bytes-are b))
     (exits-fits t (a .sizes .now) es (a .table .now) (a .rank) (sym (f .fits-whole .ensures) ∙ c .before .if2 .taken)))
 
 compute-costs-requires : tie.Need-compute-costs-requires

@@ -3,7 +3,6 @@ use mathlib.Core.Path.{_≡_, ap, _∙_}
 use mathlib.Core.List.{map}
 use Prim.Native.Nat.{ℕ, _-_, _≤_, _<_}
 use native.Mathlib.Omega.{arith}
-use lib.ListN.{replicate}
 use borrow.Author.Needs.{needs}
 use Rattle.strided.specs.Base.{padded, run}
 use Rattle.laws.specs.Base.Filling.{rows-alike, fill-none, fill-next}

@@ -1,5 +1,5 @@
 -- `kernel::plan_fused` meets its contract: at most 1,024 cells keep their extents as blocks, more are cut. Assumes nothing.
-use mathlib.Core.Path.{_≡_, sym, _∙_}
+use mathlib.Core.Path.{sym, _∙_}
 use borrow.Author.Needs.{needs}
 use borrow.Author.Tests.{leb-false}
 use Rattle.strided.specs.Layout.{total}

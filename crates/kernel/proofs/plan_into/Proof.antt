@@ -1,4 +1,5 @@
--- `kernel::plan_into` meets its contract: each purpose by itself. Assumes nothing.
+-- `kernel::plan_into` meets its contract: each purpose by itself, and what is known of the purpose carried over to its variant.
+-- Assumes nothing.
 use mathlib.Core.Path.{_≡_, sym}
 use borrow.Author.Needs.{needs}
 use Rattle.strided.specs.declared.Purpose.the-variants.{PointwiseInto, Fold}

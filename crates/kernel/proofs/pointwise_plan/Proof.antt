@@ -1,4 +1,4 @@
--- `kernel::pointwise_plan` meets its contract. Assumes nothing.
+-- `kernel::pointwise_plan` meets its contract: with and without a destination, each as the purpose that it stands for. Assumes nothing.
 use mathlib.Core.Path.{_≡_, sym, ap}
 use borrow.Author.Needs.{needs}
 use Rattle.kernel.specs.Made.{pointwiseFor}

@@ -1,4 +1,4 @@
--- `kernel::ranks_into` meets its contract. Assumes nothing.
+-- `kernel::ranks_into` meets its contract: each way out rewrites by the test that led there. Assumes nothing.
 use borrow.Author.Needs.{needs}
 use borrow.Author.Tests.{eq-eqb, ne-eqb}
 use Rattle.kernel.proofs.ranks_into.Statement.{statement}

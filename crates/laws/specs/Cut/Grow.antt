@@ -42,8 +42,3 @@ set-mono b i x y h j = elim (ℕ-discrete j i) [
       (le-or-lt (length b) i))
   | no e ↦ let p = getD-set-other b i j x 0 e in let q = getD-set-other b i j y 0 e in omega arith
 ]
-
--- one block of the load
-pub load-set-mono : (bytes sizes : List ℕ) (rank : ℕ) (b : List ℕ) (i x y : ℕ) → x ≤ y
-    → load bytes sizes rank (set b i x) ≤ load bytes sizes rank (set b i y)
-load-set-mono bytes sizes rank b i x y h = load-mono bytes sizes rank (set b i x) (set b i y) (set-mono b i x y h)

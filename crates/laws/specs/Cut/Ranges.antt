@@ -125,9 +125,9 @@ every-fails-at t o i n h l e = every-fails t o n (i - o) (omega arith) (ap t (at
 
 -- ---- seeking an axis
 
-pub seek-none : (t : ℕ → Bool) (i : ℕ) → seek t i (i - i) ≡ i
+pub seek-none : (t : ℕ → Bool) (i r : ℕ) → r ≤ i → seek t i (r - i) ≡ i
 unfolding seek
-seek-none t i = none-yet (seek t i) i
+seek-none t i r h = let e : r - i ≡ 0 = omega arith in ap (seek t i) e
 
 pub seek-hit : (t : ℕ → Bool) (i r : ℕ) → i < r → t i ≡ true → seek t i (r - i) ≡ i
 unfolding seek

@@ -2,7 +2,7 @@
 use mathlib.Core.Path.{_≡_, sym, ap, ap₂, _∙_}
 use mathlib.Core.Logic.{⊎-elim}
 use Prim.Native.Nat.{ℕ, zero, suc, _+_, _*_, _/_, _<_, _≤_, min}
-use native.Mathlib.Nat.{div-mul-le-self, div-lt-iff-lt-mul, mul-le-mul-right, le-trans, mul-zero, le-mul-of-pos-right, mul-comm, le-of-lt}
+use native.Mathlib.Nat.{mul-le-mul-right, mul-zero, le-mul-of-pos-right, mul-comm, le-of-lt}
 use native.Mathlib.Omega.{arith}
 use Rattle.laws.specs.Cut.Ranges.{le-or-lt}
 
@@ -10,12 +10,9 @@ use Rattle.laws.specs.Cut.Ranges.{le-or-lt}
 abbrev pub cap : ℕ
 cap = 65537
 
--- a quotient's test decides the product's
-pub mul-fits : (a b n : ℕ) → a ≤ n / b → a * b ≤ n
-mul-fits a b n h = le-trans (mul-le-mul-right b h) (div-mul-le-self n b)
-
-pub mul-over : (a b n : ℕ) → 0 < b → n / b < a → n < a * b
-mul-over a b n p h = div-lt-iff-lt-mul p .0 h
+-- equal numbers, both saturated
+pub capped : {x y : ℕ} → x ≡ y → min x cap ≡ min y cap
+capped e = ap (λ (z : ℕ). min z cap) e
 
 -- a product of saturated factors, saturated
 pub min-mul-left : (a b n : ℕ) → min (min a n * b) n ≡ min (a * b) n

@@ -34,7 +34,7 @@ sum-set-before b i v o (suc n) h =
     ap₂ _+_ (sum-set-before b i v o n (omega arith)) (getD-set-other b i (o + n) v 0 (omega arith))
 
 -- a smaller block makes the tail smaller
-pub cells-set : (b : List ℕ) (i v o n : ℕ) → o ≤ i → i < o + n → i < length b → v < getD b i 0
+cells-set : (b : List ℕ) (i v o n : ℕ) → o ≤ i → i < o + n → i < length b → v < getD b i 0
     → cells o n (set b i v) < cells o n b
 unfolding sum
 cells-set b i v o zero ho hn hl hv = absurd (omega arith)
@@ -51,7 +51,7 @@ cells-set b i v o (suc n) ho hn hl hv = ⊎-elim
     (eq-or-lt-of-le {n = i} {m = o + n} (omega arith))
 
 -- it makes no block greater
-pub set-le : (b : List ℕ) (i v j : ℕ) → i < length b → v ≤ getD b i 0 → getD (set b i v) j 0 ≤ getD b j 0
+set-le : (b : List ℕ) (i v j : ℕ) → i < length b → v ≤ getD b i 0 → getD (set b i v) j 0 ≤ getD b j 0
 set-le b i v j hl hv = elim (ℕ-discrete j i) [
   | yes e ↦ subst⁻¹ (λ (k : ℕ). getD (set b i v) k 0 ≤ getD b k 0) e (subst⁻¹ (λ (x : ℕ). x ≤ getD b i 0) (getD-set-same b i v 0 hl) hv)
   | no e ↦ le-of-eq (getD-set-other b i j v 0 e)
@@ -246,3 +246,29 @@ module _ (bytes : List ℕ) (operands : ℕ) (costs : List ℕ) (o n : ℕ) (b :
   lessened-at i h e =
       until-step (lessening bytes operands costs o n) (cells o n) (lessening-falls bytes operands costs o n) b (set b i (getD b i 0 - 1))
       (lessening-at bytes operands costs o n b i h e)
+
+-- ---- a turn of a loop that follows a rule: fewer cells, scores that still fit, and the same at the end
+
+pub record Turn (rule : List ℕ → List ℕ) (o n rank : ℕ) (costs b b′ : List ℕ) : Type 0 where
+  pub fewer : cells o n b′ < cells o n b
+  pub fit : ScoresFit rank costs b′
+  pub same : rule b′ ≡ rule b
+
+module _ (bytes : List ℕ) (operands : ℕ) (costs : List ℕ) (o n rank : ℕ) (b : List ℕ) (i : ℕ)
+    (fit : ScoresFit rank costs b) (pick : greatestScore b costs o n ≡ some i) where
+  turned : (rule : List ℕ → List ℕ) (b′ : List ℕ) → Shorter o n b b′ → rule b ≡ rule b′ → Turn rule o n rank costs b b′
+  turned rule b′ s e = record { fewer = s .fewer; fit = scores-le rank costs b b′ (s .less) fit; same = sym e }
+
+  pub halved-turn : (v : ℕ) → v ≡ (getD b i 0 + 1) / 2 → 2 * cache ≤ region bytes operands b o n
+      → Turn (halved bytes operands costs o n) o n rank costs b (set b i v)
+  halved-turn v e big =
+      subst⁻¹ (λ (x : ℕ). Turn (halved bytes operands costs o n) o n rank costs b (set b i x)) e
+      (turned (halved bytes operands costs o n) (set b i ((getD b i 0 + 1) / 2))
+      (halving-shorter bytes operands costs o n b (set b i ((getD b i 0 + 1) / 2)) (halving-at bytes operands costs o n b i big pick))
+      (halved-at bytes operands costs o n b i big pick))
+
+  pub lessened-turn : cache < region bytes operands b o n → Turn (lessened bytes operands costs o n) o n rank costs b (set b i (getD b i 0 - 1))
+  lessened-turn big =
+      turned (lessened bytes operands costs o n) (set b i (getD b i 0 - 1))
+      (lessening-shorter bytes operands costs o n b (set b i (getD b i 0 - 1)) (lessening-at bytes operands costs o n b i big pick))
+      (lessened-at bytes operands costs o n b i big pick)

@@ -4,74 +4,60 @@ use mathlib.Core.Bool.{Bool, true, false, cond}
 use mathlib.Core.List.{List, [], _∷_, _++_, map}
 use mathlib.Core.Logic.{_⊎_, ⊎-elim, inl, inr}
 use Prim.Native.Nat.{ℕ, zero, suc, _+_, _-_, _*_, _^_, _≤_, _<_, min}
-use native.Mathlib.Nat.{zero-add, mul-one, mul-le-mul-left, mul-left-comm, le-refl}
+use native.Mathlib.Nat.{zero-add, suc-add, mul-zero, zero-mul, mul-one, mul-le-mul-left, mul-left-comm, le-refl}
 use native.Mathlib.Omega.{arith}
 use lib.Dec.{eqb}
 use lib.IntN.{ℤ, pos, natAbs}
-use lib.ListN.{length, getD, take, drop, length-take, length-drop, List·getD-append}
-use lib.Seq.{getD-take, getD-drop, getD-append-add}
+use lib.ListN.{getD, take, drop}
+use lib.Seq.{getD-drop}
 use Rattle.strided.specs.Base.{sum, least}
 use Rattle.strided.specs.Layout.{reach, maxI}
 use Rattle.strided.specs.Region.{byteTable, byteAt}
 use Rattle.strided.specs.Costs.{costOf, costs}
 use Rattle.strided.specs.Cut.{score}
 use Rattle.laws.specs.Base.Lists.{getD-run}
-use Rattle.laws.specs.Cut.Ranges.{sum-cong, term-in}
+use Rattle.laws.specs.Cut.Ranges.{sum-none, sum-cong, term-in}
 use Rattle.laws.specs.Cut.Steps.{ScoresFit}
-
-length-map : (f : ℤ → ℕ) (xs : List ℤ) → length (map f xs) ≡ length xs
-length-map f [] = refl
-length-map f (x ∷ xs) = ap suc (length-map f xs)
-
-getD-map : (f : ℤ → ℕ) (xs : List ℤ) (i : ℕ) → i < length xs → getD (map f xs) i 0 ≡ f (getD xs i (pos 0))
-getD-map f [] i h = absurd (bad h)
-  where
-    bad : i < 0 → ⊥
-    bad h = omega arith
-getD-map f (x ∷ xs) zero h = refl
-getD-map f (x ∷ xs) (suc i) h = getD-map f xs i (omega arith)
-
-pub byte-at : (sizes : List ℕ) (strides : List ℤ) (k i : ℕ) → k < length sizes → i < 64 → length sizes * 64 ≤ length strides
-    → byteAt (byteTable sizes strides) k i ≡ natAbs (getD strides (k * 64 + i) (pos 0)) * getD sizes k 0
-byte-at [] strides k i p q h = absurd (bad p)
-  where
-    bad : k < 0 → ⊥
-    bad p = omega arith
-byte-at (z ∷ sizes) strides k i p q h =
-    go k p (λ (k : ℕ) (p : k < length sizes). byte-at sizes (drop 64 strides) k i p q (omega (arith, length-drop 64 strides)))
-  where
-    f : ℤ → ℕ
-    f t = natAbs t * z
-
-    row : List ℕ
-    row = map f (take 64 strides)
-
-    long : length row ≡ 64
-    long = length-map f (take 64 strides) ∙ length-take 64 strides ∙ omega arith
-
-    rest : List ℕ
-    rest = byteTable sizes (drop 64 strides)
-
-    go : (k : ℕ) → k < suc (length sizes)
-        → ((k : ℕ) → k < length sizes → byteAt rest k i ≡ natAbs (getD (drop 64 strides) (k * 64 + i) (pos 0)) * getD sizes k 0)
-        → byteAt (row ++ rest) k i ≡ natAbs (getD strides (k * 64 + i) (pos 0)) * getD (z ∷ sizes) k 0
-    go zero p more =
-        let e : 0 * 64 + i ≡ i = omega arith in
-        ap (λ (j : ℕ). getD (row ++ rest) j 0) e
-        ∙ List·getD-append row rest 0 i (omega (arith, long))
-        ∙ getD-map f (take 64 strides) i (omega (arith, length-take 64 strides))
-        ∙ ap f (getD-take 64 strides i (pos 0) q ∙ ap (λ (j : ℕ). getD strides j (pos 0)) (sym e))
-    go (suc k) p more =
-        let e : suc k * 64 + i ≡ length row + (k * 64 + i) = omega (arith, long) in
-        let d : 64 + (k * 64 + i) ≡ suc k * 64 + i = omega arith in
-        ap (λ (j : ℕ). getD (row ++ rest) j 0) e
-        ∙ getD-append-add row rest (k * 64 + i) 0
-        ∙ more k (omega arith)
-        ∙ ap (λ (t : ℤ). natAbs t * getD sizes k 0) (getD-drop 64 strides (k * 64 + i) (pos 0) ∙ ap (λ (j : ℕ). getD strides j (pos 0)) d)
 
 -- the size of operand k's stride on axis i
 abbrev pub strideSize : List ℤ → ℕ → ℕ → ℕ
 strideSize strides k i = natAbs (getD strides (k * 64 + i) (pos 0))
+
+-- ---- a byte stride, in a table of any length: where a stride is missing both sides are 0
+
+-- a row of n numbers made from strides, and what is made from the strides behind them
+module _ (f : ℤ → ℕ) (nought : f (pos 0) ≡ 0) (g : List ℤ → List ℕ) (empty : g [] ≡ []) where
+  in-row : (n : ℕ) (xs : List ℤ) (i : ℕ) → i < n → getD (map f (take n xs) ++ g (drop n xs)) i 0 ≡ f (getD xs i (pos 0))
+  in-row zero xs i h = absurd (omega arith)
+  in-row (suc n) [] i h = ap (λ (l : List ℕ). getD l i 0) empty ∙ sym nought
+  in-row (suc n) (x ∷ xs) zero h = refl
+  in-row (suc n) (x ∷ xs) (suc i) h = in-row n xs i (omega arith)
+
+  behind-row : (n : ℕ) (xs : List ℤ) (i : ℕ) → getD (map f (take n xs) ++ g (drop n xs)) (n + i) 0 ≡ getD (g (drop n xs)) i 0
+  behind-row zero xs i = ap (λ (j : ℕ). getD (g xs) j 0) (zero-add i)
+  behind-row (suc n) [] i = ap (λ (l : List ℕ). getD l (suc n + i) 0) empty ∙ sym (ap (λ (l : List ℕ). getD l i 0) empty)
+  behind-row (suc n) (x ∷ xs) i =
+      ap (λ (j : ℕ). getD (map f (take (suc n) (x ∷ xs)) ++ g (drop n xs)) j 0) (suc-add n i) ∙ behind-row n xs i
+
+no-strides : (sizes : List ℕ) → byteTable sizes [] ≡ []
+no-strides [] = refl
+no-strides (z ∷ sizes) = no-strides sizes
+
+pub byte-at : (sizes : List ℕ) (strides : List ℤ) (k i : ℕ) → i < 64 → byteAt (byteTable sizes strides) k i ≡ strideSize strides k i * getD sizes k 0
+byte-at [] strides k i h = sym (mul-zero (strideSize strides k i))
+byte-at (z ∷ sizes) strides zero i h =
+    let e : 0 * 64 + i ≡ i = omega arith in
+    ap (λ (j : ℕ). getD (byteTable (z ∷ sizes) strides) j 0) e
+    ∙ in-row (λ t. natAbs t * z) (zero-mul z) (byteTable sizes) (no-strides sizes) 64 strides i h
+    ∙ ap (λ (j : ℕ). natAbs (getD strides j (pos 0)) * z) (sym e)
+byte-at (z ∷ sizes) strides (suc k) i h =
+    let e : suc k * 64 + i ≡ 64 + (k * 64 + i) = omega arith in
+    ap (λ (j : ℕ). getD (byteTable (z ∷ sizes) strides) j 0) e
+    ∙ behind-row (λ t. natAbs t * z) (zero-mul z) (byteTable sizes) (no-strides sizes) 64 strides (k * 64 + i)
+    ∙ byte-at sizes (drop 64 strides) k i h
+    ∙ ap (λ (t : ℤ). natAbs t * getD sizes k 0) (getD-drop 64 strides (k * 64 + i) (pos 0) ∙ ap (λ (j : ℕ). getD strides j (pos 0)) (sym e))
+
+-- ---- costs and scores
 
 pub cost-at : (strides : List ℤ) (operands rank i : ℕ) → i < rank
     → getD (costs strides operands rank) i 0 ≡ costOf (least (λ k. strideSize strides k i) 0 operands)
@@ -96,7 +82,7 @@ least-le f (suc zero) h = le-refl (f 0)
 least-le f (suc (suc n)) h = omega (arith, least-le f (suc n) (omega arith))
 
 -- so that the reach of the first operand bounds every score
-pub score-fits : (es : List ℕ) (strides : List ℤ) (operands rank i : ℕ) → 0 < operands → i < rank → getD es i 0 < 2 ^ 64
+score-fits : (es : List ℕ) (strides : List ℤ) (operands rank i : ℕ) → 0 < operands → i < rank → getD es i 0 < 2 ^ 64
     → sum (λ j. (getD es j 0 - 1) * strideSize strides 0 j) 0 rank < 2 ^ 63
     → score es (costs strides operands rank) i < 2 ^ 64
 score-fits es strides operands rank i some h fits reach =
@@ -127,28 +113,32 @@ sum-front f (suc n) =
     let e : 0 + suc n ≡ suc (0 + n) = omega arith in
     omega (arith, sum-front f n, ap f e)
 
-reach-from : (n : ℕ) (es : List ℕ) (ts : List ℤ) → n ≤ length es → n ≤ length ts
-    → reach (take n es) (take n ts) ≡ sum (λ i. (getD es i 0 - 1) * natAbs (getD ts i (pos 0))) 0 n
+sum-zeros : (f : ℕ → ℕ) (n : ℕ) → ((i : ℕ) → f i ≡ 0) → sum f 0 n ≡ 0
 unfolding sum
-reach-from zero es ts h l = refl
-reach-from (suc n) [] ts h l = absurd (omega arith)
-reach-from (suc n) (e ∷ es) [] h l = absurd (omega arith)
-reach-from (suc n) (e ∷ es) (t ∷ ts) h l =
-    ap (λ (x : ℕ). (e - 1) * natAbs t + x) (reach-from n es ts (omega arith) (omega arith))
+sum-zeros f zero h = refl
+sum-zeros f (suc n) h = omega (arith, sum-zeros f n h, h (0 + n))
+
+-- lists of any length: an axis that is missing spans 0
+reach-from : (n : ℕ) (es : List ℕ) (ts : List ℤ) → reach (take n es) (take n ts) ≡ sum (λ i. (getD es i 0 - 1) * natAbs (getD ts i (pos 0))) 0 n
+reach-from zero es ts = sym (sum-none (λ i. (getD es i 0 - 1) * natAbs (getD ts i (pos 0))) 0)
+reach-from (suc n) [] ts = sym (sum-zeros (λ i. (getD {A = ℕ} [] i 0 - 1) * natAbs (getD ts i (pos 0))) (suc n) (λ i. zero-mul (natAbs (getD ts i (pos 0)))))
+reach-from (suc n) (e ∷ es) [] = sym (sum-zeros (λ i. (getD (e ∷ es) i 0 - 1) * natAbs (getD {A = ℤ} [] i (pos 0))) (suc n) (λ i. mul-zero (getD (e ∷ es) i 0 - 1)))
+reach-from (suc n) (e ∷ es) (t ∷ ts) =
+    ap (λ (x : ℕ). (e - 1) * natAbs t + x) (reach-from n es ts)
     ∙ sym (sum-front (λ i. (getD (e ∷ es) i 0 - 1) * natAbs (getD (t ∷ ts) i (pos 0))) n)
 
-pub reach-sum : (es : List ℕ) (strides : List ℤ) (rank k : ℕ) → rank ≤ length es → k * 64 + rank ≤ length strides
+pub reach-sum : (es : List ℕ) (strides : List ℤ) (rank k : ℕ)
     → reach (take rank es) (take rank (drop (k * 64) strides)) ≡ sum (λ i. (getD es i 0 - 1) * strideSize strides k i) 0 rank
-reach-sum es strides rank k h l =
-    reach-from rank es (drop (k * 64) strides) h (omega (arith, length-drop (k * 64) strides))
+reach-sum es strides rank k =
+    reach-from rank es (drop (k * 64) strides)
     ∙ sum-cong (λ i. (getD es i 0 - 1) * natAbs (getD (drop (k * 64) strides) i (pos 0))) (λ i. (getD es i 0 - 1) * strideSize strides k i) 0 rank
     (λ i p q. ap (λ (t : ℤ). (getD es i 0 - 1) * natAbs t) (getD-drop (k * 64) strides i (pos 0)))
 
 -- ---- scores need row 6 only, on the plan's axes
 
-pub scores-fit : (es : List ℕ) (strides : List ℤ) (operands rank : ℕ) → 0 < operands → rank ≤ length es → rank ≤ length strides
+pub scores-fit : (es : List ℕ) (strides : List ℤ) (operands rank : ℕ) → 0 < operands
     → ((i : ℕ) → i < rank → getD es i 0 < 2 ^ 64)
     → ((k : ℕ) → k < operands → reach (take rank es) (take rank (drop (k * 64) strides)) ≤ maxI)
     → ScoresFit rank (costs strides operands rank) es
-scores-fit es strides operands rank some places table fits near i h =
-    score-fits es strides operands rank i some h (fits i h) (omega (arith, near 0 some, reach-sum es strides rank 0 places (omega arith)))
+scores-fit es strides operands rank some fits near i h =
+    score-fits es strides operands rank i some h (fits i h) (omega (arith, near 0 some, reach-sum es strides rank 0))

@@ -1,7 +1,7 @@
--- The invariant: the rows of the first k operands stand.
+-- `model::byte_table_into` meets its contract. The invariant: the rows of the first k operands stand. Assumes nothing.
 use native.Mathlib.Omega.{arith}
 use mathlib.Core.Path.{_≡_, ap, _∙_}
-use Prim.Native.Nat.{ℕ, _-_, _≤_}
+use Prim.Native.Nat.{_-_, _≤_}
 use lib.ListN.{length}
 use Rattle.laws.specs.Base.Filling.{fill-none}
 use Rattle.model.specs.ByteRows.{byteRows}

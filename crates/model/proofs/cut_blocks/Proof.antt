@@ -1,4 +1,5 @@
--- The two ways out are cases of `cutBlocks`, over the tables that the code makes.
+-- `model::cut_blocks` meets its contract: its two ways out, declined and fitted, are cases of `cutBlocks` (Whole), over the tables that the
+-- caller has made. Assumes nothing.
 use borrow.Author.Needs.{needs}
 use native.Mathlib.Omega.{arith}
 use mathlib.Core.Path.{_≡_, sym, ap, _∙_}
@@ -19,7 +20,7 @@ compute-blocks-at-requires c κs =
     let a = s .args in
     let p = s .pre .0 in (
       ((p .one, p .few), (omega arith, p .axes)),
-      scores (a .sizes .now) (a .extents .now) (a .strides .now) (a .rank) (a .purpose) p (a .costs .now) (s .pre .1 .0 .costs) (p .small),
+      scores (a .sizes .now) (a .extents .now) (a .strides .now) (a .rank) (a .purpose) p (a .costs .now) (s .pre .1 .0 .costs),
     )
 
 declines-tiles-requires : tie.Need-declines-tiles-requires
@@ -30,7 +31,7 @@ declines-tiles-requires c κs =
 
 -- the table of byte strides is the definition's on the plan's axes
 same : (s : tie.Start) → let a = s .args in SameBytes (length (a .sizes .now)) (a .rank) (a .bytes .now) (byteTable (a .sizes .now) (a .strides .now))
-same s = let a = s .args in same-bytes (a .sizes .now) (a .extents .now) (a .strides .now) (a .rank) (a .purpose) (s .pre .0) (a .bytes .now) (s .pre .1 .0 .bytes)
+same s = let a = s .args in same-bytes (a .sizes .now) (a .strides .now) (a .rank) (a .bytes .now) (s .pre .0 .axes) (s .pre .1 .0 .bytes)
 
 -- the blocks that cutting gives
 cut : (c : tie.After-compute-blocks-at)

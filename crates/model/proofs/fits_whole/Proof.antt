@@ -1,13 +1,13 @@
--- A region that saturates is told apart from the cache's size.
+-- `model::fits_whole` meets its contract: the region saturates above the cache's size, so the comparison says the same. Assumes nothing.
 use native.Mathlib.Omega.{arith}
-use mathlib.Core.Path.{_≡_, refl, sym, ap, _∙_}
+use mathlib.Core.Path.{_≡_, refl, ap, _∙_}
 use mathlib.Core.Bool.{Bool, true, false}
-use Prim.Native.Nat.{ℕ, _-_, _≤_, min}
+use Prim.Native.Nat.{ℕ, min}
 use native.Mathlib.Nat.{sub-zero}
 use lib.Dec.{leb}
 use borrow.Author.Needs.{needs}
 use borrow.Author.Tests.{leb-true, leb-false, le-leb, lt-leb}
-use Rattle.strided.specs.Region.{cache, region}
+use Rattle.strided.specs.Region.{region}
 use Rattle.laws.specs.Cut.Saturate.{cap}
 use Rattle.model.proofs.fits_whole.Statement.{statement}
 use Rattle.model.proofs.fits_whole.Tie as tie

@@ -1,7 +1,5 @@
--- The two tests, in turn.
-use mathlib.Core.Path.{_≡_, _∙_, sym}
-use mathlib.Core.Bool.{true}
-use lib.ListN.{length}
+-- `model::keeps_order` meets its contract: the two tests of `inOrder`, in turn. Assumes nothing.
+use mathlib.Core.Path.{_∙_, sym}
 use borrow.Author.Needs.{needs}
 use Rattle.model.proofs.Whole.{in-order-none, in-order-some}
 use Rattle.model.proofs.keeps_order.Statement.{statement}

@@ -1,4 +1,5 @@
--- The invariant: the first i places of row k stand behind the rows before it.
+-- `model::put_bytes` meets its contract. The invariant: the first i places of row k stand behind the rows before it. Row 7 lets each product
+-- fit. Assumes nothing.
 use native.Mathlib.Omega.{arith}
 use mathlib.Core.Path.{_≡_, ap, _∙_}
 use Prim.Native.Nat.{ℕ, _+_, _-_, _*_, _≤_}
@@ -81,7 +82,7 @@ loop-again c =
     let s = l .before .before .before in
     let a = s .args in (
       omega arith,
-      row-turn (a .sizes .now) (a .strides .now) (a .rank) (a .k) (l .loop .i) (l .loop .table) _ (s .pre .0 .0 .1 .0) (omega arith) (l .loop .inv .1) (stored c),
+      row-turn (a .sizes .now) (a .strides .now) (a .rank) (a .k) (l .loop .i) (l .loop .table) _ (s .pre .0 .0 .1 .0) (c .before .before .loop-test .taken) (s .pre .0 .0 .1 .1) (l .loop .inv .1) (stored c),
     )
 
 returns : tie.Need-returns Inv-loop μ-loop

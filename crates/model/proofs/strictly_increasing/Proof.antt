@@ -1,8 +1,8 @@
--- A loop compares each stride size with the one before.
+-- `model::strictly_increasing` meets its contract. The invariant: `last` is the size of stride i - 1, and the sizes grow up to there.
+-- Assumes nothing.
 use native.Mathlib.Omega.{arith}
 use mathlib.Core.Path.{_≡_, sym, ap, _∙_}
 use mathlib.Core.Bool.{true, false}
-use mathlib.Core.List.{List}
 use Prim.Native.Nat.{ℕ, _+_, _-_, _*_, _≤_, _<_}
 use lib.IntN.{ℤ, pos, natAbs}
 use lib.ListN.{getD}
@@ -10,13 +10,10 @@ use Rattle.strided.specs.Base.{every}
 use Rattle.laws.specs.Base.Bits.{read-back}
 use Rattle.laws.specs.Cut.Ranges.{every-none}
 use Rattle.laws.specs.Cut.Tables.{strideSize}
-use Rattle.model.specs.Exits.{rises, increasing}
+use Rattle.model.specs.Exits.{rises}
 use Rattle.model.proofs.Growing.{first-stride, increasing-zero, increasing-rest, rises-not, rises-on}
 use Rattle.model.proofs.strictly_increasing.Statement.{statement}
 use Rattle.model.proofs.strictly_increasing.Tie as tie
-use Rattle.model.proofs.strictly_increasing.Reads as reads
-use Rattle.model.proofs.strictly_increasing.Lts as lts
-use Rattle.layout.proofs.magnitude.Reads as magnitude-reads
 
 abbrev Inv-loop : tie.InvT-loop
 Inv-loop strides rank k first last₀ i₀ last i = (1 ≤ i) × (i ≤ rank) × (last ≡ strideSize strides k (i - 1)) × (every (rises strides k) 0 (i - 1) ≡ true)
@@ -67,22 +64,27 @@ element-copy-out-t c = omega arith
 magnitude-requires-2 : tie.Need-magnitude-requires-2 Inv-loop μ-loop
 magnitude-requires-2 c κs = tt
 
+-- the arguments, from the loop's begin
+abbrev start : tie.At-loop Inv-loop μ-loop → tie.Start Inv-loop μ-loop
+start l = l .before .before .before .before
+
 next-size : (c : tie.After-magnitude2 Inv-loop μ-loop)
-    → let a = c .before .before .before .before .before .before .before .args in
-    c .magnitude2 .result ≡ strideSize (a .strides .now) (a .k) (c .before .before .before .loop .i)
-next-size c =
-    let a = c .before .before .before .before .before .before .before .args in
-    let z : ℤ = getD (a .strides .now) (a .k * 64 + c .before .before .before .loop .i) (pos 0) in
+    → let l = c .before .before .before in
+    let a = start l .args in
+    c .magnitude2 .result ≡ strideSize (a .strides .now) (a .k) (l .loop .i)
+next-size c = let l = c .before .before .before in
+    let a = start l .args in
+    let z : ℤ = getD (a .strides .now) (a .k * 64 + l .loop .i) (pos 0) in
     c .magnitude2 .ensures ∙ ap natAbs (read-back z (c .before .t .given))
 
-above : (c : tie.Else1 Inv-loop μ-loop) → 0 < strideSize (c .before .before .before .args .strides .now) (c .before .before .before .args .k) 0
-above c = omega (arith, first-size (c .before), c .if1 .left)
+above : (l : tie.At-loop Inv-loop μ-loop) → let a = start l .args in 0 < strideSize (a .strides .now) (a .k) 0
+above l = omega (arith, first-size (l .before .before), l .before .if1 .left)
 
 returns-2 : tie.Need-returns-2 Inv-loop μ-loop
-returns-2 c = let a = c .before .before .before .before .before .before .before .before .args in
-    let l = c .before .before .before .before .loop in
-    sym (increasing-rest (a .strides .now) (a .rank) (a .k) false (above (c .before .before .before .before .before))
-    (rises-not (a .strides .now) (a .rank) (a .k) (l .i) (l .inv .0) (omega arith) (omega (arith, next-size (c .before), l .inv .2, c .if2 .taken))))
+returns-2 c = let l = c .before .before .before .before in
+    let a = start l .args in
+    sym (increasing-rest (a .strides .now) (a .rank) (a .k) false (above l)
+    (rises-not (a .strides .now) (a .rank) (a .k) (l .loop .i) (l .loop .inv .0) (omega arith) (omega (arith, next-size (c .before), l .loop .inv .2, c .if2 .taken))))
 
 add-i : tie.Need-add-i Inv-loop μ-loop
 add-i c = omega arith
@@ -91,20 +93,21 @@ loop-less : tie.Need-loop-less Inv-loop μ-loop
 loop-less c = omega arith
 
 loop-again : tie.Need-loop-again Inv-loop μ-loop
-loop-again c = let a = c .before .before .before .before .before .before .before .before .args in
-    let l = c .before .before .before .before .loop in
-    let e : l .i ≡ l .i + 1 - 1 = omega arith in (
+loop-again c = let l = c .before .before .before .before in
+    let a = start l .args in
+    let i : ℕ = l .loop .i in
+    let e : i ≡ i + 1 - 1 = omega arith in (
       omega arith,
       omega arith,
       next-size (c .before) ∙ ap (strideSize (a .strides .now) (a .k)) e,
-      rises-on (a .strides .now) (a .rank) (a .k) (l .i) (l .inv .0) (omega (arith, next-size (c .before), l .inv .2, c .if2 .left)) (l .inv .3),
+      rises-on (a .strides .now) (a .rank) (a .k) i (l .loop .inv .0) (omega (arith, next-size (c .before), l .loop .inv .2, c .if2 .left)) (l .loop .inv .3),
     )
 
 returns-3 : tie.Need-returns-3 Inv-loop μ-loop
-returns-3 c = let a = c .before .before .before .before .before .args in
-    let l = c .before .loop in
-    let e : a .rank - 1 ≡ l .i - 1 = omega arith in
-    sym (increasing-rest (a .strides .now) (a .rank) (a .k) true (above (c .before .before)) (ap (every (rises (a .strides .now) (a .k)) 0) e ∙ l .inv .3))
+returns-3 c = let l = c .before in
+    let a = start l .args in
+    let e : a .rank - 1 ≡ l .loop .i - 1 = omega arith in
+    sym (increasing-rest (a .strides .now) (a .rank) (a .k) true (above l) (ap (every (rises (a .strides .now) (a .k)) 0) e ∙ l .loop .inv .3))
 
 pub strictly-increasing-spec : {M : Type 1} → statement M
 strictly-increasing-spec =

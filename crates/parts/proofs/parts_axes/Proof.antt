@@ -37,11 +37,11 @@ number-requires c κs = search needs
 enum-told : tie.Need-enum-told
 enum-told c = search needs
 
-axes-of-requires : tie.Need-axes-of-requires
-axes-of-requires c κs =
+axes-into-requires : tie.Need-axes-into-requires
+axes-into-requires c κs =
     let t = c .before .before .before .before in
     let a = t .before .before .before .before .before .before .args in
-    (shape-fits (a .extents .now) (a .sizes .now) (a .strides .now) (purposeOf (a .kind) (a .chosen)) (served t), (refl, refl))
+    (shape-fits (a .extents .now) (a .sizes .now) (a .strides .now) (purposeOf (a .kind) (a .chosen)) (served t), record { extents = refl; strides = refl })
 
 returns : tie.Need-returns
 returns c =
@@ -62,7 +62,7 @@ returns-2 c =
     let ss = a .strides .now in
     let o = shapeRefused es (a .sizes .now) ss (purposeOf (a .kind) (a .chosen)) in
     let e = t .before .before .before .purpose-of .ensures in
-    let found = f .axes-of .ensures in (
+    let found = f .axes-into .ensures in (
       part-served o (served t) (ap (λ n. n ∷ []) (found .0 ∙ ap (λ u. length (planAxes es m ss u)) e)),
       (part-served o (served t) (found .1 .0 ∙ ap (λ u. padded 64 0 (extents (planAxes es m ss u))) e), part-served o (served t) (found .1 .1 ∙ ap (λ u. strideTable (planAxes es m ss u) m) e)),
     )
@@ -76,6 +76,6 @@ parts-axes-spec =
     enum-known-checked
     number-requires
     enum-told
-    axes-of-requires
+    axes-into-requires
     returns
     returns-2)

@@ -1,18 +1,16 @@
--- A loop adds the operands' regions, saturated.
+-- `region::memory_region` meets its contract. The invariant: r is the sum of the first k operands' regions, saturated.
+-- Saturating at each step is as good as at the end (laws, Cut/Saturate). Assumes nothing.
+use borrow.Author.Needs.{needs}
 use native.Mathlib.Omega.{arith}
 use mathlib.Core.Path.{_≡_, sym, ap, _∙_}
-use Prim.Native.Nat.{ℕ, _+_, _-_, _≤_, min}
+use Prim.Native.Nat.{ℕ, _-_, _≤_, min}
 use Rattle.strided.specs.Base.{sum}
 use Rattle.strided.specs.Region.{regionOf, region}
 use Rattle.laws.specs.Base.Ranges.{sum-next}
 use Rattle.laws.specs.Cut.Ranges.{sum-none}
-use Rattle.laws.specs.Cut.Saturate.{cap, add-sat}
+use Rattle.laws.specs.Cut.Saturate.{cap, capped, add-sat}
 use Rattle.region.proofs.memory_region.Statement.{statement}
 use Rattle.region.proofs.memory_region.Tie as tie
-use Rattle.region.proofs.memory_region.Reads as reads
-use Rattle.region.proofs.memory_region.Lts as lts
-use Rattle.region.proofs.region_of.Reads as region-of-reads
-use Rattle.region.proofs.sat_add.Reads as sat-add-reads
 
 abbrev Inv-loop : tie.InvT-loop
 Inv-loop blocks bytes operands offset rank r₀ k₀ r k = (k ≤ operands) × (r ≡ min (sum (regionOf bytes blocks offset (rank - offset)) 0 k) cap)
@@ -21,10 +19,10 @@ abbrev μ-loop : tie.MeasureT-loop
 μ-loop blocks bytes operands offset rank r₀ k₀ r k = operands - k
 
 loop-holds : tie.Need-loop-holds Inv-loop μ-loop
-loop-holds c = (omega arith, ap (λ (x : ℕ). min x cap) (sym (sum-none _ 0)))
+loop-holds c = (omega arith, capped (sym (sum-none _ 0)))
 
 region-of-requires : tie.Need-region-of-requires Inv-loop μ-loop
-region-of-requires c κs = (omega arith, (omega arith, omega arith))
+region-of-requires c κs = search needs
 
 sat-add-requires : tie.Need-sat-add-requires Inv-loop μ-loop
 sat-add-requires c κs = tt
@@ -41,7 +39,7 @@ loop-again c = let a = c .before .before .before .before .args in
     let f : ℕ → ℕ = regionOf (a .bytes .now) (a .blocks .now) (a .offset) (a .rank - a .offset) in (
       omega arith,
       add-sat (sum f 0 (l .k)) (f (l .k)) cap (l .inv .1) (c .before .region-of .ensures) (c .sat-add .ensures)
-          ∙ ap (λ (x : ℕ). min x cap) (sym (sum-next f (l .k))),
+          ∙ capped (sym (sum-next f (l .k))),
     )
 
 returns : tie.Need-returns Inv-loop μ-loop

@@ -1,10 +1,11 @@
--- Both factors are small, and so is their product.
+-- `region::near_part` meets its contract: the stride is below a line and the block is cut off at the cap, so their product is small.
+-- Assumes nothing.
 use native.Mathlib.Omega.{arith}
 use native.Mathlib.Nat.{mul-le-mul}
-use mathlib.Core.Path.{_≡_, ap, _∙_}
-use Prim.Native.Nat.{ℕ, _-_, _*_, _≤_, min}
+use mathlib.Core.Path.{ap, _∙_}
+use Prim.Native.Nat.{ℕ, _*_, _≤_}
 use borrow.Author.Needs.{needs}
-use Rattle.laws.specs.Cut.Saturate.{cap}
+use Rattle.laws.specs.Cut.Saturate.{capped}
 use Rattle.region.proofs.near_part.Statement.{statement}
 use Rattle.region.proofs.near_part.Tie as tie
 
@@ -25,7 +26,7 @@ mul-result c = omega (arith, small c)
 
 returns : tie.Need-returns
 returns c = let a = c .before .before .args in
-    (ap (λ (x : ℕ). a .s * x) (c .least .ensures ∙ ap (λ (x : ℕ). min x cap) (c .before .less-one .ensures)), omega (arith, small c))
+    (ap (λ (x : ℕ). a .s * x) (c .least .ensures ∙ capped (c .before .less-one .ensures)), omega (arith, small c))
 
 pub near-part-spec : {M : Type 1} → statement M
 near-part-spec = tie.close (tie.spec less-one-requires least-requires mul-result returns)

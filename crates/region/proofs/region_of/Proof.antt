@@ -1,15 +1,18 @@
--- A loop over the tail keeps C, which is cut off at the end, and M, which is saturated; the lines and the product follow.
+-- `region::region_of` meets its contract. The invariant over the axes before i: C, the sum of the near parts, is exact up to the cap and has
+-- room to grow, and M, the product of the far blocks, is saturated. Lines and product follow from both. Assumes nothing.
+use borrow.Author.Needs.{needs}
 use native.Mathlib.Omega.{arith}
 use mathlib.Core.Path.{_≡_, sym, ap, _∙_}
 use mathlib.Core.Logic.{⊎-elim}
 use mathlib.Core.List.{List}
-use Prim.Native.Nat.{ℕ, _+_, _-_, _*_, _/_, _≤_, min}
+use Prim.Native.Nat.{ℕ, _+_, _-_, _*_, _≤_, min}
 use native.Mathlib.Nat.{mul-one, add-zero}
 use lib.ListN.{getD}
+use borrow.Author.Tests.{lt-ltb, le-ltb}
 use Rattle.strided.specs.Base.{sum, product}
 use Rattle.strided.specs.Region.{near, far, byteAt, regionOf}
-use Rattle.laws.specs.Cut.Ranges.{sum-start, sum-step, product-start, product-step, cond-lt, cond-le}
-use Rattle.laws.specs.Cut.Saturate.{cap, min-mul-left, min-mul-right, lines-sat}
+use Rattle.laws.specs.Cut.Ranges.{sum-start, sum-step, product-start, product-step}
+use Rattle.laws.specs.Cut.Saturate.{cap, capped, min-mul-left, min-mul-right, lines-sat}
 use Rattle.region.proofs.region_of.Statement.{statement}
 use Rattle.region.proofs.region_of.Tie as tie
 
@@ -25,7 +28,7 @@ mul-from : tie.Need-mul-from Inv-loop μ-loop
 mul-from c = omega arith
 
 loop-holds : tie.Need-loop-holds Inv-loop μ-loop
-loop-holds c = (omega arith, omega arith, omega arith, ap (λ (x : ℕ). min x cap) (sym (sum-start _ _)), ap (λ (x : ℕ). min x cap) (sym (product-start _ _)))
+loop-holds c = (omega arith, omega arith, omega arith, capped (sym (sum-start _ _)), capped (sym (product-start _ _)))
 
 add-s : tie.Need-add-s Inv-loop μ-loop
 add-s c = omega arith
@@ -43,7 +46,7 @@ element-copy-out-b : tie.Need-element-copy-out-b Inv-loop μ-loop
 element-copy-out-b c = omega arith
 
 near-part-requires : tie.Need-near-part-requires Inv-loop μ-loop
-near-part-requires c κs = c .if1 .taken
+near-part-requires c κs = search needs
 
 add-c : tie.Need-add-c Inv-loop μ-loop
 add-c c = omega (arith, c .near-part .ensures .1)
@@ -62,35 +65,32 @@ more : (C T c t r : ℕ) → min c cap ≡ min C cap → min t cap ≡ min T cap
 more C T c t r p q e = omega arith
 
 loop-again : tie.Need-loop-again Inv-loop μ-loop
-loop-again c = let a = c .before .before .before .before .before .args in
-    let l = c .before .before .before .before .loop in
+loop-again c = let l = c .before .before .before .before in
+    let a = l .before .args in
+    let i : ℕ = l .loop .i in
     let bytes : List ℕ = a .bytes .now in
     let blocks : List ℕ = a .blocks .now in
-    let s : ℕ = byteAt bytes (a .k) (l .i) in
-    let b : ℕ = getD blocks (l .i) 0 in
-    let C : ℕ = sum (near bytes blocks (a .k)) (a .offset) (l .i - a .offset) in
-    let M : ℕ = product (far bytes blocks (a .k)) (a .offset) (l .i - a .offset) in
-    let ss = sum-step (near bytes blocks (a .k)) (a .offset) (l .i) (l .inv .0) in
-    let ps = product-step (far bytes blocks (a .k)) (a .offset) (l .i) (l .inv .0) in
+    let s : ℕ = byteAt bytes (a .k) i in
+    let b : ℕ = getD blocks i 0 in
+    let C : ℕ = sum (near bytes blocks (a .k)) (a .offset) (i - a .offset) in
+    let M : ℕ = product (far bytes blocks (a .k)) (a .offset) (i - a .offset) in
+    let ss = sum-step (near bytes blocks (a .k)) (a .offset) i (l .loop .inv .0) in
+    let ps = product-step (far bytes blocks (a .k)) (a .offset) i (l .loop .inv .0) in
     ⊎-elim
     (λ w.
-    let e1 = cond-lt s 64 (s * (b - 1)) 0 (w .0 .taken) in
-    let e2 = cond-lt s 64 1 b (w .0 .taken) in
     let t = w .1 .ensures in (
       omega arith,
       omega arith,
       omega (arith, w .2, t .1),
-      more C (s * (b - 1)) (l .c) _ _ (l .inv .3) (ap (λ (x : ℕ). min x cap) (t .0) ∙ min-mul-right s (b - 1) cap) (w .2) ∙ ap (λ (x : ℕ). min x cap) (sym (ss ∙ ap (λ (x : ℕ). C + x) e1)),
-      w .3 ∙ l .inv .4 ∙ ap (λ (x : ℕ). min x cap) (sym (ps ∙ ap (λ (x : ℕ). M * x) e2 ∙ mul-one M)),
+      rw (ss, lt-ltb s 64 (w .0 .taken)) (more C (s * (b - 1)) (l .loop .c) _ _ (l .loop .inv .3) (capped (t .0) ∙ min-mul-right s (b - 1) cap) (w .2)),
+      rw (ps, lt-ltb s 64 (w .0 .taken), mul-one) (w .3 ∙ l .loop .inv .4),
     ))
-    (λ w.
-    let e1 = cond-le s 64 (s * (b - 1)) 0 (w .0 .left) in
-    let e2 = cond-le s 64 1 b (w .0 .left) in (
+    (λ w. (
       omega arith,
       omega arith,
       omega (arith, w .2),
-      ap (λ (x : ℕ). min x cap) (w .2) ∙ l .inv .3 ∙ ap (λ (x : ℕ). min x cap) (sym (ss ∙ ap (λ (x : ℕ). C + x) e1 ∙ add-zero C)),
-      w .3 ∙ w .1 .ensures ∙ ap (λ (x : ℕ). min (x * b) cap) (l .inv .4) ∙ min-mul-left M b cap ∙ ap (λ (x : ℕ). min x cap) (sym (ps ∙ ap (λ (x : ℕ). M * x) e2)),
+      rw (ss, le-ltb s 64 (w .0 .left), add-zero) (capped (w .2) ∙ l .loop .inv .3),
+      rw (ps, le-ltb s 64 (w .0 .left)) (w .3 ∙ w .1 .ensures ∙ ap (λ (x : ℕ). min (x * b) cap) (l .loop .inv .4) ∙ min-mul-left M b cap),
     ))
     (c .if1 .came)
 

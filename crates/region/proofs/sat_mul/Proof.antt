@@ -1,15 +1,13 @@
--- Both factors are at most the cap, so their product fits, and cutting them off first changes nothing.
+-- `region::sat_mul` meets its contract: both factors are at most the cap, so that their product fits 64 bits, and cutting them off first
+-- changes nothing (laws, Cut/Saturate). Assumes nothing.
 use native.Mathlib.Omega.{arith}
 use native.Mathlib.Nat.{mul-le-mul}
-use mathlib.Core.Path.{_≡_, ap₂, _∙_}
+use mathlib.Core.Path.{ap₂, _∙_}
 use Prim.Native.Nat.{ℕ, _*_, _≤_, min}
 use Rattle.laws.specs.Cut.Saturate.{cap, min-mul-left, min-mul-right}
 use borrow.Author.Needs.{needs}
 use Rattle.region.proofs.sat_mul.Statement.{statement}
 use Rattle.region.proofs.sat_mul.Tie as tie
-use Rattle.region.proofs.sat_mul.Reads as reads
-use Rattle.region.proofs.sat_mul.Lts as lts
-use Rattle.region.proofs.least.Reads as least-reads
 
 least-requires : tie.Need-least-requires
 least-requires c κs = search needs

@@ -1,7 +1,8 @@
--- Both factors are at most the cap, so their product fits, and cutting the second off first changes nothing.
+-- `region::times` meets its contract: both factors are at most the cap, so that their product fits 64 bits, and cutting the second off
+-- first changes nothing (laws, Cut/Saturate). Assumes nothing.
 use native.Mathlib.Omega.{arith}
 use native.Mathlib.Nat.{mul-le-mul}
-use mathlib.Core.Path.{_≡_, ap, _∙_}
+use mathlib.Core.Path.{ap, _∙_}
 use Prim.Native.Nat.{ℕ, _*_, _≤_, min}
 use Rattle.laws.specs.Cut.Saturate.{cap, min-mul-right}
 use borrow.Author.Needs.{needs}

@@ -1,13 +1,13 @@
--- A loop clips axis after axis; a score above s has a cost above 0.
+-- `shrink::clip_into` meets its contract. The invariant: the axes before i are clipped. A score above s has a cost above 0, so that the code
+-- may divide by it. Assumes nothing.
 use native.Mathlib.Omega.{arith}
-use mathlib.Core.Path.{_≡_, sym, ap, ap₂, subst, _∙_}
-use mathlib.Core.List.{List}
+use mathlib.Core.Path.{_≡_, sym, ap, _∙_}
 use mathlib.Core.Logic.{⊎-elim}
-use Prim.Native.Nat.{ℕ, _+_, _-_, _*_, _/_, _≤_, _<_}
+use Prim.Native.Nat.{ℕ, _-_, _*_, _≤_, _<_}
 use native.Mathlib.Nat.{div-le-self}
-use lib.ListN.{getD, set}
+use lib.ListN.{getD}
+use borrow.Author.Tests.{lt-ltb, le-ltb}
 use Rattle.strided.specs.Cut.{score}
-use Rattle.laws.specs.Cut.Ranges.{cond-lt, cond-le}
 use Rattle.laws.specs.Cut.Jump.{pos-right, clippedOver, over-start, over-step}
 use Rattle.shrink.proofs.clip_into.Statement.{statement}
 use Rattle.shrink.proofs.clip_into.Tie as tie
@@ -51,7 +51,7 @@ mul-if1 c =
     omega (arith, the-score c, l .before .pre .1 (l .loop .i) (omega arith))
 
 div-out : tie.Need-div-out Inv-loop μ-loop
-div-out c = pos-right (c .before .less-one .result) _ (c .before .before .before .before .before .before .args .s) (c .if1 .taken)
+div-out c = pos-right (c .before .less-one .result) _ _ (c .if1 .taken)
 
 add-out : tie.Need-add-out Inv-loop μ-loop
 add-out c =
@@ -82,21 +82,12 @@ loop-again c =
     let l = c .before .before .before .before .before in
     let a = l .before .args in
     let i : ℕ = l .loop .i in
-    let blocks : List ℕ = a .blocks .now in
-    let costs : List ℕ = a .costs .now in
+    let sc : ℕ = score (a .blocks .now) (a .costs .now) i in
     let e = the-score (c .before) in
-    let st = over-step (a .s) costs (a .offset) i blocks (a .out .now) (l .loop .inv .0) in
+    let st = over-step (a .s) (a .costs .now) (a .offset) i (a .blocks .now) (a .out .now) (l .loop .inv .0) in
     ⊎-elim
-    (λ w. (
-      omega arith,
-      omega arith,
-      w .1 ∙ ap₂ (λ (b : List ℕ) (v : ℕ). set b i v) (l .loop .inv .2) (sym (cond-lt (a .s) (score blocks costs i) (a .s / getD costs i 0 + 1) (getD blocks i 0) (subst (λ (z : ℕ). a .s < z) e (w .0 .taken)))) ∙ sym st,
-    ))
-    (λ w. (
-      omega arith,
-      omega arith,
-      w .1 ∙ ap₂ (λ (b : List ℕ) (v : ℕ). set b i v) (l .loop .inv .2) (sym (cond-le (a .s) (score blocks costs i) (a .s / getD costs i 0 + 1) (getD blocks i 0) (subst (λ (z : ℕ). z ≤ a .s) e (w .0 .left)))) ∙ sym st,
-    ))
+    (λ w. let above : a .s < sc = omega (arith, e, w .0 .taken) in (omega arith, omega arith, rw (w .1, l .loop .inv .2, st, lt-ltb (a .s) sc above)))
+    (λ w. let within : sc ≤ a .s = omega (arith, e, w .0 .left) in (omega arith, omega arith, rw (w .1, l .loop .inv .2, st, le-ltb (a .s) sc within)))
     (c .if1 .came)
 
 returns : tie.Need-returns Inv-loop μ-loop

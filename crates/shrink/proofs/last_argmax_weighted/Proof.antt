@@ -1,20 +1,17 @@
--- A loop keeps the pick of the axes so far, and its score.
+-- `shrink::last_argmax_weighted` meets its contract. The invariant: `best` is the pick of the axes before i, and `top` its score.
+-- A block of 1 is passed over, and of equal scores the later wins. Assumes nothing.
 use native.Mathlib.Omega.{arith}
-use mathlib.Core.Path.{_≡_, refl, sym, ap, subst⁻¹, _∙_}
+use mathlib.Core.Path.{_≡_, refl, sym, ap, _∙_}
 use mathlib.Core.Logic.{⊎-elim}
-use mathlib.Core.List.{List}
 use mathlib.Core.Option.{Option}
-use Prim.Native.Nat.{ℕ, _+_, _-_, _≤_, _<_}
+use Prim.Native.Nat.{ℕ, _-_, _≤_, _<_}
 use lib.ListN.{getD}
-use Rattle.strided.specs.Cut.{score, later, greatestScore}
-use Rattle.laws.specs.Cut.Ranges.{cond-lt, cond-le}
+use borrow.Author.Tests.{lt-ltb, le-ltb}
+use Rattle.strided.specs.Cut.{score, greatestScore}
 use Rattle.laws.specs.Cut.Picks.{topOf, later-wins, later-loses, pick-start, pick-step}
 use Rattle.shrink.specs.Picked.{picked}
-use Rattle.shrink.specs.declared.Pick.{Pick}
 use Rattle.shrink.proofs.last_argmax_weighted.Statement.{statement}
 use Rattle.shrink.proofs.last_argmax_weighted.Tie as tie
-use Rattle.shrink.proofs.last_argmax_weighted.Reads as reads
-use Rattle.shrink.proofs.last_argmax_weighted.Lts as lts
 
 abbrev Inv-loop : tie.InvT-loop
 Inv-loop blocks costs offset rank best₀ top₀ i₀ best top i = (offset ≤ i) × (i ≤ rank) × (picked best ≡ greatestScore blocks costs offset (i - offset)) × (top ≡ topOf (score blocks costs) (picked best))
@@ -50,35 +47,23 @@ loop-less : tie.Need-loop-less Inv-loop μ-loop
 loop-less c = omega arith
 
 loop-again : tie.Need-loop-again Inv-loop μ-loop
-loop-again c = let a = c .before .before .before .before .args in
-    let l = c .before .before .before .loop in
-    let blocks : List ℕ = a .blocks .now in
-    let costs : List ℕ = a .costs .now in
-    let s : ℕ → ℕ = score blocks costs in
-    let b : ℕ = getD blocks (l .i) 0 in
-    let old : Option ℕ = greatestScore blocks costs (a .offset) (l .i - a .offset) in
-    let st = pick-step blocks costs (a .offset) (l .i) (l .inv .0) in
-    let e : topOf s old ≡ l .top = sym (l .inv .3 ∙ ap (topOf s) (l .inv .2)) in
+loop-again c = let l = c .before .before .before in
+    let a = l .before .args in
+    let i : ℕ = l .loop .i in
+    let s : ℕ → ℕ = score (a .blocks .now) (a .costs .now) in
+    let b : ℕ = getD (a .blocks .now) i 0 in
+    let old : Option ℕ = greatestScore (a .blocks .now) (a .costs .now) (a .offset) (i - a .offset) in
+    let st = pick-step (a .blocks .now) (a .costs .now) (a .offset) i (l .loop .inv .0) in
+    let e : topOf s old ≡ l .loop .top = sym (l .loop .inv .3 ∙ ap (topOf s) (l .loop .inv .2)) in
     ⊎-elim
-    (λ w. (
-      omega arith,
-      omega arith,
-      ap picked (w .3) ∙ sym (st ∙ cond-lt 1 b (later s (l .i) old) old (w .0 .taken) ∙ later-wins s (l .i) old (subst⁻¹ (λ (x : ℕ). x ≤ s (l .i)) e (w .2 .taken))),
-      w .4 ∙ sym (ap (λ (p : Pick). topOf s (picked p)) (w .3)),
-    ))
+    (λ w.
+    let wins : topOf s old ≤ s i = omega (arith, e, w .2 .taken) in
+    (omega arith, omega arith, rw (st, lt-ltb 1 b (w .0 .taken), later-wins s i old wins) (ap picked (w .3)), rw (w .3) (w .4)))
     (⊎-elim
-    (λ w. (
-      omega arith,
-      omega arith,
-      ap picked (w .3) ∙ l .inv .2 ∙ sym (st ∙ cond-lt 1 b (later s (l .i) old) old (w .0 .taken) ∙ later-loses s (l .i) old (subst⁻¹ (λ (x : ℕ). s (l .i) < x) e (w .2 .left))),
-      w .4 ∙ l .inv .3 ∙ sym (ap (λ (p : Pick). topOf s (picked p)) (w .3)),
-    ))
-    (λ w. (
-      omega arith,
-      omega arith,
-      ap picked (w .1) ∙ l .inv .2 ∙ sym (st ∙ cond-le 1 b (later s (l .i) old) old (w .0 .left)),
-      w .2 ∙ l .inv .3 ∙ sym (ap (λ (p : Pick). topOf s (picked p)) (w .1)),
-    )))
+    (λ w.
+    let loses : s i < topOf s old = omega (arith, e, w .2 .left) in
+    (omega arith, omega arith, rw (st, lt-ltb 1 b (w .0 .taken), later-loses s i old loses) (ap picked (w .3) ∙ l .loop .inv .2), rw (w .3) (w .4 ∙ l .loop .inv .3)))
+    (λ w. (omega arith, omega arith, rw (st, le-ltb 1 b (w .0 .left)) (ap picked (w .1) ∙ l .loop .inv .2), rw (w .1) (w .2 ∙ l .loop .inv .3))))
     (c .if1 .came)
 
 returns : tie.Need-returns Inv-loop μ-loop

@@ -1,4 +1,5 @@
--- Where the clipped blocks are still too large the single steps pass them (the jump); else they start from the blocks themselves.
+-- `shrink::lessen_far` meets its contract. Where the clipped blocks are still too large, the single steps pass them (laws, Cut/Jump); else they
+-- start from the blocks themselves. Either way they end at the same. Assumes nothing.
 use native.Mathlib.Omega.{arith}
 use mathlib.Core.Path.{_≡_, sym, ap, subst, subst⁻¹, _∙_}
 use mathlib.Core.List.{List}
@@ -47,28 +48,29 @@ clip-into-requires c κs = search needs
 memory-region-requires-2 : tie.Need-memory-region-requires-2
 memory-region-requires-2 c κs = search needs
 
--- the blocks where the arms meet
-started : (c : tie.Joined2) →
-    let a = c .before .before .before .before .before .before .before .before .before .before .before .before .args in
+-- the arguments, from where the arms meet
+abbrev start : tie.Joined2 → tie.Start
+start c = c .before .before .before .before .before .before .before .before .before .before .before .before
+
+-- the blocks there
+started : (c : tie.Joined2)
+    → let a = start c .args in
     From (a .bytes .now) (a .operands) (a .costs .now) (a .offset) (a .rank - a .offset) (a .rank) (a .blocks .now) (c .if2 .blocks)
 started c =
-    let k = c .before .before .before in
-    let v = k .before .before .before .before in
-    let s = v .before .before .before .before .before in
-    let a = s .args in
+    let a = start c .args in
     let n : ℕ = a .rank - a .offset in
-    let b : List ℕ = a .blocks .now in
+    let fit = start c .pre .1 in
+    let k = c .before .before .before in
     let t = k .clip-into .last .1 .1 .1 .1 .1 .0 in
     ⊎-elim
-    (λ w. jumps (a .bytes .now) (a .operands) (a .costs .now) (a .offset) n (a .rank) b (s .pre .1) (v .level .result) t (c .if2 .blocks) (k .clip-into .ensures)
-    (let r = c .before .memory-region2 .ensures in omega (arith, r, w .0 .taken)) (w .1))
-    (λ w. stays (a .bytes .now) (a .operands) (a .costs .now) (a .offset) n (a .rank) b (s .pre .1) (c .if2 .blocks) (w .1))
+    (λ w.
+    let big : cache < region (a .bytes .now) (a .operands) t (a .offset) n = omega (arith, c .before .memory-region2 .ensures, w .0 .taken) in
+    jumps (a .bytes .now) (a .operands) (a .costs .now) (a .offset) n (a .rank) (a .blocks .now) fit (k .before .before .before .before .level .result) t (c .if2 .blocks) (k .clip-into .ensures) big (w .1))
+    (λ w. stays (a .bytes .now) (a .operands) (a .costs .now) (a .offset) n (a .rank) (a .blocks .now) fit (c .if2 .blocks) (w .1))
     (c .if2 .came)
 
 lessen-requires : tie.Need-lessen-requires
-lessen-requires c κs =
-    let s = c .before .before .before .before .before .before .before .before .before .before .before .before .before in
-    (s .pre .0, started (c .before) .fit)
+lessen-requires c κs = let j = c .before in (start j .pre .0, started j .fit)
 
 returns-2 : tie.Need-returns-2
 returns-2 c = c .lessen .ensures ∙ started (c .before .before) .same

@@ -1,6 +1,8 @@
--- A search between two bounds ends; which score it finds does not matter.
+-- `shrink::level` ends and does nothing undefined; it promises no more, since the jump is right from any score.
+-- The invariant: the two bounds of the search are in order. Assumes nothing.
+use borrow.Author.Needs.{needs}
 use native.Mathlib.Omega.{arith}
-use Prim.Native.Nat.{ℕ, _-_, _≤_, _<_, _^_}
+use Prim.Native.Nat.{_-_, _≤_, _<_, _^_}
 use Rattle.shrink.proofs.level.Statement.{statement}
 use Rattle.shrink.proofs.level.Tie as tie
 
@@ -11,7 +13,7 @@ abbrev μ-loop : tie.MeasureT-loop
 μ-loop blocks bytes costs operands offset rank t₀ lo₀ hi₀ t lo hi = hi - lo
 
 top-score-requires : tie.Need-top-score-requires Inv-loop μ-loop
-top-score-requires c κs = (c .before .pre .0 .1, c .before .pre .1)
+top-score-requires c κs = search needs
 
 loop-holds : tie.Need-loop-holds Inv-loop μ-loop
 loop-holds c = omega arith
@@ -23,10 +25,10 @@ add-mid : tie.Need-add-mid Inv-loop μ-loop
 add-mid c = omega arith
 
 clip-into-requires : tie.Need-clip-into-requires Inv-loop μ-loop
-clip-into-requires c κs = let s = c .before .before .before .before .before in (s .pre .0 .1, s .pre .1)
+clip-into-requires c κs = search needs
 
 memory-region-requires : tie.Need-memory-region-requires Inv-loop μ-loop
-memory-region-requires c κs = c .before .before .before .before .before .before .before .pre .0
+memory-region-requires c κs = search needs
 
 loop-less : tie.Need-loop-less Inv-loop μ-loop
 loop-less c = omega arith

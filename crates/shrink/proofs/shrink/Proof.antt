@@ -1,5 +1,6 @@
--- Halving, then taking 1 off: halved blocks are no longer than before.
-use mathlib.Core.Path.{sym, ap, subst⁻¹, _∙_}
+-- `shrink::shrink` meets its contract: halving, then taking 1 off. No block is greater after halving, so that scores still fit 64 bits.
+-- Assumes nothing.
+use mathlib.Core.Path.{ap, subst⁻¹, _∙_}
 use mathlib.Core.List.{List}
 use Prim.Native.Nat.{ℕ, _-_}
 use Rattle.strided.specs.Cut.{halved, lessened, shrunk}

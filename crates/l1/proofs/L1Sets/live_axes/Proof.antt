@@ -1,15 +1,11 @@
--- `l1::L1Sets::live_axes` meets its contract. Assumes nothing.
-use native.Mathlib.Omega.{arith}
-use mathlib.Core.Path.{_≡_, sym, subst, _∙_}
+-- `l1::L1Sets::live_axes` meets its contract: one law of Loads for each way out. Assumes nothing.
+use mathlib.Core.Path.{sym, subst, _∙_}
 use Prim.Native.Nat.{ℕ, _<_, _≤_}
 use borrow.Author.Tests.{eq-eqb, ne-eqb}
 use Rattle.l1.proofs.Loads.{live-empty, live-some, live-none}
 use borrow.Author.Needs.{needs}
 use Rattle.l1.proofs.L1Sets.live_axes.Statement.{statement}
 use Rattle.l1.proofs.L1Sets.live_axes.Tie as tie
-use Rattle.l1.proofs.L1Sets.live_axes.Reads as reads
-use Rattle.l1.proofs.L1Sets.live_axes.Lts as lts
-use Rattle.l1.proofs.L1Sets.reuse_axis.Reads as reuse-axis-reads
 
 mul-if1 : tie.Need-mul-if1
 mul-if1 c = search needs

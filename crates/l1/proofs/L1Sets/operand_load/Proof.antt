@@ -1,25 +1,20 @@
--- A loop multiplies the blocks of the axes that bring lines into one set, saturated.
+-- `l1::L1Sets::operand_load` meets its contract. The invariant: m is the product of the blocks before i that bring lines into one set,
+-- saturated. Assumes nothing.
 use native.Mathlib.Omega.{arith}
 use mathlib.Core.Path.{_≡_, sym, ap, _∙_}
-use mathlib.Core.Bool.{Bool, cond}
 use mathlib.Core.Logic.{⊎-elim}
 use Prim.Native.Nat.{ℕ, _-_, _*_, _≤_, min}
 use native.Mathlib.Nat.{mul-one}
-use lib.Dec.{eqb}
 use lib.ListN.{getD}
 use borrow.Author.Tests.{eq-eqb, ne-eqb}
 use Rattle.strided.specs.Base.{product}
 use Rattle.strided.specs.Region.{byteAt}
 use Rattle.strided.specs.Fit.{aliases, factor}
-use Rattle.laws.specs.Cut.Ranges.{cond-true, cond-false, product-none, product-more}
-use Rattle.laws.specs.Cut.Saturate.{cap, min-mul-left}
+use Rattle.laws.specs.Cut.Ranges.{product-none, product-more}
+use Rattle.laws.specs.Cut.Saturate.{cap, capped, min-mul-left}
 use Rattle.l1.specs.Live.{productOf}
 use Rattle.l1.proofs.L1Sets.operand_load.Statement.{statement}
 use Rattle.l1.proofs.L1Sets.operand_load.Tie as tie
-use Rattle.l1.proofs.L1Sets.operand_load.Reads as reads
-use Rattle.l1.proofs.L1Sets.operand_load.Lts as lts
-use Rattle.l1.proofs.L1Sets.in_one_set.Reads as in-one-set-reads
-use Rattle.region.proofs.sat_mul.Reads as sat-mul-reads
 
 abbrev Inv-loop : tie.InvT-loop
 Inv-loop bytes blocks k axes m₀ i₀ m i = (i ≤ axes) × (m ≡ min (product (factor bytes blocks k) 0 i) cap)
@@ -29,11 +24,10 @@ abbrev μ-loop : tie.MeasureT-loop
 
 returns : tie.Need-returns Inv-loop μ-loop
 unfolding productOf
-returns c = let a = c .before .args in
-    sym (ap (λ (x : ℕ). min x cap) (cond-true (eqb (a .axes) 0) 0 (product (factor (a .bytes .now) (a .blocks .now) (a .k)) 0 (a .axes)) (eq-eqb _ _ (c .if1 .taken))))
+returns c = rw (eq-eqb _ _ (c .if1 .taken))
 
 loop-holds : tie.Need-loop-holds Inv-loop μ-loop
-loop-holds c = (omega arith, ap (λ (x : ℕ). min x cap) (sym (product-none _)))
+loop-holds c = (omega arith, capped (sym (product-none _)))
 
 mul-in-one-set : tie.Need-mul-in-one-set Inv-loop μ-loop
 mul-in-one-set c = omega arith
@@ -66,26 +60,16 @@ loop-less : tie.Need-loop-less Inv-loop μ-loop
 loop-less c = omega arith
 
 loop-again : tie.Need-loop-again Inv-loop μ-loop
-loop-again c = let a = c .before .before .before .before .before .before .args in
-    let l = c .before .before .before .before .loop in
+loop-again c = let l = c .before .before .before .before in
+    let a = l .before .before .args in
+    let i : ℕ = l .loop .i in
     let f : ℕ → ℕ = factor (a .bytes .now) (a .blocks .now) (a .k) in
-    let b : ℕ = getD (a .blocks .now) (l .i) 0 in
-    let P : ℕ = product f 0 (l .i) in
-    let al : Bool = aliases (byteAt (a .bytes .now) (a .k) (l .i)) in
-    let e : c .before .in-one-set .result ≡ al = c .before .in-one-set .ensures in
-    let st = product-more f (l .i) in
+    let b : ℕ = getD (a .blocks .now) i 0 in
+    let e : c .before .in-one-set .result ≡ aliases (byteAt (a .bytes .now) (a .k) i) = c .before .in-one-set .ensures in
+    let st = product-more f i in
     ⊎-elim
-    (λ w.
-    let g : f (l .i) ≡ b = cond-true al b 1 (sym e ∙ w .0 .taken) in (
-      omega arith,
-      w .3 ∙ w .2 .ensures ∙ ap (λ (x : ℕ). min (x * b) cap) (l .inv .1) ∙ min-mul-left P b cap
-          ∙ ap (λ (x : ℕ). min x cap) (sym (st ∙ ap (λ (x : ℕ). P * x) g)),
-    ))
-    (λ w.
-    let g : f (l .i) ≡ 1 = cond-false al b 1 (sym e ∙ w .0 .left) in (
-      omega arith,
-      w .1 ∙ l .inv .1 ∙ ap (λ (x : ℕ). min x cap) (sym (st ∙ ap (λ (x : ℕ). P * x) g ∙ mul-one P)),
-    ))
+    (λ w. (omega arith, rw (st, sym e ∙ w .0 .taken) (w .3 ∙ w .2 .ensures ∙ ap (λ (x : ℕ). min (x * b) cap) (l .loop .inv .1) ∙ min-mul-left (product f 0 i) b cap)))
+    (λ w. (omega arith, rw (st, sym e ∙ w .0 .left, mul-one) (w .1 ∙ l .loop .inv .1)))
     (c .if2 .came)
 
 returns-2 : tie.Need-returns-2 Inv-loop μ-loop
@@ -93,9 +77,7 @@ unfolding productOf
 returns-2 c = let a = c .before .before .before .args in
     let l = c .before .loop in
     let e : l .i ≡ a .axes = omega arith in
-    let p : ℕ → ℕ = product (factor (a .bytes .now) (a .blocks .now) (a .k)) 0 in
-    l .inv .1 ∙ ap (λ (i : ℕ). min (p i) cap) e
-    ∙ ap (λ (x : ℕ). min x cap) (sym (cond-false (eqb (a .axes) 0) 0 (p (a .axes)) (ne-eqb _ _ (c .before .before .if1 .left))))
+    rw (ne-eqb _ _ (c .before .before .if1 .left)) (l .inv .1 ∙ ap (λ (i : ℕ). min (product (factor (a .bytes .now) (a .blocks .now) (a .k)) 0 i) cap) e)
 
 pub operand-load-spec : {M : Type 1} → statement M
 operand-load-spec =

@@ -1,5 +1,7 @@
--- A loop seeks from the first axis on.
+-- `l1::L1Sets::reuse_axis` meets its contract. The invariant: seeking on from axis i finds what is sought. Assumes nothing.
 use native.Mathlib.Omega.{arith}
+use mathlib.Core.Bool.{Bool}
+use mathlib.Core.List.{List}
 use mathlib.Core.Path.{_≡_, sym, ap, _∙_}
 use Prim.Native.Nat.{ℕ, _-_, _≤_}
 use native.Mathlib.Nat.{sub-zero}
@@ -11,18 +13,20 @@ use Rattle.strided.specs.Fit.{reuse}
 use Rattle.laws.specs.Cut.Ranges.{seek-none, seek-hit, seek-miss}
 use Rattle.l1.proofs.L1Sets.reuse_axis.Statement.{statement}
 use Rattle.l1.proofs.L1Sets.reuse_axis.Tie as tie
-use Rattle.l1.proofs.L1Sets.reuse_axis.Reads as reads
-use Rattle.l1.proofs.L1Sets.reuse_axis.Lts as lts
+
+-- whether operand k's byte stride on axis j is below a line
+abbrev near : List ℕ → ℕ → ℕ → Bool
+near bytes k j = ltb (byteAt bytes k j) line
 
 abbrev Inv-loop : tie.InvT-loop
-Inv-loop bytes rank k i₀ i = (i ≤ rank) × (seek (λ j. ltb (byteAt bytes k j) line) i (rank - i) ≡ reuse bytes rank k)
+Inv-loop bytes rank k i₀ i = (i ≤ rank) × (seek (near bytes k) i (rank - i) ≡ reuse bytes rank k)
 
 abbrev μ-loop : tie.MeasureT-loop
 μ-loop bytes rank k i₀ i = rank - i
 
 loop-holds : tie.Need-loop-holds Inv-loop μ-loop
 unfolding reuse
-loop-holds c = (omega arith, ap (seek (λ j. ltb (byteAt (c .args .bytes .now) (c .args .k) j) line) 0) (sub-zero (c .args .rank)))
+loop-holds c = (omega arith, ap (seek (near (c .args .bytes .now) (c .args .k)) 0) (sub-zero (c .args .rank)))
 
 mul-if1 : tie.Need-mul-if1 Inv-loop μ-loop
 mul-if1 c = omega arith
@@ -39,7 +43,7 @@ element-copy-out-if1 c = omega arith
 returns : tie.Need-returns Inv-loop μ-loop
 returns c = let a = c .before .before .before .before .args in
     let l = c .before .before .before .loop in
-    sym (seek-hit (λ j. ltb (byteAt (a .bytes .now) (a .k) j) line) (l .i) (a .rank) (omega arith) (lt-ltb _ _ (c .if1 .taken))) ∙ l .inv .1
+    sym (seek-hit (near (a .bytes .now) (a .k)) (l .i) (a .rank) (omega arith) (lt-ltb _ _ (c .if1 .taken))) ∙ l .inv .1
 
 add-i : tie.Need-add-i Inv-loop μ-loop
 add-i c = omega arith
@@ -50,13 +54,12 @@ loop-less c = omega arith
 loop-again : tie.Need-loop-again Inv-loop μ-loop
 loop-again c = let a = c .before .before .before .before .args in
     let l = c .before .before .before .loop in
-    (omega arith, sym (seek-miss (λ j. ltb (byteAt (a .bytes .now) (a .k) j) line) (l .i) (a .rank) (omega arith) (le-ltb _ _ (c .if1 .left))) ∙ l .inv .1)
+    (omega arith, sym (seek-miss (near (a .bytes .now) (a .k)) (l .i) (a .rank) (omega arith) (le-ltb _ _ (c .if1 .left))) ∙ l .inv .1)
 
 returns-2 : tie.Need-returns-2 Inv-loop μ-loop
 returns-2 c = let a = c .before .before .args in
     let l = c .before .loop in
-    let e : l .i ≡ a .rank = omega arith in
-    sym (ap (λ (r : ℕ). seek (λ j. ltb (byteAt (a .bytes .now) (a .k) j) line) (l .i) (r - l .i)) (sym e) ∙ seek-none _ (l .i)) ∙ l .inv .1
+    sym (seek-none (near (a .bytes .now) (a .k)) (l .i) (a .rank) (omega arith)) ∙ l .inv .1
 
 pub reuse-axis-spec : {M : Type 1} → statement M
 reuse-axis-spec =

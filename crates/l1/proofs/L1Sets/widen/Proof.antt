@@ -1,10 +1,12 @@
--- A search between a block whose load fits and one above which none does. Whatever block is tried in between, the others stay.
+-- `l1::L1Sets::widen` meets its contract. The invariant: the load fits at block `lo` and at none above `hi`; whatever block axis i was tried
+-- with, the other blocks stay. The load grows with the block, so that one trial decides for all on its side. Assumes nothing.
+use borrow.Author.Needs.{needs}
 use native.Mathlib.Omega.{arith}
 use mathlib.Core.Path.{_≡_, refl, sym, ap, _∙_}
 use mathlib.Core.List.{List}
-use Prim.Native.Nat.{ℕ, _+_, _-_, _/_, _≤_, _<_, min}
+use Prim.Native.Nat.{ℕ, _-_, _/_, _≤_, _<_, min}
 use lib.Dec.{leb}
-use lib.ListN.{getD, set}
+use lib.ListN.{set}
 use lib.Seq.{set-set}
 use borrow.Author.Tests.{le-leb, lt-leb}
 use Rattle.strided.specs.Region.{live}
@@ -34,7 +36,7 @@ sub-mid-2 : tie.Need-sub-mid-2 Inv-loop μ-loop
 sub-mid-2 c = omega arith
 
 load-with-requires : tie.Need-load-with-requires Inv-loop μ-loop
-load-with-requires c κs = c .before .before .before .pre .0
+load-with-requires c κs = search needs
 
 -- the load that was tried, and the other blocks
 tried : (c : tie.After-load-with Inv-loop μ-loop) →

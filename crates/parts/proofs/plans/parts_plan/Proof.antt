@@ -5,7 +5,6 @@ use Rattle.strided.specs.Plan.{planned}
 use Rattle.strided.specs.Refusals.{answered, layoutRefused}
 use Rattle.strided.specs.declared.Answer.{Answer}
 use Rattle.strided.specs.declared.Planned.{Planned}
-use Rattle.strided.specs.declared.Purpose.{Purpose}
 use Rattle.laws.specs.Plan.Answers.{planned-answer}
 use Rattle.kernel.specs.Made.{planMemory}
 use Rattle.parts.specs.Answers.{purposeOf}

@@ -1,6 +1,6 @@
 -- `parts::steps::parts_step` meets its contract. Assumes nothing.
 use borrow.Author.Needs.{needs}
-use mathlib.Core.Path.{_≡_, ap₂, _∙_}
+use mathlib.Core.Path.{ap₂, _∙_}
 use mir.Facts.{toZ-ofZ}
 use Rattle.strided.specs.Step.{stepped}
 use Rattle.walk.specs.Memory.{steps-of}

@@ -1,6 +1,6 @@
 -- `parts::steps::parts_step_lent` meets its contract. Assumes nothing.
 use borrow.Author.Needs.{needs}
-use mathlib.Core.Path.{_≡_, ap, ap₂, _∙_}
+use mathlib.Core.Path.{ap, ap₂, _∙_}
 use mir.Facts.{toZ-ofZ}
 use Rattle.strided.specs.Step.{stepped}
 use Rattle.strided.specs.declared.Plan.{Plan}
