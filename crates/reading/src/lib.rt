@@ -1,5 +1,6 @@
-// The exact reader of the walklist text. A text is taken exactly if it is the rendering of what it says, byte for byte; what it says is then
-// laid into lent arrays. Counts above the planner's limits are read too: such a text is in the form, and is refused by another row.
+// The exact reader of the walklist text. A text is taken exactly if it is the rendering of what it says, byte for byte. Its numbers are laid
+// into lent arrays while it is read; of a text that is not taken they hold what was read so far. Counts above the planner's limits are
+// read too: such a text is in the form, and is refused by another row.
 ghost use Rattle.reading.specs.Lines.{arrays};
 ghost use Rattle.reading.specs.Texts.{ReadsText};
 use head::Head;

@@ -1,5 +1,5 @@
 // The whole output of a plan: its K, A, B and Z lines. The walk runs on local arrays and checks no block again: the precondition says that
-// a walk of the plan begins at the starts 0. Measuring ends at the first line that passes the limit.
+// a walk of the plan begins at the starts 0. Measuring ends at the first block whose line passes the limit.
 ghost use mathlib.Core.Path.{_≡_};
 ghost use Prim.Native.Nat.{_+_, _*_, _≤_, _<_};
 ghost use lib.ListN.{length};
