@@ -5,6 +5,7 @@ pub mod Picks
 pub mod Steps
 pub mod Grow
 pub mod Jump
+pub mod Level
 pub mod Cases
 pub mod Saturate
 pub mod Rising

@@ -3,11 +3,13 @@
 use region::less_one;
 use region::memory_region;
 ghost use mathlib.Core.Path.{_≡_};
-ghost use Prim.Native.Nat.{_+_, _-_, _/_, _≤_};
+ghost use Prim.Native.Nat.{_+_, _-_, _/_, _≤_, _<_};
+ghost use Rattle.strided.specs.Region.{cache, region};
 ghost use Rattle.strided.specs.Cut.{score, greatestScore, halved, lessened, shrunk};
 ghost use Rattle.laws.specs.Cut.Steps.{ScoresFit};
 ghost use Rattle.laws.specs.Cut.Picks.{topOf};
 ghost use Rattle.laws.specs.Cut.Jump.{clippedOver};
+ghost use Rattle.laws.specs.Cut.Level.{Least};
 ghost use Rattle.shrink.specs.Picked.{picked};
 
 // The size of a typical L1 data cache, which the blocks of a tile are to fit.
@@ -138,7 +140,8 @@ fn top_score<'a>(blocks: &'a [u64; 64], costs: &'a [u64; 64], offset: usize, ran
     less_one(blocks[i]) * costs[i]
 }
 
-// A score to jump to: the least at which the region is still above 32,768. What follows does not rest on which it is.
+// The score to jump to: the least at which the region of the clipped blocks is still above 32,768. Halving the way to it takes 64 turns at
+// most.
 fn level<'a>(
     blocks: &'a [u64; 64],
     bytes: &'a [u64; 512],
@@ -148,6 +151,8 @@ fn level<'a>(
     rank: usize,
 ) -> u64
     requires { ⌜ ((operands ≤ 8) × ((offset ≤ rank) × (rank ≤ 64))) × ScoresFit rank (now costs) (now blocks) ⌝ }
+    requires { ⌜ cache < region (now bytes) operands (now blocks) offset (rank - offset) ⌝ }
+    ensures { λ r. ⌜ Least (now (bytes .entry)) operands (now (costs .entry)) offset (rank - offset) (now (blocks .entry)) r ⌝ }
 {
     let mut t = *blocks;
     let mut lo: u64 = 0;
@@ -182,9 +187,7 @@ fn lessen_far<'a>(
     let s = level(blocks, bytes, costs, operands, offset, rank);
     let mut t = *blocks;
     clip_into(blocks, costs, offset, rank, s, &mut t);
-    if BLOCK_MEMORY_SIZE < memory_region(&t, bytes, operands, offset, rank) {
-        *blocks = t;
-    }
+    *blocks = t;
     lessen(blocks, bytes, costs, operands, offset, rank);
 }
 

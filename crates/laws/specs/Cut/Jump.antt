@@ -122,7 +122,7 @@ clipped-same s costs o n b b′ len inside outside =
     (where-is o n j))
 
 -- nothing to clip
-clipped-none : (s : ℕ) (costs : List ℕ) (o n : ℕ) (b : List ℕ)
+pub clipped-none : (s : ℕ) (costs : List ℕ) (o n : ℕ) (b : List ℕ)
     → ((j : ℕ) → o ≤ j → j < o + n → score b costs j ≤ s) → clipped s costs o n b ≡ b
 clipped-none s costs o n b low =
     ext-getD 0 (clipped s costs o n b) b (clipped-length s costs o n b)

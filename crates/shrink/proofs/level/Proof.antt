@@ -1,13 +1,16 @@
--- `shrink::level` ends and does nothing undefined; it promises no more, since the jump is right from any score.
--- The invariant: the two bounds of the search are in order. Assumes nothing.
+-- `shrink::level` meets its contract: a search that halves the way between a score too low and one that is not (laws, Cut/Level).
+-- Assumes nothing.
 use borrow.Author.Needs.{needs}
 use native.Mathlib.Omega.{arith}
-use Prim.Native.Nat.{_-_, _≤_, _<_, _^_}
+use mathlib.Core.List.{List}
+use Prim.Native.Nat.{ℕ, _-_, _≤_, _<_, _^_}
+use Rattle.strided.specs.Region.{cache, region}
+use Rattle.laws.specs.Cut.Level.{Seeking, seek-first, seek-down, seek-up, sought}
 use Rattle.shrink.proofs.level.Statement.{statement}
 use Rattle.shrink.proofs.level.Tie as tie
 
 abbrev Inv-loop : tie.InvT-loop
-Inv-loop blocks bytes costs operands offset rank t₀ lo₀ hi₀ t lo hi = (lo ≤ hi) × (hi < 2 ^ 64)
+Inv-loop blocks bytes costs operands offset rank t₀ lo₀ hi₀ t lo hi = Seeking bytes operands costs offset (rank - offset) blocks t lo hi × (hi < 2 ^ 64)
 
 abbrev μ-loop : tie.MeasureT-loop
 μ-loop blocks bytes costs operands offset rank t₀ lo₀ hi₀ t lo hi = hi - lo
@@ -16,7 +19,7 @@ top-score-requires : tie.Need-top-score-requires Inv-loop μ-loop
 top-score-requires c κs = search needs
 
 loop-holds : tie.Need-loop-holds Inv-loop μ-loop
-loop-holds c = omega arith
+loop-holds c = let s = c .before .before in (seek-first _ _ _ _ _ _ (s .pre .1) _ (c .top-score .ensures), omega arith)
 
 sub-mid : tie.Need-sub-mid Inv-loop μ-loop
 sub-mid c = omega arith
@@ -34,7 +37,13 @@ loop-less : tie.Need-loop-less Inv-loop μ-loop
 loop-less c = omega arith
 
 loop-again : tie.Need-loop-again Inv-loop μ-loop
-loop-again c = omega arith
+loop-again c =
+    let k = c .before .before .before in
+    let l = k .before .before .before .loop in
+    let a = k .before .before .before .before .before .before .args in
+    let t : List ℕ = k .clip-into .last .1 .1 .1 .1 .1 .0 in
+    let big : cache < region (a .bytes .now) (a .operands) t (a .offset) (a .rank - a .offset) = omega (arith, c .before .memory-region .ensures, c .if1 .taken) in
+    (seek-down _ _ _ _ _ _ (l .t) (l .lo) (l .hi) _ (l .inv .0) (omega arith) (omega arith) (k .clip-into .ensures) big, omega arith)
 
 add-lo : tie.Need-add-lo Inv-loop μ-loop
 add-lo c = omega arith
@@ -43,10 +52,16 @@ loop-less-2 : tie.Need-loop-less-2 Inv-loop μ-loop
 loop-less-2 c = omega arith
 
 loop-again-2 : tie.Need-loop-again-2 Inv-loop μ-loop
-loop-again-2 c = omega arith
+loop-again-2 c =
+    let k = c .before .before .before in
+    let l = k .before .before .before .loop in
+    let a = k .before .before .before .before .before .before .args in
+    let t : List ℕ = k .clip-into .last .1 .1 .1 .1 .1 .0 in
+    let small : region (a .bytes .now) (a .operands) t (a .offset) (a .rank - a .offset) ≤ cache = omega (arith, c .before .memory-region .ensures, c .if1 .left) in
+    (seek-up _ _ _ _ _ _ (l .t) (l .lo) (l .hi) _ (l .inv .0) (omega arith) (omega arith) (k .clip-into .ensures) small, omega arith)
 
 returns : tie.Need-returns Inv-loop μ-loop
-returns c = tt
+returns c = let l = c .before .loop in sought _ _ _ _ _ _ (l .t) (l .lo) (l .hi) (l .inv .0) (c .loop-test .left)
 
 pub level-spec : {M : Type 1} → statement M
 level-spec =
