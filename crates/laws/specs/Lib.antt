@@ -8,6 +8,7 @@
 --   the plan keeps each operand's reach (row 6)                        Fuse/Reach         plan-reach
 --   cutting: the counts never run out, blocks only shrink              Cut/Steps          halved-ends, lessened-small, shrunk-le
 --   many single steps may be one jump                                  Cut/Jump           jump
+--   from the score jumped to at most one single step an axis is left   Cut/Level          few-left
 --   regions and loads grow with the blocks                             Cut/Grow           region-mono, load-mono
 --   scores fit 64 bits by row 6 alone                                  Cut/Tables         scores-fit
 --   declining axis by axis, in any order, and in elements              Cut/Rising, Cut/Elements  apart-each, passes-elements

@@ -83,7 +83,7 @@ clipped-after s costs o zero b j h = refl
 clipped-after s costs o (suc n) b j h =
     getD-set-other (clipped s costs o n b) (o + n) j (clipAt s costs b (o + n)) 0 (omega arith) ∙ clipped-after s costs o n b j (omega arith)
 
-clipped-in : (s : ℕ) (costs : List ℕ) (o n : ℕ) (b : List ℕ) (j : ℕ) → o ≤ j → j < o + n → j < length b
+pub clipped-in : (s : ℕ) (costs : List ℕ) (o n : ℕ) (b : List ℕ) (j : ℕ) → o ≤ j → j < o + n → j < length b
     → getD (clipped s costs o n b) j 0 ≡ clipAt s costs b j
 unfolding clipped
 clipped-in s costs o zero b j h l k = absurd (omega arith)
@@ -136,7 +136,7 @@ clipped-none s costs o n b low =
     ∙ cond-le s (score b costs j) (s / getD costs j 0 + 1) (getD b j 0) (low j (h .0) (h .1))))
     (where-is o n j))
 
-clipAt-le : (s : ℕ) (costs b : List ℕ) (j : ℕ) → clipAt s costs b j ≤ getD b j 0
+pub clipAt-le : (s : ℕ) (costs b : List ℕ) (j : ℕ) → clipAt s costs b j ≤ getD b j 0
 clipAt-le s costs b j = ⊎-elim
     (λ (h : score b costs j ≤ s). le-of-eq (cond-le s (score b costs j) (s / getD costs j 0 + 1) (getD b j 0) h))
     (λ (h : s < score b costs j).
@@ -159,7 +159,7 @@ clipped-le s costs o n b j = ⊎-elim
     (le-or-lt (length b) j)
 
 -- no score of the tail is above s, or one is
-some-above : (f : ℕ → ℕ) (s o n : ℕ)
+pub some-above : (f : ℕ → ℕ) (s o n : ℕ)
     → ((j : ℕ) → o ≤ j → j < o + n → f j ≤ s) ⊎ ((i : ℕ) × (o ≤ i) × (i < o + n) × (s < f i))
 some-above f s o zero = inl (λ j h l. absurd (omega arith))
 some-above f s o (suc n) = ⊎-elim
@@ -191,14 +191,14 @@ clipped-loss s costs o n b p hp lp k hs =
     (⊎-elim (λ (h : j < o). λ e. absurd (omega arith)) (λ (h : o + n ≤ j). λ e. absurd (omega arith)) out))
 
 -- one single step on the way: fewer cells, the same end, and the same blocks once clipped
-record Loss (bytes : List ℕ) (operands : ℕ) (costs : List ℕ) (o n s : ℕ) (b : List ℕ) : Type 0 where
-  next : List ℕ
-  fewer : cells o n next < cells o n b
-  ends : lessened bytes operands costs o n b ≡ lessened bytes operands costs o n next
-  same : clipped s costs o n next ≡ clipped s costs o n b
+pub record Loss (bytes : List ℕ) (operands : ℕ) (costs : List ℕ) (o n s : ℕ) (b : List ℕ) : Type 0 where
+  pub next : List ℕ
+  pub fewer : cells o n next < cells o n b
+  pub ends : lessened bytes operands costs o n b ≡ lessened bytes operands costs o n next
+  pub same : clipped s costs o n next ≡ clipped s costs o n b
 
-one-loss : (bytes : List ℕ) (operands : ℕ) (costs : List ℕ) (o n s : ℕ) (b : List ℕ) (i : ℕ) → o ≤ i → i < o + n → s < score b costs i
-    → cache < region bytes operands (clipped s costs o n b) o n → Loss bytes operands costs o n s b
+pub one-loss : (bytes : List ℕ) (operands : ℕ) (costs : List ℕ) (o n s : ℕ) (b : List ℕ) (i : ℕ) → o ≤ i → i < o + n → s < score b costs i
+    → cache < region bytes operands b o n → Loss bytes operands costs o n s b
 unfolding lessened
 one-loss bytes operands costs o n s b i h l hs big =
     let a = pos-left (getD b i 0 - 1) (getD costs i 0) s hs in
@@ -207,8 +207,7 @@ one-loss bytes operands costs o n s b i h l hs big =
     let pk = pick-is b costs o n p (best .is) in
     let k = above-there b p (pk .above) in
     let sp : s < score b costs p = lt-of-lt-of-le hs (best .most) in
-    let m = region-mono bytes operands (clipped s costs o n b) b o n (clipped-le s costs o n b) in
-    let goes = lessening-at bytes operands costs o n b p (omega arith) (best .is) in
+    let goes = lessening-at bytes operands costs o n b p big (best .is) in
     record {
       next = set b p (getD b p 0 - 1);
       fewer = lessening-falls bytes operands costs o n b (set b p (getD b p 0 - 1)) goes;
@@ -216,18 +215,22 @@ one-loss bytes operands costs o n s b i h l hs big =
       same = clipped-loss s costs o n b p (pk .from) (pk .below) k sp;
     }
 
+-- blocks that are too large when clipped are too large
+unclipped : (bytes : List ℕ) (operands : ℕ) (costs : List ℕ) (o n s : ℕ) (b : List ℕ) → cache < region bytes operands (clipped s costs o n b) o n → cache < region bytes operands b o n
+unclipped bytes operands costs o n s b big = lt-of-lt-of-le big (region-mono bytes operands (clipped s costs o n b) b o n (clipped-le s costs o n b))
+
 -- the jump: where the region of the clipped blocks is still above 32,768, the single steps come by them
 jump-in : (bytes : List ℕ) (operands : ℕ) (costs : List ℕ) (o n s steps : ℕ) (b : List ℕ) → cells o n b ≤ steps
     → cache < region bytes operands (clipped s costs o n b) o n
     → lessened bytes operands costs o n b ≡ lessened bytes operands costs o n (clipped s costs o n b)
 jump-in bytes operands costs o n s zero b fuel big = ⊎-elim
     (λ low. ap (lessened bytes operands costs o n) (sym (clipped-none s costs o n b low)))
-    (λ r. absurd (omega (arith, one-loss bytes operands costs o n s b (r .0) (r .1) (r .2) (r .3) big .fewer)))
+    (λ r. absurd (omega (arith, one-loss bytes operands costs o n s b (r .0) (r .1) (r .2) (r .3) (unclipped bytes operands costs o n s b big) .fewer)))
     (some-above (score b costs) s o n)
 jump-in bytes operands costs o n s (suc steps) b fuel big = ⊎-elim
     (λ low. ap (lessened bytes operands costs o n) (sym (clipped-none s costs o n b low)))
     (λ r.
-    let q = one-loss bytes operands costs o n s b (r .0) (r .1) (r .2) (r .3) big in
+    let q = one-loss bytes operands costs o n s b (r .0) (r .1) (r .2) (r .3) (unclipped bytes operands costs o n s b big) in
     q .ends
     ∙ jump-in bytes operands costs o n s steps (q .next) (omega (arith, q .fewer))
     (subst⁻¹ (λ (x : List ℕ). cache < region bytes operands x o n) (q .same) big)
