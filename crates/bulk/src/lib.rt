@@ -94,7 +94,8 @@ fn put_moving<'a>(
     }
 }
 
-// The same for a block that no other of its stretch follows: the offsets stay.
+// The same for a block that no other of its stretch follows: the offsets stay. A loop that only copied would be compiled to a call of
+// memcpy, which costs more than adding 0 to a few numbers.
 fn put_staying(operands: usize, at: usize, o: &mut [i64; 8], offsets: &mut [i64])
     requires { ⌜ (operands ≤ 8) × (length (now o) ≡ 8) × (at + operands ≤ length (now offsets)) × ((k : ℕ) → k < operands → SFits w64 (getD (now o) k (pos 0))) ⌝ }
     ensures { λ _. ⌜ (now (offsets .exit) ≡ paste (now (offsets .entry)) at (now (o .entry)) operands) × (now (o .exit) ≡ now (o .entry)) ⌝ }
