@@ -1,4 +1,4 @@
--- Laws of a stretch: moving on in it is the move to the next block.
+-- Laws of a stretch: what a walk to the end keeps of it, and that moving on in it is the move to the next block.
 -- Assumes nothing.
 use mathlib.Core.Path.{_≡_, refl, sym, ap, ap₂, _∙_, subst, transport}
 use mathlib.Core.Bool.{Bool, true, false, cond, _&&_, false≢true}
@@ -18,11 +18,23 @@ use Rattle.advance.specs.Axis.{startOf, ahead, back, insideAim, tileAim,
 use Rattle.advance.specs.Filled.{by-lt, filled-at, filled-length, filled-ext}
 use Rattle.advance.specs.Moves.{afterMove, movedAt, shifted, Shifts}
 use Rattle.advance.specs.Carry.{Roomy, Tiled, Single, CarriedTo, AdvancedTo}
-use Rattle.advance.specs.Stretch.{axisOf, wayOn, paceOf, stretchAim, addedAt, added, Along, Paced, Ahead, Stretched}
+use Rattle.advance.specs.Stretch.{axisOf, wayOn, paceOf, stretchAim, addedAt, added, Paced, Ahead}
 use Rattle.advance.proofs.Signed as signed
 use Rattle.advance.proofs.Axis.{aim-lands}
 use Rattle.advance.proofs.Dot.{roomy-shifts}
 use Rattle.advance.proofs.Turns.{begins, ends, stops-at, inside-done, tile-done, single-all}
+
+-- where stretches go: along axis 1, or along axis 0 if no other axis is cut
+pub record Along (axis rank : ℕ) (w : List ℕ) : Type 0 where
+  pub most : axis ≤ 1
+  pub alone : axis ≡ 0 → (i : ℕ) → 1 ≤ i → i < rank → getD w i 0 ≡ 1
+
+-- what is worked out once about the stretches of a walk, at its counters c
+pub record Stretched (axis by rank operands : ℕ) (e w : List ℕ) (s d : List ℤ) (c : List ℕ) : Type 0 where
+  pub along : Along axis rank w
+  pub way : by ≡ paceOf axis rank e w
+  pub moves : d ≡ shifted operands axis 0 by s (replicate 8 (pos 0))
+  pub start : 0 < rank → getD c 0 0 ≡ startOf (getD w 0 0) (getD c 0 0)
 
 -- ---- where an axis that goes ahead goes
 

@@ -3,14 +3,13 @@
 use mathlib.Core.Path.{_≡_}
 use mathlib.Core.Bool.{Bool, cond, _&&_}
 use mathlib.Core.List.{List}
-use Prim.Native.Nat.{ℕ, _<_, _≤_}
+use Prim.Native.Nat.{ℕ, _<_}
 use lib.Dec.{ltb}
 use lib.IntN.{ℤ, pos, _+ℤ_}
-use lib.ListN.{getD, set, replicate}
+use lib.ListN.{getD, set}
 use Rattle.advance.specs.declared.Aim.{Aim}
 use Rattle.advance.specs.Axis.{startOf, aimOf}
 use Rattle.advance.specs.Filled.{filledTo}
-use Rattle.advance.specs.Moves.{shifted}
 
 -- along axis 1, if one from there on is cut; else along axis 0. The axes from n on have blocks of 1.
 abbrev pub axisOf : ℕ → ℕ
@@ -35,11 +34,6 @@ addedAt d o k = getD o k (pos 0) +ℤ getD d k (pos 0)
 abbrev pub added : ℕ → List ℤ → List ℤ → List ℤ
 added n d o = filledTo o (addedAt d o) n
 
--- where stretches go: along axis 1, or along axis 0 if no other axis is cut
-pub record Along (axis rank : ℕ) (w : List ℕ) : Type 0 where
-  pub most : axis ≤ 1
-  pub alone : axis ≡ 0 → (i : ℕ) → 1 ≤ i → i < rank → getD w i 0 ≡ 1
-
 -- the axis is in a tile that starts where t says
 pub record Paced (axis by : ℕ) (e w t c : List ℕ) : Type 0 where
   pub inside : axis < 64
@@ -52,10 +46,3 @@ pub record Ahead (axis by : ℕ) (e w t c : List ℕ) (more : Bool) (t′ c′ :
   pub answer : more ≡ (ltb 0 by && stretchAim axis e w c .more)
   pub starts : t′ ≡ cond more (set t axis (stretchAim axis e w c .start)) t
   pub counters : c′ ≡ cond more (set c axis (stretchAim axis e w c .to)) c
-
--- what is worked out once about the stretches of a walk, at its counters c
-pub record Stretched (axis by rank operands : ℕ) (e w : List ℕ) (s d : List ℤ) (c : List ℕ) : Type 0 where
-  pub along : Along axis rank w
-  pub way : by ≡ paceOf axis rank e w
-  pub moves : d ≡ shifted operands axis 0 by s (replicate 8 (pos 0))
-  pub start : 0 < rank → getD c 0 0 ≡ startOf (getD w 0 0) (getD c 0 0)

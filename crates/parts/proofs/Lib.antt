@@ -1,3 +1,4 @@
 -- Laws that belong to no one function.
 pub mod Laws
 pub mod Fusing
+pub mod Lending

@@ -3,8 +3,7 @@ use Rattle.bulk.proofs.Turns.{Turned, turned-none, turned-roomy, turned
 use Rattle.states.specs.Reaches.{planOf, walkOf}
 use Rattle.walk.proofs.Stepping.{axes-few, widths-here, roomy-here, start-here}
 use Rattle.advance.proofs.Dot.{roomy-offset}
-use Rattle.advance.proofs.Stretches.{along-at, moves-fit, moves-long, paced-on, ahead-fits, ahead-advanced, stays-roomy, stays-tiled, then-advanced}
-use Rattle.advance.specs.Stretch.{Stretched}
+use Rattle.advance.proofs.Stretches.{Stretched, along-at, moves-fit, moves-long, paced-on, ahead-fits, ahead-advanced, stays-roomy, stays-tiled, then-advanced}
 use borrow.Author.Needs.{needs}
 use borrow.Author.Tests.{not-true, not-false}
 use native.Mathlib.Nat.{le-antisymm}

@@ -3,7 +3,7 @@ use borrow.Author.Needs.{needs}
 use mathlib.Core.Path.{_∙_}
 use mathlib.Core.List.{[], _∷_}
 use mir.Facts.{toZ-ofZ}
-use Rattle.walk.specs.Memory.{step-refused, step-ended, step-block}
+use Rattle.walk.proofs.Answered.{step-refused, step-ended, step-block}
 use Rattle.parts.proofs.steps.hand_out.Statement.{statement}
 use Rattle.parts.proofs.steps.hand_out.Tie as tie
 

@@ -3,7 +3,7 @@ use borrow.Author.Needs.{needs}
 use mathlib.Core.Path.{ap₂, _∙_}
 use mir.Facts.{toZ-ofZ}
 use Rattle.strided.specs.Step.{stepped}
-use Rattle.walk.specs.Memory.{steps-of}
+use Rattle.walk.proofs.Answered.{steps-of}
 use Rattle.parts.proofs.steps.parts_step.Statement.{statement}
 use Rattle.parts.proofs.steps.parts_step.Tie as tie
 

@@ -6,9 +6,10 @@ use Rattle.strided.specs.Step.{stepped}
 use Rattle.strided.specs.declared.Plan.{Plan}
 use Rattle.strided.specs.declared.Walk.{Walk}
 use Rattle.walk.specs.Lent.{left}
-use Rattle.walk.specs.Memory.{steps-of}
+use Rattle.walk.proofs.Answered.{steps-of}
 use Rattle.parts.specs.declared.steps.Moved.{Moved}
-use Rattle.parts.specs.States.{withState, lent-steps}
+use Rattle.parts.specs.States.{withState}
+use Rattle.parts.proofs.Lending.{lent-steps}
 use Rattle.parts.proofs.steps.parts_step_lent.Statement.{statement}
 use Rattle.parts.proofs.steps.parts_step_lent.Tie as tie
 

@@ -3,7 +3,7 @@ use borrow.Author.Needs.{needs}
 use mathlib.Core.Path.{refl}
 use mathlib.Core.List.{[], _∷_}
 use Rattle.advance.proofs.Turns.{single-all}
-use Rattle.walk.specs.Memory.{steps-of, step-block}
+use Rattle.walk.proofs.Answered.{steps-of, step-block}
 use Rattle.walk.proofs.Stepping.{axes-few, operands-few, widths-here, tiled-here, roomy-here, block-step}
 use Rattle.walk.proofs.memory.block_into.Statement.{statement}
 use Rattle.walk.proofs.memory.block_into.Tie as tie

@@ -9,7 +9,8 @@ use Rattle.strided.specs.declared.Plan.{Plan}
 use Rattle.strided.specs.declared.Walk.{Walk}
 use Rattle.states.specs.Reaches.{planOf}
 use Rattle.walk.specs.Lent.{Answers}
-use Rattle.walk.specs.Memory.{walkIn, step-refused, step-ended, steps-of}
+use Rattle.walk.specs.Memory.{walkIn}
+use Rattle.walk.proofs.Answered.{step-refused, step-ended, steps-of}
 use Rattle.walk.proofs.Stepping.{running, taken-parts}
 use Rattle.walk.proofs.memory.step_into.Statement.{statement}
 use Rattle.walk.proofs.memory.step_into.Tie as tie
