@@ -1,4 +1,4 @@
--- "The plan": cutting. "Cutting looks at a tail of axes, at first all": the n axes from o on.
+-- "The plan": cutting, for a machine record, whose cache stands for document 01's 32,768. "Cutting looks at a tail of axes, at first all": the n axes from o on.
 -- Assumes nothing.
 use mathlib.Core.Bool.{Bool, cond}
 use mathlib.Core.List.{List, [], _∷_}
@@ -9,7 +9,8 @@ use lib.Dec.{ltb, leb, eqb}
 use lib.IntN.{ℤ}
 use Rattle.strided.specs.Base.{sum, least, every, until}
 use Rattle.strided.specs.Ranks.{ranks}
-use Rattle.strided.specs.Region.{cache, byteAt, region}
+use Rattle.strided.specs.Region.{byteAt, region}
+use Rattle.strided.specs.declared.Machine.{Machine}
 
 -- "Score is (block − 1) × cost over blocks above 1; the last wins ties."
 abbrev pub score : List ℕ → List ℕ → ℕ → ℕ
@@ -29,28 +30,28 @@ abbrev pub shorten : (ℕ → ℕ) → List ℕ → Option ℕ → Option (List 
 shorten f b none = none
 shorten f b (some i) = some (set b i (f (getD b i 0)))
 
--- "while the region is at least 65,536, halve (rounding up) the block with the greatest score"
-unfoldable pub halving : List ℕ → ℕ → List ℕ → ℕ → ℕ → List ℕ → Option (List ℕ)
-halving bytes operands costs o n b =
-    cond (leb (2 * cache) (region bytes operands b o n)) (shorten (λ x. (x + 1) / 2) b (greatestScore b costs o n)) none
+-- "halving stops below twice the cache": "while the region is at least 65,536, halve (rounding up) the block with the greatest score"
+unfoldable pub halving : Machine → List ℕ → ℕ → List ℕ → ℕ → ℕ → List ℕ → Option (List ℕ)
+halving mc bytes operands costs o n b =
+    cond (leb (2 * mc .cache) (region mc bytes operands b o n)) (shorten (λ x. (x + 1) / 2) b (greatestScore b costs o n)) none
 
 -- "then while it is above 32,768 take 1 off the one with the greatest score, sought anew each time"
-unfoldable pub lessening : List ℕ → ℕ → List ℕ → ℕ → ℕ → List ℕ → Option (List ℕ)
-lessening bytes operands costs o n b =
-    cond (ltb cache (region bytes operands b o n)) (shorten (λ x. x - 1) b (greatestScore b costs o n)) none
+unfoldable pub lessening : Machine → List ℕ → ℕ → List ℕ → ℕ → ℕ → List ℕ → Option (List ℕ)
+lessening mc bytes operands costs o n b =
+    cond (ltb (mc .cache) (region mc bytes operands b o n)) (shorten (λ x. x - 1) b (greatestScore b costs o n)) none
 
 -- there are never more such steps than the blocks sum to (crate laws)
 abbrev pub cells : ℕ → ℕ → List ℕ → ℕ
 cells o n b = sum (λ i. getD b i 0) o n
 
-unfoldable pub halved : List ℕ → ℕ → List ℕ → ℕ → ℕ → List ℕ → List ℕ
-halved bytes operands costs o n b = until (halving bytes operands costs o n) (cells o n b) b
+unfoldable pub halved : Machine → List ℕ → ℕ → List ℕ → ℕ → ℕ → List ℕ → List ℕ
+halved mc bytes operands costs o n b = until (halving mc bytes operands costs o n) (cells o n b) b
 
-unfoldable pub lessened : List ℕ → ℕ → List ℕ → ℕ → ℕ → List ℕ → List ℕ
-lessened bytes operands costs o n b = until (lessening bytes operands costs o n) (cells o n b) b
+unfoldable pub lessened : Machine → List ℕ → ℕ → List ℕ → ℕ → ℕ → List ℕ → List ℕ
+lessened mc bytes operands costs o n b = until (lessening mc bytes operands costs o n) (cells o n b) b
 
-unfoldable pub shrunk : List ℕ → ℕ → List ℕ → ℕ → ℕ → List ℕ → List ℕ
-shrunk bytes operands costs o n b = lessened bytes operands costs o n (halved bytes operands costs o n b)
+unfoldable pub shrunk : Machine → List ℕ → ℕ → List ℕ → ℕ → ℕ → List ℕ → List ℕ
+shrunk mc bytes operands costs o n b = lessened mc bytes operands costs o n (halved mc bytes operands costs o n b)
 
 -- "ranks are those of the plan's axes, taken once over all of them and not afresh (an operand of size 0 has ranks all 1)"
 abbrev pub planRanks : List ℕ → List ℤ → ℕ → List (List ℕ)
@@ -78,13 +79,13 @@ ones o (suc n) b = set (ones o n b) (o + n) 1
 
 -- "It ends if the tail is empty or its region is at most 32,768. If .., the first axis is kept whole and the rule starts over on the rest ..
 -- If the least byte stride in the tail is above 32,768, the tail's blocks become 1. Otherwise .."
-unfoldable pub cutting : List ℕ → ℕ → List ℕ → List (List ℕ) → ℕ → ℕ → List ℕ → List ℕ
-cutting bytes operands costs table o zero b = b
-cutting bytes operands costs table o (suc n) b =
-    let rest = cutting bytes operands costs table (o + 1) n b in
+unfoldable pub cutting : Machine → List ℕ → ℕ → List ℕ → List (List ℕ) → ℕ → ℕ → List ℕ → List ℕ
+cutting mc bytes operands costs table o zero b = b
+cutting mc bytes operands costs table o (suc n) b =
+    let rest = cutting mc bytes operands costs table (o + 1) n b in
     let flat = ones o (suc n) b in
-    let less = shrunk bytes operands costs o (suc n) b in
-    cond (leb (region bytes operands b o (suc n)) cache) b
+    let less = shrunk mc bytes operands costs o (suc n) b in
+    cond (leb (region mc bytes operands b o (suc n)) (mc .cache)) b
     (cond (keepsFirst table operands o (suc n)) rest
-    (cond (ltb cache (leastByte bytes operands o (suc n))) flat
+    (cond (ltb (mc .cache) (leastByte bytes operands o (suc n))) flat
     less))

@@ -6,7 +6,8 @@ use Prim.Native.Nat.{ℕ, zero, suc, _+_, _-_, _*_, _%_}
 use lib.ListN.{getD}
 use lib.Dec.{ltb, leb, eqb}
 use Rattle.strided.specs.Base.{sum, every, seek}
-use Rattle.strided.specs.Region.{line, byteAt}
+use Rattle.strided.specs.Region.{byteAt}
+use Rattle.strided.specs.declared.Machine.{Machine}
 
 -- the first axis whose block is below its extent; the rank where there is none
 unfoldable pub firstCut : List ℕ → List ℕ → ℕ → ℕ
@@ -22,22 +23,22 @@ rising f o zero = []
 rising f o (suc n) = insertRising f (o + n) (rising f o n)
 
 -- "each is a multiple of 64 and no less than the span so far, which grows from width by (extent − 1) × stride"
-unfoldable pub apart : (ℕ → ℕ) → List ℕ → ℕ → List ℕ → Bool
-apart f es span [] = true
-apart f es span (i ∷ is) = eqb (f i % line) 0 && (leb span (f i) && apart f es (span + (getD es i 0 - 1) * f i) is)
+unfoldable pub apart : Machine → (ℕ → ℕ) → List ℕ → ℕ → List ℕ → Bool
+apart mc f es span [] = true
+apart mc f es span (i ∷ is) = eqb (f i % mc .line) 0 && (leb span (f i) && apart mc f es (span + (getD es i 0 - 1) * f i) is)
 
 -- "width = size + the sum of (extent − 1) × byte stride over axes before the cut, a multiple of 64"
 unfoldable pub widthOf : List ℕ → List ℕ → List ℕ → ℕ → ℕ → ℕ
 widthOf bytes sizes es cut k = getD sizes k 0 + sum (λ i. (getD es i 0 - 1) * byteAt bytes k i) 0 cut
 
 -- "each operand of nonzero size passes"
-unfoldable pub passes : List ℕ → List ℕ → List ℕ → ℕ → ℕ → ℕ → Bool
-passes bytes sizes es cut rank k =
+unfoldable pub passes : Machine → List ℕ → List ℕ → List ℕ → ℕ → ℕ → ℕ → Bool
+passes mc bytes sizes es cut rank k =
     eqb (getD sizes k 0) 0
-    || (eqb (widthOf bytes sizes es cut k % line) 0 && apart (byteAt bytes k) es (widthOf bytes sizes es cut k) (rising (byteAt bytes k) cut (rank - cut)))
+    || (eqb (widthOf bytes sizes es cut k % mc .line) 0 && apart mc (byteAt bytes k) es (widthOf bytes sizes es cut k) (rising (byteAt bytes k) cut (rank - cut)))
 
 -- "if the first cut axis is not axis 0 and .."
-unfoldable pub declined : List ℕ → List ℕ → ℕ → List ℕ → ℕ → List ℕ → Bool
-declined bytes sizes operands es rank b =
+unfoldable pub declined : Machine → List ℕ → List ℕ → ℕ → List ℕ → ℕ → List ℕ → Bool
+declined mc bytes sizes operands es rank b =
     let cut = firstCut es b rank in
-    ltb 0 cut && (ltb cut rank && every (passes bytes sizes es cut rank) 0 operands)
+    ltb 0 cut && (ltb cut rank && every (passes mc bytes sizes es cut rank) 0 operands)

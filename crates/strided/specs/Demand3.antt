@@ -15,6 +15,7 @@ use Rattle.strided.specs.Walk.{block, blocksOf, cellAt, runStrides}
 use Rattle.strided.specs.Plan.{planned}
 use Rattle.strided.specs.Begin.{planRows, begunAt}
 use Rattle.strided.specs.Step.{planCutAxes, stepped}
+use Rattle.strided.specs.declared.Machine.{Machine}
 use Rattle.strided.specs.declared.Purpose.{Purpose}
 use Rattle.strided.specs.declared.Answer.the-variants.{Served}
 use Rattle.strided.specs.declared.Outcome.the-variants.{Block, Ended}
@@ -77,12 +78,12 @@ module _ (es sizes : List ℕ) (ss : List ℤ) (u : Purpose) (p : Plan) (steps :
     -- "In the state that "ended" returns every offset is its start again."
     pub back : (m : ℕ) (s : Stepped) → nth steps m ≡ some s → s .answer ≡ Ended → s .walk .offsets ≡ padded 8 (pos 0) starts
 
--- THE STATEMENT: for every layout without a zero extent that planning does not refuse, either purpose, its plan with each block size left or
+-- THE STATEMENT: for every record and every layout without a zero extent that planning does not refuse, either purpose, its plan with each block size left or
 -- replaced by any number, every list of starts that the beginning does not refuse, and every number of steps
 abbrev pub Statement : Type 0
 Statement =
-    (es sizes : List ℕ) (ss : List ℤ) (u : Purpose) → NoZero es → planned es sizes ss u .answer ≡ Served
-    → (bs : List ℕ) (starts : List ℤ) → begunAt (replaced (planned es sizes ss u .plan) bs) starts .answer ≡ Served
+    (mc : Machine) (es sizes : List ℕ) (ss : List ℤ) (u : Purpose) → NoZero es → planned mc es sizes ss u .answer ≡ Served
+    → (bs : List ℕ) (starts : List ℤ) → begunAt (replaced (planned mc es sizes ss u .plan) bs) starts .answer ≡ Served
     → (n : ℕ)
-    → Demand3 es sizes ss u (replaced (planned es sizes ss u .plan) bs)
-    (stepsFrom (replaced (planned es sizes ss u .plan) bs) n (begunAt (replaced (planned es sizes ss u .plan) bs) starts .walk)) starts
+    → Demand3 es sizes ss u (replaced (planned mc es sizes ss u .plan) bs)
+    (stepsFrom (replaced (planned mc es sizes ss u .plan) bs) n (begunAt (replaced (planned mc es sizes ss u .plan) bs) starts .walk)) starts

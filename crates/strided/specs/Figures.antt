@@ -9,6 +9,7 @@ use lib.Count.{leadingZeros}
 use lib.Dec.{eqb}
 use lib.IntN.{ℤ, pos, negsuc}
 use lib.ListN.{length, getD, take, replicate}
+use Rattle.strided.specs.declared.Machine.{Machine}
 use Rattle.strided.specs.declared.Purpose.{Purpose}
 use Rattle.strided.specs.declared.Purpose.the-variants.{Pointwise, PointwiseInto, Fold}
 use Rattle.strided.specs.declared.Answer.{Answer}
@@ -23,7 +24,8 @@ use Rattle.strided.specs.declared.Outcome.{Outcome}
 use Rattle.strided.specs.declared.Outcome.the-variants.{Block, Ended, Rejected}
 use Rattle.strided.specs.declared.Stepped.{Stepped}
 use Rattle.strided.specs.Base.{padded, unless, until, sum, product, least, every, some-of, seek, greatest}
-use Rattle.strided.specs.Refusals.{number, layoutRefused}
+use Rattle.strided.specs.Refusals.{number, layoutRefused, planningRefused}
+use Rattle.strided.specs.Machine.{allowed, fixedFour}
 use Rattle.strided.specs.Ranks.{smaller, rankOf, ranks, rankTable}
 use Rattle.strided.specs.Weights.{packingWidth, shiftOf, termOf, sizeAt, rankIn, addend, weightAt, termFits, sumFits, axisFits, try, capTries, widthTries, weights}
 use Rattle.strided.specs.Order.{loopOrder, fusingOrder}
@@ -55,6 +57,9 @@ pub data Figure : Type 0 where
   planIs : List ℕ → List ℕ → List ℤ → Purpose → List ℕ → List ℕ → List ℤ → Figure
   -- planning refuses with this number
   refusedIs : List ℕ → List ℕ → List ℤ → Purpose → ℕ → Figure
+  -- the same with another machine record than the fixed four
+  planOn : Machine → List ℕ → List ℕ → List ℤ → Purpose → List ℕ → List ℕ → List ℤ → Figure
+  refusedOn : Machine → List ℕ → List ℕ → List ℤ → Purpose → ℕ → Figure
   -- index finding: extents, sizes, strides, purpose; the counters and the original index, told both ways
   indexIs : List ℕ → List ℕ → List ℤ → Purpose → List ℕ → List ℕ → Figure
   -- a walk of one operand to its end: extents, blocks, strides, start; the offsets and the lengths of its blocks
@@ -70,6 +75,10 @@ pub data Figure : Type 0 where
 -- strides that are not negative
 abbrev pub whole : List ℕ → List ℤ
 whole ns = map pos ns
+
+-- a machine record: line, cache, way, live
+abbrev pub machine : ℕ → ℕ → ℕ → ℕ → Machine
+machine l c w n = record { line = l; cache = c; way = w; live = n }
 
 -- a plan of one operand
 unfoldable pub planOf : List ℕ → List ℕ → List ℤ → Plan
@@ -192,8 +201,22 @@ figures =
     ∷ callsAre (planOf (5 ∷ []) (2 ∷ []) (whole (3 ∷ []))) (pos 10 ∷ []) (4 ∷ []) (3 ∷ []) (2 ∷ 2 ∷ 1 ∷ 9 ∷ []) (whole (10 ∷ 16 ∷ 22 ∷ 9 ∷ []))
     ∷ callsAre (planOf (3 ∷ 3 ∷ []) (2 ∷ 2 ∷ []) (whole (1 ∷ 10 ∷ []))) (pos 0 ∷ []) (4 ∷ 3 ∷ 1 ∷ []) (4 ∷ 2 ∷ 0 ∷ [])
     (2 ∷ 2 ∷ 1 ∷ 1 ∷ 2 ∷ 1 ∷ 9 ∷ 9 ∷ []) (whole (0 ∷ 10 ∷ 2 ∷ 12 ∷ 20 ∷ 22 ∷ 9 ∷ 9 ∷ []))
-    ∷ callsAre (planned (2 ∷ 3 ∷ []) (8 ∷ 8 ∷ []) (whole (1 ∷ 2 ∷ 3 ∷ 1 ∷ [])) Pointwise .plan) (whole (0 ∷ 0 ∷ [])) (2 ∷ 2 ∷ []) (2 ∷ 1 ∷ [])
+    ∷ callsAre (planned fixedFour (2 ∷ 3 ∷ []) (8 ∷ 8 ∷ []) (whole (1 ∷ 2 ∷ 3 ∷ 1 ∷ [])) Pointwise .plan) (whole (0 ∷ 0 ∷ [])) (2 ∷ 2 ∷ []) (2 ∷ 1 ∷ [])
     (2 ∷ 2 ∷ 2 ∷ 9 ∷ []) (whole (0 ∷ 0 ∷ 2 ∷ 1 ∷ 4 ∷ 2 ∷ 9 ∷ 9 ∷ []))
+    -- 43 to 45: row 8 with other records: each of the four is read; in a cache that holds it all nothing is cut
+    ∷ planOn (machine 32 4096 4096 6) (64 ∷ 64 ∷ []) (8 ∷ 8 ∷ []) (whole (1 ∷ 64 ∷ 512 ∷ 1 ∷ [])) (PointwiseInto 0) (64 ∷ 64 ∷ []) (6 ∷ 16 ∷ []) (whole (1 ∷ 64 ∷ []))
+    ∷ planOn (machine 32 16384 32 1) (64 ∷ 64 ∷ []) (8 ∷ 8 ∷ []) (whole (1 ∷ 64 ∷ 64 ∷ 1 ∷ [])) (PointwiseInto 0) (64 ∷ 64 ∷ []) (1 ∷ 32 ∷ []) (whole (1 ∷ 64 ∷ []))
+    ∷ planOn (machine 256 1048576 65536 16) (64 ∷ 64 ∷ []) (8 ∷ 8 ∷ []) (whole (1 ∷ 64 ∷ 512 ∷ 1 ∷ [])) (PointwiseInto 0) (64 ∷ 64 ∷ []) (64 ∷ 64 ∷ []) (whole (1 ∷ 64 ∷ []))
+    -- 46: row 18 in half the cache: halving stops below twice the record's
+    ∷ planOn (machine 64 16384 4096 6) (33 ∷ 8 ∷ 8 ∷ []) (1 ∷ 16 ∷ []) (whole (3 ∷ 5 ∷ 128 ∷ 100 ∷ 32 ∷ 5 ∷ [])) Pointwise
+    (33 ∷ 8 ∷ 8 ∷ []) (9 ∷ 7 ∷ 4 ∷ []) (whole (3 ∷ 5 ∷ 128 ∷ []))
+    -- 47 to 52: records outside the bounds, at a zero extent too; 24 after 4 and before 5
+    ∷ refusedOn (machine 48 32768 4080 6) (2 ∷ []) (8 ∷ []) (whole (1 ∷ [])) Pointwise 24
+    ∷ refusedOn (machine 64 4095 64 6) (0 ∷ []) (8 ∷ []) (whole (1 ∷ [])) Pointwise 24
+    ∷ refusedOn (machine 64 32768 96 6) (2 ∷ []) (8 ∷ []) (whole (1 ∷ [])) Pointwise 24
+    ∷ refusedOn (machine 64 32768 4096 17) (2 ∷ []) (8 ∷ []) (whole (1 ∷ [])) Pointwise 24
+    ∷ refusedOn (machine 64 32768 4096 0) (2 ∷ []) (8 ∷ []) (whole (1 ∷ [])) (Fold 1) 4
+    ∷ refusedOn (machine 64 32768 4096 0) (2 ^ 32 ∷ 2 ^ 32 ∷ []) (1 ∷ []) (whole (0 ∷ 0 ∷ [])) Pointwise 24
     ∷ []
 
 -- ---- what the definitions give
@@ -248,16 +271,24 @@ called (n ∷ ns) p w =
     let later : Calls = called ns p (a .several .walk) in
     record { counts = a .several .count ∷ later .counts; lengths = a .lengths ++ later .lengths; offsets = a .offsets ++ later .offsets }
 
+-- what planning answers: this plan, or this number
+abbrev pub planRight : Planned → ℕ → List ℕ → List ℕ → List ℤ → Bool
+planRight a operands fs bs ts =
+    eqb (numberOf (a .answer)) 0 && (eqb (a .plan .rank) (length fs) && (eqb (a .plan .operands) operands
+    && (same (a .plan .extents) (padded 64 0 fs) && (same (a .plan .blocks) (padded 64 0 bs) && sameZ (take 64 (a .plan .strides)) (padded 64 (pos 0) ts)))))
+
+abbrev pub refusedRight : Planned → ℕ → Bool
+refusedRight a n = eqb (numberOf (a .answer)) n
+
 -- a row is right
 unfoldable pub right : Figure → Bool
 right (ranksAre ss rs) = same (ranks ss) rs
 right (weightsAre es operands ss ws) = same (weights es operands ss 0) ws
-right (regionIs es ss size r) = eqb (region (byteTable (size ∷ []) ss) 1 es 0 (length es)) r
-right (planIs es sizes ss u fs bs ts) =
-    let a : Planned = planned es sizes ss u in
-    eqb (numberOf (a .answer)) 0 && (eqb (a .plan .rank) (length fs) && (eqb (a .plan .operands) (length sizes)
-    && (same (a .plan .extents) (padded 64 0 fs) && (same (a .plan .blocks) (padded 64 0 bs) && sameZ (take 64 (a .plan .strides)) (padded 64 (pos 0) ts)))))
-right (refusedIs es sizes ss u n) = let a : Planned = planned es sizes ss u in eqb (numberOf (a .answer)) n
+right (regionIs es ss size r) = eqb (region fixedFour (byteTable (size ∷ []) ss) 1 es 0 (length es)) r
+right (planIs es sizes ss u fs bs ts) = let a : Planned = planned fixedFour es sizes ss u in planRight a (length sizes) fs bs ts
+right (refusedIs es sizes ss u n) = let a : Planned = planned fixedFour es sizes ss u in refusedRight a n
+right (planOn mc es sizes ss u fs bs ts) = let a : Planned = planned mc es sizes ss u in planRight a (length sizes) fs bs ts
+right (refusedOn mc es sizes ss u n) = let a : Planned = planned mc es sizes ss u in refusedRight a n
 right (indexIs es sizes ss u cs x) =
     let a : Told = toldOriginal es sizes ss u cs in
     let b : Told = toldPlan es sizes ss u x in
@@ -281,5 +312,5 @@ wrong n (f ∷ fs) = unless (right f) n (wrong (suc n) fs)
 
 -- ALL ROWS ARE RIGHT
 pub figures-right : wrong 0 figures ≡ []
-unfolding figures planOf seen called right wrong until sum product least every some-of seek greatest layoutRefused smaller rankOf ranks rankTable leadingZeros packingWidth shiftOf termOf sizeAt rankIn addend weightAt termFits sumFits axisFits try capTries widthTries weights loopOrder fusingOrder planAxes originalIndex indexInPlan toldOriginal toldPlan regionOf region costOf costs greatestScore halving lessening halved lessened shrunk leastRank leastByte keepsFirst ones cutting firstCut insertRising rising apart widthOf passes declined reuse counts loadOf load entersOf enters shortens mostOf fitFrom fitted grows cutBlocks planFrom planned beginRefused begunAt stepped steppedMany repeats markRefused marked digitsOf printedPlan printed textRefused listed
+unfolding figures planOf seen called right wrong until sum product least every some-of seek greatest allowed layoutRefused planningRefused smaller rankOf ranks rankTable leadingZeros packingWidth shiftOf termOf sizeAt rankIn addend weightAt termFits sumFits axisFits try capTries widthTries weights loopOrder fusingOrder planAxes originalIndex indexInPlan toldOriginal toldPlan regionOf region costOf costs greatestScore halving lessening halved lessened shrunk leastRank leastByte keepsFirst ones cutting firstCut insertRising rising apart widthOf passes declined reuse counts loadOf load entersOf enters shortens mostOf fitFrom fitted grows cutBlocks planFrom planned beginRefused begunAt stepped steppedMany repeats markRefused marked digitsOf printedPlan printed textRefused listed
 figures-right = refl

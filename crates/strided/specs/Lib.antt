@@ -2,6 +2,7 @@
 -- figures with the one theorem of this crate.
 pub mod Base
 pub mod Layout
+pub mod Machine
 pub mod Refusals
 pub mod Ranks
 pub mod Weights

@@ -2,18 +2,20 @@
 -- rows they check into lists of their own.
 -- Assumes nothing.
 use mathlib.Core.Bool.{Bool, false, cond, _&&_, _||_, not}
-use mathlib.Core.List.{List, [], _∷_}
+use mathlib.Core.List.{List, [], _∷_, _++_}
 use mathlib.Core.Option.{Option, none, some}
 use Prim.Native.Nat.{ℕ, _+_, _-_, _*_}
 use lib.Dec.{ltb, leb, eqb}
 use lib.IntN.{ℤ, pos, negℤ, _+ℤ_, _-ℤ_}
 use lib.ListN.{length, getD}
+use Rattle.strided.specs.declared.Machine.{Machine}
 use Rattle.strided.specs.declared.Purpose.{Purpose}
 use Rattle.strided.specs.declared.Refusal.{Refusal}
-use Rattle.strided.specs.declared.Refusal.the-variants.{Rank, Operands, StrideCount, Chosen, Total, Reach, Bytes, StartCount, Offsets, State, Index, Form, TextTotal, Room}
+use Rattle.strided.specs.declared.Refusal.the-variants.{Rank, Operands, StrideCount, Chosen, Total, Reach, Bytes, StartCount, Offsets, State, Index, Form, TextTotal, Room, Record}
 use Rattle.strided.specs.declared.Answer.{Answer}
 use Rattle.strided.specs.declared.Answer.the-variants.{Served, Refused}
 use Rattle.strided.specs.Base.{some-of}
+use Rattle.strided.specs.Machine.{allowed}
 use Rattle.strided.specs.Layout.{strideRow, chosen, total, hasZero, within, reach, reachDown, inI64, maxU, maxI}
 
 -- "Where an answer is an enum, a definition gives this paper's number"
@@ -32,6 +34,7 @@ number Index = 11
 number Form = 12
 number TextTotal = 13
 number Room = 14
+number Record = 24
 
 -- "the refusal's number negated": what an entry with a signed number as its answer answers
 abbrev pub negated : Refusal → ℤ
@@ -43,7 +46,7 @@ pub record Row : Type 0 where
   pub refusal : Refusal
 
 -- "the least number wins": the rows of an entry stand in the order of their numbers, and the first that applies refuses. "except that 12
--- comes first and 13 follows 7": so they stand in the text's list
+-- comes first and 13 follows 7": so they stand in the text's list. 24 stands "after 4"
 abbrev pub refusedBy : List Row → Option Refusal
 refusedBy [] = none
 refusedBy (r ∷ rs) = cond (r .applies) (some (r .refusal)) (refusedBy rs)
@@ -110,11 +113,27 @@ row11 es x = record { applies = not (within es x); refusal = Index }
 
 -- 12 to 14 are the text's
 
--- "Rows 5 to 7 are for planning, index finding and text": what planning refuses
+-- 24, "a record outside these bounds"
+abbrev pub row24 : Machine → Row
+row24 mc = record { applies = not (allowed mc); refusal = Record }
+
+-- rows 1 to 4 of a layout, and 5 to 7
+abbrev pub countRows : List ℕ → List ℕ → List ℤ → Purpose → List Row
+countRows es sizes ss u = row1 (length es) ∷ row2 (length sizes) ∷ row3 (length es) (length sizes) ss ∷ row4 (length sizes) u ∷ []
+
+abbrev pub spanRows : List ℕ → List ℕ → List ℤ → List Row
+spanRows es sizes ss = row5 es ∷ row6 es (length sizes) (strideRow ss (length es)) ∷ row7 es sizes (strideRow ss (length es)) ∷ []
+
+-- "Rows 5 to 7 are for planning, index finding and text": what index finding refuses of a layout
 abbrev pub layoutRows : List ℕ → List ℕ → List ℤ → Purpose → List Row
-layoutRows es sizes ss u =
-    row1 (length es) ∷ row2 (length sizes) ∷ row3 (length es) (length sizes) ss ∷ row4 (length sizes) u ∷ row5 es
-    ∷ row6 es (length sizes) (strideRow ss (length es)) ∷ row7 es sizes (strideRow ss (length es)) ∷ []
+layoutRows es sizes ss u = countRows es sizes ss u ++ spanRows es sizes ss
 
 unfoldable pub layoutRefused : List ℕ → List ℕ → List ℤ → Purpose → Option Refusal
 layoutRefused es sizes ss u = refusedBy (layoutRows es sizes ss u)
+
+-- what planning refuses: "24: .. only from entries that plan; after 4, and due at a zero extent too"
+abbrev pub planningRows : Machine → List ℕ → List ℕ → List ℤ → Purpose → List Row
+planningRows mc es sizes ss u = countRows es sizes ss u ++ (row24 mc ∷ spanRows es sizes ss)
+
+unfoldable pub planningRefused : Machine → List ℕ → List ℕ → List ℤ → Purpose → Option Refusal
+planningRefused mc es sizes ss u = refusedBy (planningRows mc es sizes ss u)

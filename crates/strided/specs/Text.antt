@@ -14,6 +14,7 @@ use lib.Signed.{mag}
 use Rattle.strided.specs.Base.{over, run, first}
 use Rattle.strided.specs.Layout.{strideRow, chosen, leadOf, total}
 use Rattle.strided.specs.Refusals.{Row, refusedBy, negated, row1, row2, row4, row5, row6, row7}
+use Rattle.strided.specs.Machine.{fixedFour}
 use Rattle.strided.specs.Plan.{planned}
 use Rattle.strided.specs.Walk.{Block, block, blocksOf}
 use Rattle.strided.specs.Begin.{planExtents, planBlocks, planRows}
@@ -173,8 +174,9 @@ planWalk p = blocksOf (planCutAxes p)
 unfoldable pub printedPlan : Plan → List ℕ
 printedPlan p = rankLine (p .rank) ++ (over (run 0 (p .rank)) (axisOf p) ++ (blockLines p 0 (planWalk p) ++ endLine (planWalk p)))
 
+-- "the walklist text keeps the fixed four"
 unfoldable pub printed : List ℕ → List ℕ → List ℤ → Purpose → List ℕ
-printed es sizes ss u = printedPlan (planned es sizes ss u .plan)
+printed es sizes ss u = printedPlan (planned fixedFour es sizes ss u .plan)
 
 abbrev pub printedOf : Parsed → List ℕ
 printedOf p = printed (p .extents) (sizesOf p) (stridesOf p) (p .purpose)

@@ -13,7 +13,16 @@ pub enum Purpose {
     Fold(u64),
 }
 
-// The rows of the refusal table, 1 to 14 in this order. specs/Refusals has their numbers.
+// The machine that a plan is made for: the bytes of a cache line and of the cache, the bytes of a way of the L1 cache, and the lines of a
+// set that may be live. specs/Machine says which are allowed.
+pub struct Machine {
+    pub line: u64,
+    pub cache: u64,
+    pub way: u64,
+    pub live: u64,
+}
+
+// The rows of the refusal table, 1 to 14 in this order, then 24. specs/Refusals has their numbers.
 pub enum Refusal {
     Rank,
     Operands,
@@ -29,6 +38,7 @@ pub enum Refusal {
     Form,
     TextTotal,
     Room,
+    Record,
 }
 
 // What an entry answers, beside its value. On a refusal every number of the value is 0.
