@@ -1,6 +1,7 @@
--- Laws of the refusal table: how the first row that applies is found, rows 5 to 7, and what a layout that no row refuses has.
+-- Laws of the refusal table: how the first row that applies is found, rows 5 to 7 and 24, and what a layout that no row refuses has.
 pub mod Rows
 pub mod Operands
 pub mod Zeros
 pub mod Reaches
 pub mod Accepted
+pub mod Record

@@ -11,31 +11,32 @@ use lib.Dec.{ltb, leb, eqb}
 use lib.ListN.{getD}
 use borrow.Author.Tests.{lt-ltb, le-ltb, le-leb, lt-leb, eq-eqb, ne-eqb}
 use Rattle.strided.specs.Base.{sum, every}
-use Rattle.strided.specs.Region.{line, byteAt}
+use Rattle.strided.specs.Region.{byteAt}
 use Rattle.strided.specs.Decline.{widthOf, passes}
+use Rattle.strided.specs.declared.Machine.{Machine}
 use Rattle.laws.specs.Base.Ranges.{below-or}
 use Rattle.laws.specs.Cut.Ranges.{sum-cong, sum-scale, every-cong}
 use Rattle.laws.specs.Cut.Rising.{before, wayOf, adds, keepsApart, apart-each}
 
 -- n elements of a size are whole lines
-abbrev pub wholeLines : ℕ → ℕ → Bool
-wholeLines size n = eqb (n * size % line) 0
+abbrev pub wholeLines : Machine → ℕ → ℕ → Bool
+wholeLines mc size n = eqb (n * size % mc .line) 0
 
 -- the elements that a slab spans, over the axes before the cut; f gives the stride sizes
 unfoldable pub slab : (ℕ → ℕ) → List ℕ → ℕ → ℕ
 slab f es cut = 1 + sum (wayOf f es) 0 cut
 
 -- axis i, of the n from o on, keeps slabs of w elements apart
-unfoldable pub separates : ℕ → (ℕ → ℕ) → List ℕ → ℕ → ℕ → ℕ → ℕ → Bool
-separates size f es o n w i = wholeLines size (f i) && leb (w + sum (adds f es i) o n) (f i)
+unfoldable pub separates : Machine → ℕ → (ℕ → ℕ) → List ℕ → ℕ → ℕ → ℕ → ℕ → Bool
+separates mc size f es o n w i = wholeLines mc size (f i) && leb (w + sum (adds f es i) o n) (f i)
 
 -- where it steps by whole lines, and where not
-module _ (size : ℕ) (f : ℕ → ℕ) (es : List ℕ) (o n w i : ℕ) where
-  pub separates-line : wholeLines size (f i) ≡ true → separates size f es o n w i ≡ leb (w + sum (adds f es i) o n) (f i)
+module _ (mc : Machine) (size : ℕ) (f : ℕ → ℕ) (es : List ℕ) (o n w i : ℕ) where
+  pub separates-line : wholeLines mc size (f i) ≡ true → separates mc size f es o n w i ≡ leb (w + sum (adds f es i) o n) (f i)
   unfolding separates
   separates-line e = ap (λ (t : Bool). t && leb (w + sum (adds f es i) o n) (f i)) e
 
-  pub separates-off : wholeLines size (f i) ≡ false → separates size f es o n w i ≡ false
+  pub separates-off : wholeLines mc size (f i) ≡ false → separates mc size f es o n w i ≡ false
   unfolding separates
   separates-off e = ap (λ (t : Bool). t && leb (w + sum (adds f es i) o n) (f i)) e
 
@@ -108,21 +109,21 @@ module _ (f g : ℕ → ℕ) (es : List ℕ) (c rank : ℕ) (is : (i : ℕ) → 
         go false x = sym (zero-mul c)
 
     -- the test at one axis needs the factor for the line only
-    separates-scale : (o n w i : ℕ) → o + n ≤ rank → i < rank → keepsApart g es o n (w * c) i ≡ separates c f es o n w i
+    separates-scale : (mc : Machine) (o n w i : ℕ) → o + n ≤ rank → i < rank → keepsApart mc g es o n (w * c) i ≡ separates mc c f es o n w i
     unfolding keepsApart separates
-    separates-scale o n w i h l =
+    separates-scale mc o n w i h l =
         let s : ℕ = sum (adds f es i) o n in
         let e : w * c + sum (adds g es i) o n ≡ (w + s) * c =
         ap (λ (x : ℕ). w * c + x)
         (sum-cong (adds g es i) (λ j. adds f es i j * c) o n (λ j a b. adds-scale i j l (omega arith))
         ∙ sum-scale (adds f es i) (λ j. adds f es i j * c) c (λ j. refl) o n)
         ∙ sym (add-mul w s c) in
-        ap₂ (λ (x y : ℕ). eqb (x % line) 0 && leb y x) (is i l) e
-        ∙ ap (λ (t : Bool). wholeLines c (f i) && t) (scale-leb (w + s) (f i) c p)
+        ap₂ (λ (x y : ℕ). eqb (x % mc .line) 0 && leb y x) (is i l) e
+        ∙ ap (λ (t : Bool). wholeLines mc c (f i) && t) (scale-leb (w + s) (f i) c p)
 
 -- ---- one operand
 
-module _ (bytes sizes es : List ℕ) (f : ℕ → ℕ) (cut rank k : ℕ) (h : cut ≤ rank)
+module _ (mc : Machine) (bytes sizes es : List ℕ) (f : ℕ → ℕ) (cut rank k : ℕ) (h : cut ≤ rank)
     (is : (i : ℕ) → i < rank → byteAt bytes k i ≡ f i * getD sizes k 0) where
   -- the width is the slab's elements, each of the size
   width-is : widthOf bytes sizes es cut k ≡ slab f es cut * getD sizes k 0
@@ -131,8 +132,8 @@ module _ (bytes sizes es : List ℕ) (f : ℕ → ℕ) (cut rank k : ℕ) (h : c
 
   -- where the size is not 0, the operand passes by its elements
   pub passes-elements : 0 < getD sizes k 0
-      → passes bytes sizes es cut rank k
-      ≡ (wholeLines (getD sizes k 0) (slab f es cut) && every (separates (getD sizes k 0) f es cut (rank - cut) (slab f es cut)) cut (rank - cut))
+      → passes mc bytes sizes es cut rank k
+      ≡ (wholeLines mc (getD sizes k 0) (slab f es cut) && every (separates mc (getD sizes k 0) f es cut (rank - cut) (slab f es cut)) cut (rank - cut))
   unfolding passes
   passes-elements p =
       let c : ℕ = getD sizes k 0 in
@@ -140,8 +141,8 @@ module _ (bytes sizes es : List ℕ) (f : ℕ → ℕ) (cut rank k : ℕ) (h : c
       let v : ℕ = slab f es cut in
       let g : ℕ → ℕ = byteAt bytes k in
       rw (ne-eqb (getD sizes k 0) 0 (λ e. omega arith))
-      (ap (λ (t : Bool). eqb (w % line) 0 && t) (apart-each g es cut (rank - cut) w)
-      ∙ ap (λ (x : ℕ). eqb (x % line) 0 && every (keepsApart g es cut (rank - cut) x) cut (rank - cut)) width-is
-      ∙ ap (λ (t : Bool). wholeLines c v && t)
-      (every-cong (keepsApart g es cut (rank - cut) (v * c)) (separates c f es cut (rank - cut) v) cut (rank - cut)
-      (λ i a b. separates-scale f g es c rank is p cut (rank - cut) v i (omega arith) (omega arith))))
+      (ap (λ (t : Bool). eqb (w % mc .line) 0 && t) (apart-each g mc es cut (rank - cut) w)
+      ∙ ap (λ (x : ℕ). eqb (x % mc .line) 0 && every (keepsApart mc g es cut (rank - cut) x) cut (rank - cut)) width-is
+      ∙ ap (λ (t : Bool). wholeLines mc c v && t)
+      (every-cong (keepsApart mc g es cut (rank - cut) (v * c)) (separates mc c f es cut (rank - cut) v) cut (rank - cut)
+      (λ i a b. separates-scale f g es c rank is p mc cut (rank - cut) v i (omega arith) (omega arith))))

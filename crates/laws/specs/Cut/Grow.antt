@@ -2,35 +2,43 @@
 use mathlib.Core.Path.{subst⁻¹}
 use mathlib.Core.List.{List}
 use mathlib.Core.Logic.{⊎-elim}
-use Prim.Native.Nat.{ℕ, _<_, _≤_}
-use native.Mathlib.Nat.{mul-le-mul, mul-le-mul-left, le-refl}
+use Prim.Native.Nat.{ℕ, zero, suc, _+_, _*_, _/_, _<_, _≤_}
+use native.Mathlib.Nat.{mul-le-mul, mul-le-mul-left, le-refl, le-trans, zero-mul, le-div-iff-mul-le, div-mul-le-self}
 use native.Mathlib.Decide.{ℕ-discrete}
 use native.Mathlib.Omega.{arith}
 use lib.Dec.{ltb}
 use lib.ListN.{getD, set, length}
 use lib.Seq.{getD-set-same, getD-set-other, set-out}
-use Rattle.strided.specs.Region.{line, byteAt, near, far, regionOf, region}
+use Rattle.strided.specs.Region.{byteAt, near, far, regionOf, region}
 use Rattle.strided.specs.Fit.{reuse, counts, aliases, factor, loadOf, load}
+use Rattle.strided.specs.declared.Machine.{Machine}
 use Rattle.laws.specs.Cut.Ranges.{le-or-lt, cond-mono, sum-termwise, product-termwise}
 
-pub region-mono : (bytes : List ℕ) (operands : ℕ) (b b′ : List ℕ) (o n : ℕ) → ((i : ℕ) → getD b i 0 ≤ getD b′ i 0)
-    → region bytes operands b o n ≤ region bytes operands b′ o n
+-- whole lines of l bytes; l may be 0
+lines-mono : (l x y : ℕ) → x ≤ y → l * (x / l + 1) ≤ l * (y / l + 1)
+lines-mono zero x y h = omega (arith, zero-mul (x / 0 + 1))
+lines-mono (suc l) x y h =
+    let q : x / suc l ≤ y / suc l = le-div-iff-mul-le {k = suc l} {x = x / suc l} {y = y} (omega arith) .1 (le-trans (div-mul-le-self x (suc l)) h) in
+    mul-le-mul-left (suc l) (omega arith)
+
+pub region-mono : (mc : Machine) (bytes : List ℕ) (operands : ℕ) (b b′ : List ℕ) (o n : ℕ) → ((i : ℕ) → getD b i 0 ≤ getD b′ i 0)
+    → region mc bytes operands b o n ≤ region mc bytes operands b′ o n
 unfolding region regionOf
-region-mono bytes operands b b′ o n h = sum-termwise (regionOf bytes b o n) (regionOf bytes b′ o n)
+region-mono mc bytes operands b b′ o n h = sum-termwise (regionOf mc bytes b o n) (regionOf mc bytes b′ o n)
     (λ k.
-    let c = sum-termwise (near bytes b k) (near bytes b′ k)
-    (λ i. cond-mono (ltb (byteAt bytes k i) line) (mul-le-mul-left (byteAt bytes k i) (let q = h i in omega arith)) (le-refl 0)) o n in
-    let m = product-termwise (far bytes b k) (far bytes b′ k)
-    (λ i. cond-mono (ltb (byteAt bytes k i) line) (le-refl 1) (h i)) o n in
-    mul-le-mul (omega arith) m)
+    let c = sum-termwise (near mc bytes b k) (near mc bytes b′ k)
+    (λ i. cond-mono (ltb (byteAt bytes k i) (mc .line)) (mul-le-mul-left (byteAt bytes k i) (let q = h i in omega arith)) (le-refl 0)) o n in
+    let m = product-termwise (far mc bytes b k) (far mc bytes b′ k)
+    (λ i. cond-mono (ltb (byteAt bytes k i) (mc .line)) (le-refl 1) (h i)) o n in
+    mul-le-mul (lines-mono (mc .line) _ _ c) m)
     0 operands
 
-pub load-mono : (bytes sizes : List ℕ) (rank : ℕ) (b b′ : List ℕ) → ((i : ℕ) → getD b i 0 ≤ getD b′ i 0)
-    → load bytes sizes rank b ≤ load bytes sizes rank b′
+pub load-mono : (mc : Machine) (bytes sizes : List ℕ) (rank : ℕ) (b b′ : List ℕ) → ((i : ℕ) → getD b i 0 ≤ getD b′ i 0)
+    → load mc bytes sizes rank b ≤ load mc bytes sizes rank b′
 unfolding load loadOf
-load-mono bytes sizes rank b b′ h = sum-termwise (loadOf bytes sizes rank b) (loadOf bytes sizes rank b′)
-    (λ k. cond-mono (counts bytes sizes rank k)
-    (product-termwise (factor bytes b k) (factor bytes b′ k) (λ i. cond-mono (aliases (byteAt bytes k i)) (h i) (le-refl 1)) 0 (reuse bytes rank k)) (le-refl 0))
+load-mono mc bytes sizes rank b b′ h = sum-termwise (loadOf mc bytes sizes rank b) (loadOf mc bytes sizes rank b′)
+    (λ k. cond-mono (counts mc bytes sizes rank k)
+    (product-termwise (factor mc bytes b k) (factor mc bytes b′ k) (λ i. cond-mono (aliases mc (byteAt bytes k i)) (h i) (le-refl 1)) 0 (reuse mc bytes rank k)) (le-refl 0))
     0 2
 
 pub set-mono : (b : List ℕ) (i x y : ℕ) → x ≤ y → (j : ℕ) → getD (set b i x) j 0 ≤ getD (set b i y) j 0

@@ -11,8 +11,9 @@ use native.Mathlib.Omega.{arith}
 use lib.Dec.{ltb}
 use lib.ListN.{getD, set, length, length-set, List·getD-eq-default}
 use lib.Seq.{getD-set-same, getD-set-other, ext-getD}
-use Rattle.strided.specs.Region.{cache, region}
+use Rattle.strided.specs.Region.{region}
 use Rattle.strided.specs.Cut.{score, lessening, lessened, cells}
+use Rattle.strided.specs.declared.Machine.{Machine}
 use Rattle.laws.specs.Cut.Ranges.{le-or-lt, cond-lt, cond-le, none-yet, one-more, at-end}
 use Rattle.laws.specs.Cut.Until.{until-step}
 use Rattle.laws.specs.Cut.Picks.{pick-is, pick-best, above-there}
@@ -191,56 +192,56 @@ clipped-loss s costs o n b p hp lp k hs =
     (⊎-elim (λ (h : j < o). λ e. absurd (omega arith)) (λ (h : o + n ≤ j). λ e. absurd (omega arith)) out))
 
 -- one single step on the way: fewer cells, the same end, and the same blocks once clipped
-pub record Loss (bytes : List ℕ) (operands : ℕ) (costs : List ℕ) (o n s : ℕ) (b : List ℕ) : Type 0 where
+pub record Loss (mc : Machine) (bytes : List ℕ) (operands : ℕ) (costs : List ℕ) (o n s : ℕ) (b : List ℕ) : Type 0 where
   pub next : List ℕ
   pub fewer : cells o n next < cells o n b
-  pub ends : lessened bytes operands costs o n b ≡ lessened bytes operands costs o n next
+  pub ends : lessened mc bytes operands costs o n b ≡ lessened mc bytes operands costs o n next
   pub same : clipped s costs o n next ≡ clipped s costs o n b
 
-pub one-loss : (bytes : List ℕ) (operands : ℕ) (costs : List ℕ) (o n s : ℕ) (b : List ℕ) (i : ℕ) → o ≤ i → i < o + n → s < score b costs i
-    → cache < region bytes operands b o n → Loss bytes operands costs o n s b
+pub one-loss : (mc : Machine) (bytes : List ℕ) (operands : ℕ) (costs : List ℕ) (o n s : ℕ) (b : List ℕ) (i : ℕ) → o ≤ i → i < o + n → s < score b costs i
+    → mc .cache < region mc bytes operands b o n → Loss mc bytes operands costs o n s b
 unfolding lessened
-one-loss bytes operands costs o n s b i h l hs big =
+one-loss mc bytes operands costs o n s b i h l hs big =
     let a = pos-left (getD b i 0 - 1) (getD costs i 0) s hs in
     let best = pick-best b costs o n i h l (omega arith) in
     let p : ℕ = best .at in
     let pk = pick-is b costs o n p (best .is) in
     let k = above-there b p (pk .above) in
     let sp : s < score b costs p = lt-of-lt-of-le hs (best .most) in
-    let goes = lessening-at bytes operands costs o n b p big (best .is) in
+    let goes = lessening-at mc bytes operands costs o n b p big (best .is) in
     record {
       next = set b p (getD b p 0 - 1);
-      fewer = lessening-falls bytes operands costs o n b (set b p (getD b p 0 - 1)) goes;
-      ends = until-step (lessening bytes operands costs o n) (cells o n) (lessening-falls bytes operands costs o n) b (set b p (getD b p 0 - 1)) goes;
+      fewer = lessening-falls mc bytes operands costs o n b (set b p (getD b p 0 - 1)) goes;
+      ends = until-step (lessening mc bytes operands costs o n) (cells o n) (lessening-falls mc bytes operands costs o n) b (set b p (getD b p 0 - 1)) goes;
       same = clipped-loss s costs o n b p (pk .from) (pk .below) k sp;
     }
 
 -- blocks that are too large when clipped are too large
-unclipped : (bytes : List ℕ) (operands : ℕ) (costs : List ℕ) (o n s : ℕ) (b : List ℕ) → cache < region bytes operands (clipped s costs o n b) o n → cache < region bytes operands b o n
-unclipped bytes operands costs o n s b big = lt-of-lt-of-le big (region-mono bytes operands (clipped s costs o n b) b o n (clipped-le s costs o n b))
+unclipped : (mc : Machine) (bytes : List ℕ) (operands : ℕ) (costs : List ℕ) (o n s : ℕ) (b : List ℕ) → mc .cache < region mc bytes operands (clipped s costs o n b) o n → mc .cache < region mc bytes operands b o n
+unclipped mc bytes operands costs o n s b big = lt-of-lt-of-le big (region-mono mc bytes operands (clipped s costs o n b) b o n (clipped-le s costs o n b))
 
 -- the jump: where the region of the clipped blocks is still above 32,768, the single steps come by them
-jump-in : (bytes : List ℕ) (operands : ℕ) (costs : List ℕ) (o n s steps : ℕ) (b : List ℕ) → cells o n b ≤ steps
-    → cache < region bytes operands (clipped s costs o n b) o n
-    → lessened bytes operands costs o n b ≡ lessened bytes operands costs o n (clipped s costs o n b)
-jump-in bytes operands costs o n s zero b fuel big = ⊎-elim
-    (λ low. ap (lessened bytes operands costs o n) (sym (clipped-none s costs o n b low)))
-    (λ r. absurd (omega (arith, one-loss bytes operands costs o n s b (r .0) (r .1) (r .2) (r .3) (unclipped bytes operands costs o n s b big) .fewer)))
+jump-in : (mc : Machine) (bytes : List ℕ) (operands : ℕ) (costs : List ℕ) (o n s steps : ℕ) (b : List ℕ) → cells o n b ≤ steps
+    → mc .cache < region mc bytes operands (clipped s costs o n b) o n
+    → lessened mc bytes operands costs o n b ≡ lessened mc bytes operands costs o n (clipped s costs o n b)
+jump-in mc bytes operands costs o n s zero b fuel big = ⊎-elim
+    (λ low. ap (lessened mc bytes operands costs o n) (sym (clipped-none s costs o n b low)))
+    (λ r. absurd (omega (arith, one-loss mc bytes operands costs o n s b (r .0) (r .1) (r .2) (r .3) (unclipped mc bytes operands costs o n s b big) .fewer)))
     (some-above (score b costs) s o n)
-jump-in bytes operands costs o n s (suc steps) b fuel big = ⊎-elim
-    (λ low. ap (lessened bytes operands costs o n) (sym (clipped-none s costs o n b low)))
+jump-in mc bytes operands costs o n s (suc steps) b fuel big = ⊎-elim
+    (λ low. ap (lessened mc bytes operands costs o n) (sym (clipped-none s costs o n b low)))
     (λ r.
-    let q = one-loss bytes operands costs o n s b (r .0) (r .1) (r .2) (r .3) (unclipped bytes operands costs o n s b big) in
+    let q = one-loss mc bytes operands costs o n s b (r .0) (r .1) (r .2) (r .3) (unclipped mc bytes operands costs o n s b big) in
     q .ends
-    ∙ jump-in bytes operands costs o n s steps (q .next) (omega (arith, q .fewer))
-    (subst⁻¹ (λ (x : List ℕ). cache < region bytes operands x o n) (q .same) big)
-    ∙ ap (lessened bytes operands costs o n) (q .same))
+    ∙ jump-in mc bytes operands costs o n s steps (q .next) (omega (arith, q .fewer))
+    (subst⁻¹ (λ (x : List ℕ). mc .cache < region mc bytes operands x o n) (q .same) big)
+    ∙ ap (lessened mc bytes operands costs o n) (q .same))
     (some-above (score b costs) s o n)
 
-pub jump : (bytes : List ℕ) (operands : ℕ) (costs : List ℕ) (o n s : ℕ) (b : List ℕ)
-    → cache < region bytes operands (clipped s costs o n b) o n
-    → lessened bytes operands costs o n b ≡ lessened bytes operands costs o n (clipped s costs o n b)
-jump bytes operands costs o n s b = jump-in bytes operands costs o n s (cells o n b) b (le-refl (cells o n b))
+pub jump : (mc : Machine) (bytes : List ℕ) (operands : ℕ) (costs : List ℕ) (o n s : ℕ) (b : List ℕ)
+    → mc .cache < region mc bytes operands (clipped s costs o n b) o n
+    → lessened mc bytes operands costs o n b ≡ lessened mc bytes operands costs o n (clipped s costs o n b)
+jump mc bytes operands costs o n s b = jump-in mc bytes operands costs o n s (cells o n b) b (le-refl (cells o n b))
 
 pub clipped-scores : (s : ℕ) (costs : List ℕ) (o n m : ℕ) (b : List ℕ) → ScoresFit m costs b → ScoresFit m costs (clipped s costs o n b)
 clipped-scores s costs o n m b fit = scores-le m costs b (clipped s costs o n b) (clipped-le s costs o n b) fit

@@ -11,8 +11,9 @@ use native.Mathlib.Omega.{arith}
 use lib.ListN.{getD, set, length}
 use lib.Seq.{set-set, set-comm}
 use Rattle.strided.specs.Base.{sum}
-use Rattle.strided.specs.Region.{cache, region}
+use Rattle.strided.specs.Region.{region}
 use Rattle.strided.specs.Cut.{score, greatestScore, lessened, cells}
+use Rattle.strided.specs.declared.Machine.{Machine}
 use Rattle.laws.specs.Cut.Ranges.{le-or-lt, cond-lt, cond-le}
 use Rattle.laws.specs.Cut.Picks.{topOf, pick-best}
 use Rattle.laws.specs.Cut.Jump.{clipAt, clippedOver, clipped, pos-right, clipAt-le, clipped-none, clipped-le, clipped-in, some-above, Loss, one-loss, over-itself}
@@ -46,78 +47,78 @@ top-most b costs o n i h l = ⊎-elim
     (le-or-lt (getD b i 0) 1)
 
 -- s is the least score at which the clipped blocks are still too large
-pub record Least (bytes : List ℕ) (operands : ℕ) (costs : List ℕ) (o n : ℕ) (b : List ℕ) (s : ℕ) : Type 0 where
-  pub above : cache < region bytes operands (clipped s costs o n b) o n
-  pub below : (r : ℕ) → s ≡ r + 1 → region bytes operands (clipped r costs o n b) o n ≤ cache
+pub record Least (mc : Machine) (bytes : List ℕ) (operands : ℕ) (costs : List ℕ) (o n : ℕ) (b : List ℕ) (s : ℕ) : Type 0 where
+  pub above : mc .cache < region mc bytes operands (clipped s costs o n b) o n
+  pub below : (r : ℕ) → s ≡ r + 1 → region mc bytes operands (clipped r costs o n b) o n ≤ mc .cache
 
 -- it lies between two scores; t is what was clipped last
-pub record Seeking (bytes : List ℕ) (operands : ℕ) (costs : List ℕ) (o n : ℕ) (b t : List ℕ) (lo hi : ℕ) : Type 0 where
+pub record Seeking (mc : Machine) (bytes : List ℕ) (operands : ℕ) (costs : List ℕ) (o n : ℕ) (b t : List ℕ) (lo hi : ℕ) : Type 0 where
   pub ordered : lo ≤ hi
   pub over : (s : ℕ) → clippedOver s costs o n b t ≡ clipped s costs o n b
-  pub above : cache < region bytes operands (clipped hi costs o n b) o n
-  pub below : (r : ℕ) → lo ≡ r + 1 → region bytes operands (clipped r costs o n b) o n ≤ cache
+  pub above : mc .cache < region mc bytes operands (clipped hi costs o n b) o n
+  pub below : (r : ℕ) → lo ≡ r + 1 → region mc bytes operands (clipped r costs o n b) o n ≤ mc .cache
 
-module _ (bytes : List ℕ) (operands : ℕ) (costs : List ℕ) (o n : ℕ) (b : List ℕ) where
-  pub seek-first : cache < region bytes operands b o n → (hi : ℕ) → hi ≡ topOf (score b costs) (greatestScore b costs o n) → Seeking bytes operands costs o n b b 0 hi
+module _ (mc : Machine) (bytes : List ℕ) (operands : ℕ) (costs : List ℕ) (o n : ℕ) (b : List ℕ) where
+  pub seek-first : mc .cache < region mc bytes operands b o n → (hi : ℕ) → hi ≡ topOf (score b costs) (greatestScore b costs o n) → Seeking mc bytes operands costs o n b b 0 hi
   seek-first big hi e = record {
     ordered = omega arith;
     over = λ s. over-itself s costs o n b;
-    above = subst⁻¹ (λ (l : List ℕ). cache < region bytes operands l o n) (clipped-none hi costs o n b (λ i h l. subst⁻¹ (λ (x : ℕ). score b costs i ≤ x) e (top-most b costs o n i h l))) big;
+    above = subst⁻¹ (λ (l : List ℕ). mc .cache < region mc bytes operands l o n) (clipped-none hi costs o n b (λ i h l. subst⁻¹ (λ (x : ℕ). score b costs i ≤ x) e (top-most b costs o n i h l))) big;
     below = λ r z. absurd (omega arith);
   }
 
-  module _ (t : List ℕ) (lo hi mid : ℕ) (k : Seeking bytes operands costs o n b t lo hi) (low : lo ≤ mid) (high : mid < hi) {t′ : List ℕ} (made : t′ ≡ clippedOver mid costs o n b t) where
+  module _ (t : List ℕ) (lo hi mid : ℕ) (k : Seeking mc bytes operands costs o n b t lo hi) (low : lo ≤ mid) (high : mid < hi) {t′ : List ℕ} (made : t′ ≡ clippedOver mid costs o n b t) where
     is : t′ ≡ clipped mid costs o n b
     is = made ∙ k .over mid
 
     over-next : (s : ℕ) → clippedOver s costs o n b t′ ≡ clipped s costs o n b
     over-next s = ap (clippedOver s costs o n b) made ∙ over-again s mid costs o n b t ∙ k .over s
 
-    pub seek-down : cache < region bytes operands t′ o n → Seeking bytes operands costs o n b t′ lo mid
-    seek-down big = record { ordered = low; over = over-next; above = subst (λ (l : List ℕ). cache < region bytes operands l o n) is big; below = k .below }
+    pub seek-down : mc .cache < region mc bytes operands t′ o n → Seeking mc bytes operands costs o n b t′ lo mid
+    seek-down big = record { ordered = low; over = over-next; above = subst (λ (l : List ℕ). mc .cache < region mc bytes operands l o n) is big; below = k .below }
 
-    pub seek-up : region bytes operands t′ o n ≤ cache → Seeking bytes operands costs o n b t′ (mid + 1) hi
+    pub seek-up : region mc bytes operands t′ o n ≤ mc .cache → Seeking mc bytes operands costs o n b t′ (mid + 1) hi
     seek-up small = record {
       ordered = omega arith;
       over = over-next;
       above = k .above;
-      below = λ r e. subst (λ (x : ℕ). region bytes operands (clipped x costs o n b) o n ≤ cache) (let g : mid ≡ r = omega arith in g)
-          (subst (λ (l : List ℕ). region bytes operands l o n ≤ cache) is small);
+      below = λ r e. subst (λ (x : ℕ). region mc bytes operands (clipped x costs o n b) o n ≤ mc .cache) (let g : mid ≡ r = omega arith in g)
+          (subst (λ (l : List ℕ). region mc bytes operands l o n ≤ mc .cache) is small);
     }
 
-  pub sought : (t : List ℕ) (lo hi : ℕ) → Seeking bytes operands costs o n b t lo hi → hi ≤ lo → Least bytes operands costs o n b lo
+  pub sought : (t : List ℕ) (lo hi : ℕ) → Seeking mc bytes operands costs o n b t lo hi → hi ≤ lo → Least mc bytes operands costs o n b lo
   sought t lo hi k h = record {
-    above = subst (λ (x : ℕ). cache < region bytes operands (clipped x costs o n b) o n) (let g : hi ≡ lo = omega (arith, k .ordered) in g) (k .above);
+    above = subst (λ (x : ℕ). mc .cache < region mc bytes operands (clipped x costs o n b) o n) (let g : hi ≡ lo = omega (arith, k .ordered) in g) (k .above);
     below = k .below;
   }
 
 -- ---- how many single steps are left
 
-module _ (bytes : List ℕ) (operands : ℕ) (costs : List ℕ) (o n r : ℕ) where
+module _ (mc : Machine) (bytes : List ℕ) (operands : ℕ) (costs : List ℕ) (o n r : ℕ) where
   -- the single steps do not go below blocks that fit
   abbrev Over : List ℕ → ℕ → Type 0
-  Over b j = getD (clipped r costs o n b) j 0 ≤ getD (lessened bytes operands costs o n b) j 0
+  Over b j = getD (clipped r costs o n b) j 0 ≤ getD (lessened mc bytes operands costs o n b) j 0
 
-  over-or : (b : List ℕ) → region bytes operands (clipped r costs o n b) o n ≤ cache → (j : ℕ) → (Loss bytes operands costs o n r b → Over b j) → Over b j
+  over-or : (b : List ℕ) → region mc bytes operands (clipped r costs o n b) o n ≤ mc .cache → (j : ℕ) → (Loss mc bytes operands costs o n r b → Over b j) → Over b j
   over-or b fits j more = ⊎-elim
-      (λ (small : region bytes operands b o n ≤ cache).
-      subst⁻¹ (λ (l : List ℕ). getD (clipped r costs o n b) j 0 ≤ getD l j 0) (lessened-fits bytes operands costs o n b small) (clipped-le r costs o n b j))
-      (λ (big : cache < region bytes operands b o n). ⊎-elim
-      (λ low. absurd (let e = ap (λ (l : List ℕ). region bytes operands l o n) (clipped-none r costs o n b low) in omega (arith, e, fits, big)))
-      (λ a. more (one-loss bytes operands costs o n r b (a .0) (a .1) (a .2) (a .3) big))
+      (λ (small : region mc bytes operands b o n ≤ mc .cache).
+      subst⁻¹ (λ (l : List ℕ). getD (clipped r costs o n b) j 0 ≤ getD l j 0) (lessened-fits mc bytes operands costs o n b small) (clipped-le r costs o n b j))
+      (λ (big : mc .cache < region mc bytes operands b o n). ⊎-elim
+      (λ low. absurd (let e = ap (λ (l : List ℕ). region mc bytes operands l o n) (clipped-none r costs o n b low) in omega (arith, e, fits, big)))
+      (λ a. more (one-loss mc bytes operands costs o n r b (a .0) (a .1) (a .2) (a .3) big))
       (some-above (score b costs) r o n))
-      (le-or-lt (region bytes operands b o n) cache)
+      (le-or-lt (region mc bytes operands b o n) (mc .cache))
 
-  over-step : (b : List ℕ) (j : ℕ) (q : Loss bytes operands costs o n r b) → Over (q .next) j → Over b j
+  over-step : (b : List ℕ) (j : ℕ) (q : Loss mc bytes operands costs o n r b) → Over (q .next) j → Over b j
   over-step b j q h =
-      subst (λ (l : List ℕ). getD l j 0 ≤ getD (lessened bytes operands costs o n b) j 0) (q .same)
+      subst (λ (l : List ℕ). getD l j 0 ≤ getD (lessened mc bytes operands costs o n b) j 0) (q .same)
       (subst⁻¹ (λ (l : List ℕ). getD (clipped r costs o n (q .next)) j 0 ≤ getD l j 0) (q .ends) h)
 
-  stays-over : (steps : ℕ) (b : List ℕ) → cells o n b ≤ steps → region bytes operands (clipped r costs o n b) o n ≤ cache → (j : ℕ) → Over b j
+  stays-over : (steps : ℕ) (b : List ℕ) → cells o n b ≤ steps → region mc bytes operands (clipped r costs o n b) o n ≤ mc .cache → (j : ℕ) → Over b j
   stays-over zero b fuel fits j = over-or b fits j (λ q. absurd (omega (arith, q .fewer, fuel)))
   stays-over (suc k) b fuel fits j =
       over-or b fits j
-      (λ q. over-step b j q (stays-over k (q .next) (omega (arith, q .fewer, fuel)) (subst⁻¹ (λ (l : List ℕ). region bytes operands l o n ≤ cache) (q .same) fits) j))
+      (λ q. over-step b j q (stays-over k (q .next) (omega (arith, q .fewer, fuel)) (subst⁻¹ (λ (l : List ℕ). region mc bytes operands l o n ≤ mc .cache) (q .same) fits) j))
 
 -- a score more allows each block 1 more at most
 next-quotient : (r c : ℕ) → 0 < c → (r + 1) / c ≤ r / c + 1
@@ -167,16 +168,16 @@ clip-none costs b j h = ⊎-elim
     (le-or-lt (score b costs j) 0)
 
 -- FROM THE LEAST SCORE at most one single step an axis is left: each step takes 1 off one block
-pub few-left : (bytes : List ℕ) (operands : ℕ) (costs : List ℕ) (o n : ℕ) (b : List ℕ) (s : ℕ) → o + n ≤ length b → ((i : ℕ) → o ≤ i → i < o + n → 0 < getD costs i 0)
-    → Least bytes operands costs o n b s → cells o n (clipped s costs o n b) ≤ cells o n (lessened bytes operands costs o n b) + n
-few-left bytes operands costs o n b zero long some k =
-    more-each (λ i. getD (clipped 0 costs o n b) i 0) (λ i. getD (lessened bytes operands costs o n b) i 0) o n
+pub few-left : (mc : Machine) (bytes : List ℕ) (operands : ℕ) (costs : List ℕ) (o n : ℕ) (b : List ℕ) (s : ℕ) → o + n ≤ length b → ((i : ℕ) → o ≤ i → i < o + n → 0 < getD costs i 0)
+    → Least mc bytes operands costs o n b s → cells o n (clipped s costs o n b) ≤ cells o n (lessened mc bytes operands costs o n b) + n
+few-left mc bytes operands costs o n b zero long some k =
+    more-each (λ i. getD (clipped 0 costs o n b) i 0) (λ i. getD (lessened mc bytes operands costs o n b) i 0) o n
     (λ i p q. omega (arith, clipped-in 0 costs o n b i p q (omega arith), clip-none costs b i (some i p q)))
-few-left bytes operands costs o n b (suc r) long some k =
-    more-each (λ i. getD (clipped (suc r) costs o n b) i 0) (λ i. getD (lessened bytes operands costs o n b) i 0) o n
+few-left mc bytes operands costs o n b (suc r) long some k =
+    more-each (λ i. getD (clipped (suc r) costs o n b) i 0) (λ i. getD (lessened mc bytes operands costs o n b) i 0) o n
     (λ i p q.
     let u = clipped-in (suc r) costs o n b i p q (omega arith) in
     let v = clipped-in r costs o n b i p q (omega arith) in
-    let w = stays-over bytes operands costs o n r (cells o n b) b (le-refl (cells o n b)) (k .below r (sym (add-one r))) i in
+    let w = stays-over mc bytes operands costs o n r (cells o n b) b (le-refl (cells o n b)) (k .below r (sym (add-one r))) i in
     let m = subst (λ (t : ℕ). clipAt t costs b i ≤ clipAt r costs b i + 1) (add-one r) (clip-more r costs b i) in
     omega (arith, u, v, w, m))

@@ -11,8 +11,8 @@ use lib.Dec.{ltb, leb, eqb}
 use lib.ListN.{getD}
 use borrow.Author.Tests.{lt-ltb, le-ltb, leb-true, leb-false, eq-eqb, ne-eqb}
 use Rattle.strided.specs.Base.{sum, every}
-use Rattle.strided.specs.Region.{line}
 use Rattle.strided.specs.Decline.{insertRising, rising, apart}
+use Rattle.strided.specs.declared.Machine.{Machine}
 use Rattle.laws.specs.Base.Lists.{All}
 use Rattle.laws.specs.Cut.Ranges.{cond-true, cond-false, every-cong}
 
@@ -28,8 +28,8 @@ abbrev pub adds : (ℕ → ℕ) → List ℕ → ℕ → ℕ → ℕ
 adds f es i j = cond (before f i j) (wayOf f es j) 0
 
 -- axis i, of the n from o on, keeps the slabs apart
-unfoldable pub keepsApart : (ℕ → ℕ) → List ℕ → ℕ → ℕ → ℕ → ℕ → Bool
-keepsApart f es o n w i = eqb (f i % line) 0 && leb (w + sum (adds f es i) o n) (f i)
+unfoldable pub keepsApart : Machine → (ℕ → ℕ) → List ℕ → ℕ → ℕ → ℕ → ℕ → Bool
+keepsApart mc f es o n w i = eqb (f i % mc .line) 0 && leb (w + sum (adds f es i) o n) (f i)
 
 -- ---- tests and sums over a list
 
@@ -164,9 +164,9 @@ module _ (f : ℕ → ℕ) where
 
   -- ---- the walk along a rising list, axis by axis
 
-  module _ (es : List ℕ) where
+  module _ (mc : Machine) (es : List ℕ) where
     turn : List ℕ → ℕ → ℕ → Bool
-    turn l w i = eqb (f i % line) 0 && leb (w + total (adds f es i) l) (f i)
+    turn l w i = eqb (f i % mc .line) 0 && leb (w + total (adds f es i) l) (f i)
 
     adds-none : (x : ℕ) (l : List ℕ) → All (After x) l → total (adds f es x) l ≡ 0
     unfolding total
@@ -174,11 +174,11 @@ module _ (f : ℕ → ℕ) where
     adds-none x (y ∷ ys) h =
         omega (arith, cond-false (before f x y) (wayOf f es y) 0 (after-not x y (h .0)), adds-none x ys (h .1))
 
-    apart-sorted : (w : ℕ) (l : List ℕ) → Sorted l → apart f es w l ≡ allOf (turn l w) l
+    apart-sorted : (w : ℕ) (l : List ℕ) → Sorted l → apart mc f es w l ≡ allOf (turn l w) l
     unfolding apart allOf Sorted turn total
     apart-sorted w [] s = refl
     apart-sorted w (x ∷ xs) s =
-        let a : Bool = eqb (f x % line) 0 in
+        let a : Bool = eqb (f x % mc .line) 0 in
         let d : ℕ = wayOf f es x in
         let here : w ≡ w + (adds f es x x + total (adds f es x) xs) =
         omega (arith, cond-false (before f x x) d 0 (before-self x), adds-none x xs (s .0)) in
@@ -188,15 +188,15 @@ module _ (f : ℕ → ℕ) where
         (all-into (After x) (λ i. turn xs (w + d) i ≡ turn (x ∷ xs) w i) (λ i h.
         let e : w + d + total (adds f es i) xs ≡ w + (adds f es i x + total (adds f es i) xs) =
         omega (arith, cond-true (before f i x) d 0 (after-before x i h)) in
-        ap (λ (z : ℕ). eqb (f i % line) 0 && leb z (f i)) e) xs (s .0)))
+        ap (λ (z : ℕ). eqb (f i % mc .line) 0 && leb z (f i)) e) xs (s .0)))
         ∙ and-assoc a (leb w (f x)) (allOf (turn (x ∷ xs) w) xs)
         ∙ ap (λ (z : ℕ). (a && leb z (f x)) && allOf (turn (x ∷ xs) w) xs) here
 
-    pub apart-each : (o n w : ℕ) → apart f es w (rising f o n) ≡ every (keepsApart f es o n w) o n
+    pub apart-each : (o n w : ℕ) → apart mc f es w (rising f o n) ≡ every (keepsApart mc f es o n w) o n
     unfolding turn keepsApart
     apart-each o n w =
         let l : List ℕ = rising f o n in
         apart-sorted w l (sorted-rising o n)
         ∙ test-rising (turn l w) o n
-        ∙ every-cong (turn l w) (keepsApart f es o n w) o n
-        (λ i p q. ap (λ (z : ℕ). eqb (f i % line) 0 && leb (w + z) (f i)) (total-rising (adds f es i) o n))
+        ∙ every-cong (turn l w) (keepsApart mc f es o n w) o n
+        (λ i p q. ap (λ (z : ℕ). eqb (f i % mc .line) 0 && leb (w + z) (f i)) (total-rising (adds f es i) o n))

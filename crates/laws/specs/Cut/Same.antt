@@ -8,9 +8,10 @@ use native.Mathlib.Omega.{arith}
 use lib.Dec.{ltb, leb, eqb}
 use lib.ListN.{getD, set}
 use Rattle.strided.specs.Base.{product, least, greatest, until}
-use Rattle.strided.specs.Region.{line, cache, live, byteAt, near, far, regionOf, region}
+use Rattle.strided.specs.Region.{byteAt, near, far, regionOf, region}
 use Rattle.strided.specs.Cut.{score, later, greatestScore, shorten, halving, lessening, cells, halved, lessened, shrunk, rankAt, leastRank, leastByte, keepsFirst, ones, cutting}
 use Rattle.strided.specs.Fit.{reuse, counts, aliases, factor, loadOf, load, entersOf, enters, shortens, mostOf, fitFrom, fitted}
+use Rattle.strided.specs.declared.Machine.{Machine}
 use Rattle.laws.specs.Cut.Ranges.{sum-cong, product-cong, least-cong, every-cong, seek-cong, seek-le}
 use Rattle.laws.specs.Cut.Picks.{pick-is}
 
@@ -24,15 +25,15 @@ SameRanks operands rank table table′ = (k i : ℕ) → k < operands → i < ra
 abbrev pub SameCosts : ℕ → List ℕ → List ℕ → Type 0
 SameCosts rank costs costs′ = (i : ℕ) → i < rank → getD costs i 0 ≡ getD costs′ i 0
 
-module _ (operands rank : ℕ) (bytes bytes′ : List ℕ) (same : SameBytes operands rank bytes bytes′) where
-  pub region-same : (b : List ℕ) (o n : ℕ) → o + n ≤ rank → region bytes operands b o n ≡ region bytes′ operands b o n
+module _ (mc : Machine) (operands rank : ℕ) (bytes bytes′ : List ℕ) (same : SameBytes operands rank bytes bytes′) where
+  pub region-same : (b : List ℕ) (o n : ℕ) → o + n ≤ rank → region mc bytes operands b o n ≡ region mc bytes′ operands b o n
   unfolding region regionOf
-  region-same b o n h = sum-cong (regionOf bytes b o n) (regionOf bytes′ b o n) 0 operands
-      (λ k p q. ap₂ (λ (x y : ℕ). line * (x / line + 1) * y)
-      (sum-cong (near bytes b k) (near bytes′ b k) o n
-      (λ i u v. ap (λ (s : ℕ). cond (ltb s line) (s * (getD b i 0 - 1)) 0) (same k i (omega arith) (omega arith))))
-      (product-cong (far bytes b k) (far bytes′ b k) o n
-      (λ i u v. ap (λ (s : ℕ). cond (ltb s line) 1 (getD b i 0)) (same k i (omega arith) (omega arith)))))
+  region-same b o n h = sum-cong (regionOf mc bytes b o n) (regionOf mc bytes′ b o n) 0 operands
+      (λ k p q. ap₂ (λ (x y : ℕ). mc .line * (x / mc .line + 1) * y)
+      (sum-cong (near mc bytes b k) (near mc bytes′ b k) o n
+      (λ i u v. ap (λ (s : ℕ). cond (ltb s (mc .line)) (s * (getD b i 0 - 1)) 0) (same k i (omega arith) (omega arith))))
+      (product-cong (far mc bytes b k) (far mc bytes′ b k) o n
+      (λ i u v. ap (λ (s : ℕ). cond (ltb s (mc .line)) 1 (getD b i 0)) (same k i (omega arith) (omega arith)))))
 
   least-byte-same : (o n : ℕ) → o + n ≤ rank → leastByte bytes operands o n ≡ leastByte bytes′ operands o n
   unfolding leastByte
@@ -58,22 +59,22 @@ module _ (operands rank : ℕ) (bytes bytes′ : List ℕ) (same : SameBytes ope
         (λ j e. let r = pick-is b costs o n j e in score-same b j (omega (arith, r .below))))
         ∙ ap (λ (p : Option ℕ). cond (ltb 1 (getD b i 0)) (later (score b costs′) i p) p) (pick-same b o n (omega arith))
 
-    halving-same : (o n : ℕ) → o + n ≤ rank → (b : List ℕ) → halving bytes operands costs o n b ≡ halving bytes′ operands costs′ o n b
+    halving-same : (o n : ℕ) → o + n ≤ rank → (b : List ℕ) → halving mc bytes operands costs o n b ≡ halving mc bytes′ operands costs′ o n b
     unfolding halving
     halving-same o n h b =
-        ap₂ (λ (r : ℕ) (p : Option ℕ). cond (leb (2 * cache) r) (shorten (λ x. (x + 1) / 2) b p) none) (region-same b o n h) (pick-same b o n h)
+        ap₂ (λ (r : ℕ) (p : Option ℕ). cond (leb (2 * mc .cache) r) (shorten (λ x. (x + 1) / 2) b p) none) (region-same b o n h) (pick-same b o n h)
 
-    lessening-same : (o n : ℕ) → o + n ≤ rank → (b : List ℕ) → lessening bytes operands costs o n b ≡ lessening bytes′ operands costs′ o n b
+    lessening-same : (o n : ℕ) → o + n ≤ rank → (b : List ℕ) → lessening mc bytes operands costs o n b ≡ lessening mc bytes′ operands costs′ o n b
     unfolding lessening
     lessening-same o n h b =
-        ap₂ (λ (r : ℕ) (p : Option ℕ). cond (ltb cache r) (shorten (λ x. x - 1) b p) none) (region-same b o n h) (pick-same b o n h)
+        ap₂ (λ (r : ℕ) (p : Option ℕ). cond (ltb (mc .cache) r) (shorten (λ x. x - 1) b p) none) (region-same b o n h) (pick-same b o n h)
 
-    shrunk-same : (o n : ℕ) → o + n ≤ rank → (b : List ℕ) → shrunk bytes operands costs o n b ≡ shrunk bytes′ operands costs′ o n b
+    shrunk-same : (o n : ℕ) → o + n ≤ rank → (b : List ℕ) → shrunk mc bytes operands costs o n b ≡ shrunk mc bytes′ operands costs′ o n b
     unfolding shrunk halved lessened
     shrunk-same o n h b =
-        let half : List ℕ → List ℕ = λ b. until (halving bytes operands costs o n) (cells o n b) b in
+        let half : List ℕ → List ℕ = λ b. until (halving mc bytes operands costs o n) (cells o n b) b in
         (λ t. until (λ x. lessening-same o n h x t) (cells o n (half b)) (half b))
-        ∙ (λ t. lessened bytes′ operands costs′ o n (until (λ x. halving-same o n h x t) (cells o n b) b))
+        ∙ (λ t. lessened mc bytes′ operands costs′ o n (until (λ x. halving-same o n h x t) (cells o n b) b))
 
     module _ (table table′ : List (List ℕ)) (ranked : SameRanks operands rank table table′) where
       least-rank-same : (o n : ℕ) → o + n ≤ rank → leastRank table operands o n ≡ leastRank table′ operands o n
@@ -87,7 +88,7 @@ module _ (operands rank : ℕ) (bytes bytes′ : List ℕ) (same : SameBytes ope
           every-cong (λ k. eqb (rankAt table k o) (leastRank table operands o n)) (λ k. eqb (rankAt table′ k o) (leastRank table′ operands o n)) 0 operands
           (λ k p q. ap₂ eqb (ranked k o (omega arith) l) (least-rank-same o n h))
 
-      pub cutting-same : (n o : ℕ) → o + n ≤ rank → (b : List ℕ) → cutting bytes operands costs table o n b ≡ cutting bytes′ operands costs′ table′ o n b
+      pub cutting-same : (n o : ℕ) → o + n ≤ rank → (b : List ℕ) → cutting mc bytes operands costs table o n b ≡ cutting mc bytes′ operands costs′ table′ o n b
       unfolding cutting
       cutting-same zero o h b = refl
       cutting-same (suc n) o h b =
@@ -96,51 +97,51 @@ module _ (operands rank : ℕ) (bytes bytes′ : List ℕ) (same : SameBytes ope
           let k = keeps-same o (suc n) (omega arith) h in
           let l = least-byte-same o (suc n) h in
           let s = shrunk-same o (suc n) h b in
-          λ t. cond (leb (r t) cache) b (cond (k t) (rest t) (cond (ltb cache (l t)) (ones o (suc n) b) (s t)))
+          λ t. cond (leb (r t) (mc .cache)) b (cond (k t) (rest t) (cond (ltb (mc .cache) (l t)) (ones o (suc n) b) (s t)))
 
   -- ---- the fit
 
   module _ (two : 2 ≤ operands) (sizes : List ℕ) where
-    reuse-same : (k : ℕ) → k < 2 → reuse bytes rank k ≡ reuse bytes′ rank k
+    reuse-same : (k : ℕ) → k < 2 → reuse mc bytes rank k ≡ reuse mc bytes′ rank k
     unfolding reuse
-    reuse-same k h = seek-cong (λ i. ltb (byteAt bytes k i) line) (λ i. ltb (byteAt bytes′ k i) line) 0 rank
-        (λ i p q. ap (λ (s : ℕ). ltb s line) (same k i (omega arith) (omega arith)))
+    reuse-same k h = seek-cong (λ i. ltb (byteAt bytes k i) (mc .line)) (λ i. ltb (byteAt bytes′ k i) (mc .line)) 0 rank
+        (λ i p q. ap (λ (s : ℕ). ltb s (mc .line)) (same k i (omega arith) (omega arith)))
 
-    reuse-le : (k : ℕ) → reuse bytes rank k ≤ rank
+    reuse-le : (k : ℕ) → reuse mc bytes rank k ≤ rank
     unfolding reuse
-    reuse-le k = omega (arith, seek-le (λ i. ltb (byteAt bytes k i) line) 0 rank)
+    reuse-le k = omega (arith, seek-le (λ i. ltb (byteAt bytes k i) (mc .line)) 0 rank)
 
-    counts-same : (k : ℕ) → k < 2 → counts bytes sizes rank k ≡ counts bytes′ sizes rank k
+    counts-same : (k : ℕ) → k < 2 → counts mc bytes sizes rank k ≡ counts mc bytes′ sizes rank k
     unfolding counts
     counts-same k h = ap (λ (r : ℕ). not (eqb (getD sizes k 0) 0) && (ltb 0 r && ltb r rank)) (reuse-same k h)
 
-    load-same : (b : List ℕ) → load bytes sizes rank b ≡ load bytes′ sizes rank b
+    load-same : (b : List ℕ) → load mc bytes sizes rank b ≡ load mc bytes′ sizes rank b
     unfolding load loadOf
-    load-same b = sum-cong (loadOf bytes sizes rank b) (loadOf bytes′ sizes rank b) 0 2
+    load-same b = sum-cong (loadOf mc bytes sizes rank b) (loadOf mc bytes′ sizes rank b) 0 2
         (λ k p q. ap₂ (λ (t : Bool) (x : ℕ). cond t x 0) (counts-same k (omega arith))
-        (product-cong (factor bytes b k) (factor bytes′ b k) 0 (reuse bytes rank k)
-        (λ i u v. ap (λ (s : ℕ). cond (aliases s) (getD b i 0) 1) (same k i (omega arith) (omega (arith, reuse-le k))))
-        ∙ ap (product (factor bytes′ b k) 0) (reuse-same k (omega arith))))
+        (product-cong (factor mc bytes b k) (factor mc bytes′ b k) 0 (reuse mc bytes rank k)
+        (λ i u v. ap (λ (s : ℕ). cond (aliases mc s) (getD b i 0) 1) (same k i (omega arith) (omega (arith, reuse-le k))))
+        ∙ ap (product (factor mc bytes′ b k) 0) (reuse-same k (omega arith))))
 
-    enters-of-same : (i k : ℕ) → i < rank → k < 2 → entersOf bytes sizes rank i k ≡ entersOf bytes′ sizes rank i k
+    enters-of-same : (i k : ℕ) → i < rank → k < 2 → entersOf mc bytes sizes rank i k ≡ entersOf mc bytes′ sizes rank i k
     unfolding entersOf
     enters-of-same i k l h =
         let c = counts-same k h in
         let r = reuse-same k h in
         let s = same k i (omega arith) l in
-        λ t. c t && (ltb i (r t) && aliases (s t))
+        λ t. c t && (ltb i (r t) && aliases mc (s t))
 
-    shortens-same : (chosen : ℕ → ℕ) (b : List ℕ) (i : ℕ) → i < rank → shortens bytes sizes rank chosen b i ≡ shortens bytes′ sizes rank chosen b i
+    shortens-same : (chosen : ℕ → ℕ) (b : List ℕ) (i : ℕ) → i < rank → shortens mc bytes sizes rank chosen b i ≡ shortens mc bytes′ sizes rank chosen b i
     unfolding shortens enters
     shortens-same chosen b i l =
         ap₂ (λ (x y : Bool). not (eqb (chosen i) 0) && ((x || y) && ltb 1 (getD b i 0)))
         (enters-of-same i 0 l (omega arith)) (enters-of-same i 1 l (omega arith))
 
-    most-same : (b : List ℕ) (i : ℕ) → mostOf bytes sizes rank b i ≡ mostOf bytes′ sizes rank b i
+    most-same : (b : List ℕ) (i : ℕ) → mostOf mc bytes sizes rank b i ≡ mostOf mc bytes′ sizes rank b i
     unfolding mostOf
-    most-same b i = λ t. greatest (λ x. leb (load-same (set b i x) t) live) (getD b i 0)
+    most-same b i = λ t. greatest (λ x. leb (load-same (set b i x) t) (mc .live)) (getD b i 0)
 
-    fit-same : (chosen : ℕ → ℕ) (n : ℕ) → n ≤ rank → (b : List ℕ) → fitFrom bytes sizes rank chosen n b ≡ fitFrom bytes′ sizes rank chosen n b
+    fit-same : (chosen : ℕ → ℕ) (n : ℕ) → n ≤ rank → (b : List ℕ) → fitFrom mc bytes sizes rank chosen n b ≡ fitFrom mc bytes′ sizes rank chosen n b
     unfolding fitFrom
     fit-same chosen zero h b = refl
     fit-same chosen (suc n) h b =
@@ -149,11 +150,11 @@ module _ (operands rank : ℕ) (bytes bytes′ : List ℕ) (same : SameBytes ope
         let on = fit-same chosen n (omega arith) (set b n 1) in
         let m = most-same b n in
         let skip = fit-same chosen n (omega arith) b in
-        λ t. cond (s t) (cond (ltb live (l t)) (on t) (set b n (m t))) (skip t)
+        λ t. cond (s t) (cond (ltb (mc .live) (l t)) (on t) (set b n (m t))) (skip t)
 
-    pub fitted-same : (chosen : ℕ → ℕ) (b : List ℕ) → fitted bytes sizes rank chosen b ≡ fitted bytes′ sizes rank chosen b
+    pub fitted-same : (chosen : ℕ → ℕ) (b : List ℕ) → fitted mc bytes sizes rank chosen b ≡ fitted mc bytes′ sizes rank chosen b
     unfolding fitted
     fitted-same chosen b =
         let l = load-same b in
         let f = fit-same chosen rank (omega arith) b in
-        λ t. cond (ltb live (l t)) (f t) b
+        λ t. cond (ltb (mc .live) (l t)) (f t) b

@@ -2,17 +2,18 @@
 use mathlib.Core.Path.{_≡_, sym, ap, ap₂, _∙_}
 use mathlib.Core.Logic.{⊎-elim}
 use Prim.Native.Nat.{ℕ, zero, suc, _+_, _*_, _/_, _<_, _≤_, min}
-use native.Mathlib.Nat.{mul-le-mul-right, mul-zero, le-mul-of-pos-right, mul-comm, le-of-lt}
+use native.Mathlib.Nat.{mul-le-mul-right, mul-zero, le-mul-of-pos-right, mul-comm, le-of-lt, div-lt-iff-lt-mul}
 use native.Mathlib.Omega.{arith}
+use Rattle.strided.specs.declared.Machine.{Machine}
 use Rattle.laws.specs.Cut.Ranges.{le-or-lt}
 
--- "They and the load below are exact whole numbers; code may saturate above 65,536."
-abbrev pub cap : ℕ
-cap = 65537
+-- "They and the load below are exact whole numbers; code may saturate above 65,536": above twice the record's cache
+abbrev pub cap : Machine → ℕ
+cap mc = 2 * mc .cache + 1
 
 -- equal numbers, both saturated
-pub capped : {x y : ℕ} → x ≡ y → min x cap ≡ min y cap
-capped e = ap (λ (z : ℕ). min z cap) e
+pub capped : (n : ℕ) {x y : ℕ} → x ≡ y → min x n ≡ min y n
+capped n e = ap (λ (z : ℕ). min z n) e
 
 -- a product of saturated factors, saturated
 pub min-mul-left : (a b n : ℕ) → min (min a n * b) n ≡ min (a * b) n
@@ -30,14 +31,28 @@ min-mul-right a b n = ap (λ (x : ℕ). min x n) (mul-comm a (min b n)) ∙ min-
 pub add-sat : (C T n : ℕ) {c t r : ℕ} → c ≡ min C n → t ≡ min T n → r ≡ min (c + t) n → r ≡ min (C + T) n
 add-sat C T n hc ht hr = omega arith
 
+-- the lines of a saturated C, of l bytes each, saturated: where C is above the cap, so are both
+lines-cap : (l C n : ℕ) → 0 < l → min ((min C n / l + 1) * l) n ≡ min (l * (C / l + 1)) n
+lines-cap l C n h = ⊎-elim
+    (λ (q : C ≤ n). let e : min C n ≡ C = omega arith in ap (λ (x : ℕ). min ((x / l + 1) * l) n) e ∙ ap (λ (x : ℕ). min x n) (mul-comm (C / l + 1) l))
+    (λ (q : n < C).
+    let e : min C n ≡ n = omega arith in
+    ap (λ (x : ℕ). min ((x / l + 1) * l) n) e
+    ∙ omega (arith, above n, above C, mul-comm (C / l + 1) l))
+    (le-or-lt C n)
+  where
+    -- a number is below the next multiple of l
+    above : (x : ℕ) → x < (x / l + 1) * l
+    above x = div-lt-iff-lt-mul {k = l} {x = x} {y = x / l + 1} h .0 (omega arith)
+
 -- the lines of a saturated C, times a saturated M
-pub lines-sat : (c C m M s : ℕ) → c ≡ min C cap → m ≡ min M cap → s ≡ min (m * ((c / 64 + 1) * 64)) cap → s ≡ min (64 * (C / 64 + 1) * M) cap
-lines-sat c C m M s hc hm hs =
-    let x : ℕ = (c / 64 + 1) * 64 in
-    let e : min ((c / 64 + 1) * 64) cap ≡ min (64 * (C / 64 + 1)) cap = omega arith in
+pub lines-sat : (l n c C m M s : ℕ) → 0 < l → c ≡ min C n → m ≡ min M n → s ≡ min (m * ((c / l + 1) * l)) n → s ≡ min (l * (C / l + 1) * M) n
+lines-sat l n c C m M s h hc hm hs =
+    let x : ℕ = (c / l + 1) * l in
+    let e : min ((c / l + 1) * l) n ≡ min (l * (C / l + 1)) n = ap (λ (y : ℕ). min ((y / l + 1) * l) n) hc ∙ lines-cap l C n h in
     hs
-    ∙ ap (λ (y : ℕ). min y cap) (mul-comm m x)
-    ∙ sym (min-mul-left x m cap)
-    ∙ ap₂ (λ (y z : ℕ). min (y * z) cap) e hm
-    ∙ min-mul-left (64 * (C / 64 + 1)) (min M cap) cap
-    ∙ min-mul-right (64 * (C / 64 + 1)) M cap
+    ∙ ap (λ (y : ℕ). min y n) (mul-comm m x)
+    ∙ sym (min-mul-left x m n)
+    ∙ ap₂ (λ (y z : ℕ). min (y * z) n) e hm
+    ∙ min-mul-left (l * (C / l + 1)) (min M n) n
+    ∙ min-mul-right (l * (C / l + 1)) M n

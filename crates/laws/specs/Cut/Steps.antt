@@ -14,8 +14,9 @@ use lib.ListN.{getD, set, length, length-set}
 use lib.Seq.{getD-set-same, getD-set-other}
 use borrow.Author.Tests.{le-leb, lt-leb, lt-ltb, le-ltb}
 use Rattle.strided.specs.Base.{sum}
-use Rattle.strided.specs.Region.{cache, region}
+use Rattle.strided.specs.Region.{region}
 use Rattle.strided.specs.Cut.{score, greatestScore, shorten, halving, lessening, cells, halved, lessened, shrunk}
+use Rattle.strided.specs.declared.Machine.{Machine}
 use Rattle.laws.specs.Cut.Ranges.{le-or-lt, cond-true, cond-false, cond-same}
 use Rattle.laws.specs.Cut.Until.{none-or-some, until-stop, until-step, until-keeps, until-ends}
 use Rattle.laws.specs.Cut.Picks.{Pickable, pick-is, above-there}
@@ -92,71 +93,71 @@ module _ (f : ℕ → ℕ) (less : (x : ℕ) → 1 < x → f x < x) (o n : ℕ) 
         long = length-set b i (f (getD b i 0));
       })
 
-module _ (bytes : List ℕ) (operands : ℕ) (costs : List ℕ) (o n : ℕ) where
-  pub halving-shorter : (b b′ : List ℕ) → halving bytes operands costs o n b ≡ some b′ → Shorter o n b b′
+module _ (mc : Machine) (bytes : List ℕ) (operands : ℕ) (costs : List ℕ) (o n : ℕ) where
+  pub halving-shorter : (b b′ : List ℕ) → halving mc bytes operands costs o n b ≡ some b′ → Shorter o n b b′
   unfolding halving
   halving-shorter b b′ e =
       shorten-shorter (λ x. (x + 1) / 2) (λ x h. omega arith) o n b b′ (greatestScore b costs o n) (λ i q. pick-is b costs o n i q)
-      (cond-some (leb (2 * cache) (region bytes operands b o n)) (shorten (λ x. (x + 1) / 2) b (greatestScore b costs o n)) b′ e)
+      (cond-some (leb (2 * mc .cache) (region mc bytes operands b o n)) (shorten (λ x. (x + 1) / 2) b (greatestScore b costs o n)) b′ e)
 
-  pub lessening-shorter : (b b′ : List ℕ) → lessening bytes operands costs o n b ≡ some b′ → Shorter o n b b′
+  pub lessening-shorter : (b b′ : List ℕ) → lessening mc bytes operands costs o n b ≡ some b′ → Shorter o n b b′
   unfolding lessening
   lessening-shorter b b′ e =
       shorten-shorter (λ x. x - 1) (λ x h. omega arith) o n b b′ (greatestScore b costs o n) (λ i q. pick-is b costs o n i q)
-      (cond-some (ltb cache (region bytes operands b o n)) (shorten (λ x. x - 1) b (greatestScore b costs o n)) b′ e)
+      (cond-some (ltb (mc .cache) (region mc bytes operands b o n)) (shorten (λ x. x - 1) b (greatestScore b costs o n)) b′ e)
 
-  pub halving-falls : (b b′ : List ℕ) → halving bytes operands costs o n b ≡ some b′ → cells o n b′ < cells o n b
+  pub halving-falls : (b b′ : List ℕ) → halving mc bytes operands costs o n b ≡ some b′ → cells o n b′ < cells o n b
   halving-falls b b′ e = halving-shorter b b′ e .fewer
 
-  pub lessening-falls : (b b′ : List ℕ) → lessening bytes operands costs o n b ≡ some b′ → cells o n b′ < cells o n b
+  pub lessening-falls : (b b′ : List ℕ) → lessening mc bytes operands costs o n b ≡ some b′ → cells o n b′ < cells o n b
   lessening-falls b b′ e = lessening-shorter b b′ e .fewer
 
 -- ---- what a step is, from the region and the pick
 
-module _ (bytes : List ℕ) (operands : ℕ) (costs : List ℕ) (o n : ℕ) (b : List ℕ) where
+module _ (mc : Machine) (bytes : List ℕ) (operands : ℕ) (costs : List ℕ) (o n : ℕ) (b : List ℕ) where
   half : Option ℕ → Option (List ℕ)
   half p = shorten (λ x. (x + 1) / 2) b p
 
   one-off : Option ℕ → Option (List ℕ)
   one-off p = shorten (λ x. x - 1) b p
 
-  pub halving-small : region bytes operands b o n < 2 * cache → halving bytes operands costs o n b ≡ none
+  pub halving-small : region mc bytes operands b o n < 2 * mc .cache → halving mc bytes operands costs o n b ≡ none
   unfolding halving half
-  halving-small h = cond-false (leb (2 * cache) (region bytes operands b o n)) (half (greatestScore b costs o n)) none (lt-leb (2 * cache) (region bytes operands b o n) h)
+  halving-small h = cond-false (leb (2 * mc .cache) (region mc bytes operands b o n)) (half (greatestScore b costs o n)) none (lt-leb (2 * mc .cache) (region mc bytes operands b o n) h)
 
-  pub halving-nothing : greatestScore b costs o n ≡ none → halving bytes operands costs o n b ≡ none
+  pub halving-nothing : greatestScore b costs o n ≡ none → halving mc bytes operands costs o n b ≡ none
   unfolding halving half
   halving-nothing e =
-      ap (λ (p : Option ℕ). cond (leb (2 * cache) (region bytes operands b o n)) (half p) none) e
-      ∙ cond-same (leb (2 * cache) (region bytes operands b o n)) none
+      ap (λ (p : Option ℕ). cond (leb (2 * mc .cache) (region mc bytes operands b o n)) (half p) none) e
+      ∙ cond-same (leb (2 * mc .cache) (region mc bytes operands b o n)) none
 
-  pub halving-at : (i : ℕ) → 2 * cache ≤ region bytes operands b o n → greatestScore b costs o n ≡ some i
-      → halving bytes operands costs o n b ≡ some (set b i ((getD b i 0 + 1) / 2))
+  pub halving-at : (i : ℕ) → 2 * mc .cache ≤ region mc bytes operands b o n → greatestScore b costs o n ≡ some i
+      → halving mc bytes operands costs o n b ≡ some (set b i ((getD b i 0 + 1) / 2))
   unfolding halving half
   halving-at i h e =
-      cond-true (leb (2 * cache) (region bytes operands b o n)) (half (greatestScore b costs o n)) none (le-leb (2 * cache) (region bytes operands b o n) h)
+      cond-true (leb (2 * mc .cache) (region mc bytes operands b o n)) (half (greatestScore b costs o n)) none (le-leb (2 * mc .cache) (region mc bytes operands b o n) h)
       ∙ ap half e
 
-  pub lessening-small : region bytes operands b o n ≤ cache → lessening bytes operands costs o n b ≡ none
+  pub lessening-small : region mc bytes operands b o n ≤ mc .cache → lessening mc bytes operands costs o n b ≡ none
   unfolding lessening one-off
-  lessening-small h = cond-false (ltb cache (region bytes operands b o n)) (one-off (greatestScore b costs o n)) none (le-ltb cache (region bytes operands b o n) h)
+  lessening-small h = cond-false (ltb (mc .cache) (region mc bytes operands b o n)) (one-off (greatestScore b costs o n)) none (le-ltb (mc .cache) (region mc bytes operands b o n) h)
 
-  pub lessening-nothing : greatestScore b costs o n ≡ none → lessening bytes operands costs o n b ≡ none
+  pub lessening-nothing : greatestScore b costs o n ≡ none → lessening mc bytes operands costs o n b ≡ none
   unfolding lessening one-off
   lessening-nothing e =
-      ap (λ (p : Option ℕ). cond (ltb cache (region bytes operands b o n)) (one-off p) none) e
-      ∙ cond-same (ltb cache (region bytes operands b o n)) none
+      ap (λ (p : Option ℕ). cond (ltb (mc .cache) (region mc bytes operands b o n)) (one-off p) none) e
+      ∙ cond-same (ltb (mc .cache) (region mc bytes operands b o n)) none
 
-  pub lessening-at : (i : ℕ) → cache < region bytes operands b o n → greatestScore b costs o n ≡ some i
-      → lessening bytes operands costs o n b ≡ some (set b i (getD b i 0 - 1))
+  pub lessening-at : (i : ℕ) → mc .cache < region mc bytes operands b o n → greatestScore b costs o n ≡ some i
+      → lessening mc bytes operands costs o n b ≡ some (set b i (getD b i 0 - 1))
   unfolding lessening one-off
   lessening-at i h e =
-      cond-true (ltb cache (region bytes operands b o n)) (one-off (greatestScore b costs o n)) none (lt-ltb cache (region bytes operands b o n) h)
+      cond-true (ltb (mc .cache) (region mc bytes operands b o n)) (one-off (greatestScore b costs o n)) none (lt-ltb (mc .cache) (region mc bytes operands b o n) h)
       ∙ ap one-off e
 
 -- ---- all the steps
 
-module _ (bytes : List ℕ) (operands : ℕ) (costs : List ℕ) (o n : ℕ) (b : List ℕ) where
+module _ (mc : Machine) (bytes : List ℕ) (operands : ℕ) (costs : List ℕ) (o n : ℕ) (b : List ℕ) where
   -- blocks only shrink, and there are as many of them
   record Shrunk (r : List ℕ) : Type 0 where
     less : (j : ℕ) → getD r j 0 ≤ getD b j 0
@@ -168,84 +169,84 @@ module _ (bytes : List ℕ) (operands : ℕ) (costs : List ℕ) (o n : ℕ) (b :
   go-on : (r r′ : List ℕ) → Shorter o n r r′ → Shrunk r → Shrunk r′
   go-on r r′ h s = record { less = λ j. le-trans (h .less j) (s .less j); long = h .long ∙ s .long }
 
-  halved-shrunk : Shrunk (halved bytes operands costs o n b)
+  halved-shrunk : Shrunk (halved mc bytes operands costs o n b)
   unfolding halved
   halved-shrunk =
-      until-keeps (halving bytes operands costs o n) Shrunk (λ r r′ e. go-on r r′ (halving-shorter bytes operands costs o n r r′ e)) (cells o n b) b start
+      until-keeps (halving mc bytes operands costs o n) Shrunk (λ r r′ e. go-on r r′ (halving-shorter mc bytes operands costs o n r r′ e)) (cells o n b) b start
 
-  pub halved-le : (j : ℕ) → getD (halved bytes operands costs o n b) j 0 ≤ getD b j 0
+  pub halved-le : (j : ℕ) → getD (halved mc bytes operands costs o n b) j 0 ≤ getD b j 0
   halved-le = halved-shrunk .less
 
   -- from any blocks that are no greater
-  lessened-from : (r : List ℕ) → Shrunk r → Shrunk (lessened bytes operands costs o n r)
+  lessened-from : (r : List ℕ) → Shrunk r → Shrunk (lessened mc bytes operands costs o n r)
   unfolding lessened
   lessened-from r s =
-      until-keeps (lessening bytes operands costs o n) Shrunk (λ r r′ e. go-on r r′ (lessening-shorter bytes operands costs o n r r′ e)) (cells o n r) r s
+      until-keeps (lessening mc bytes operands costs o n) Shrunk (λ r r′ e. go-on r r′ (lessening-shorter mc bytes operands costs o n r r′ e)) (cells o n r) r s
 
-  pub shrunk-le : (j : ℕ) → getD (shrunk bytes operands costs o n b) j 0 ≤ getD b j 0
+  pub shrunk-le : (j : ℕ) → getD (shrunk mc bytes operands costs o n b) j 0 ≤ getD b j 0
   unfolding shrunk
-  shrunk-le = lessened-from (halved bytes operands costs o n b) halved-shrunk .less
+  shrunk-le = lessened-from (halved mc bytes operands costs o n b) halved-shrunk .less
 
-  pub shrunk-length : length (shrunk bytes operands costs o n b) ≡ length b
+  pub shrunk-length : length (shrunk mc bytes operands costs o n b) ≡ length b
   unfolding shrunk
-  shrunk-length = lessened-from (halved bytes operands costs o n b) halved-shrunk .long
+  shrunk-length = lessened-from (halved mc bytes operands costs o n b) halved-shrunk .long
 
   -- the counts are never met: nothing is left to do
-  pub halved-ends : halving bytes operands costs o n (halved bytes operands costs o n b) ≡ none
+  pub halved-ends : halving mc bytes operands costs o n (halved mc bytes operands costs o n b) ≡ none
   unfolding halved
-  halved-ends = until-ends (halving bytes operands costs o n) (cells o n) (halving-falls bytes operands costs o n) (cells o n b) b (le-refl (cells o n b))
+  halved-ends = until-ends (halving mc bytes operands costs o n) (cells o n) (halving-falls mc bytes operands costs o n) (cells o n b) b (le-refl (cells o n b))
 
-  pub lessened-ends : lessening bytes operands costs o n (lessened bytes operands costs o n b) ≡ none
+  pub lessened-ends : lessening mc bytes operands costs o n (lessened mc bytes operands costs o n b) ≡ none
   unfolding lessened
-  lessened-ends = until-ends (lessening bytes operands costs o n) (cells o n) (lessening-falls bytes operands costs o n) (cells o n b) b (le-refl (cells o n b))
+  lessened-ends = until-ends (lessening mc bytes operands costs o n) (cells o n) (lessening-falls mc bytes operands costs o n) (cells o n b) b (le-refl (cells o n b))
 
   -- so that what comes out fits, or has no block above 1
-  pub lessened-small : (region bytes operands (lessened bytes operands costs o n b) o n ≤ cache)
-      ⊎ (greatestScore (lessened bytes operands costs o n b) costs o n ≡ none)
+  pub lessened-small : (region mc bytes operands (lessened mc bytes operands costs o n b) o n ≤ mc .cache)
+      ⊎ (greatestScore (lessened mc bytes operands costs o n b) costs o n ≡ none)
   lessened-small =
-      let r : List ℕ = lessened bytes operands costs o n b in
+      let r : List ℕ = lessened mc bytes operands costs o n b in
       ⊎-elim
-      (λ (h : region bytes operands r o n ≤ cache). inl h)
-      (λ (h : cache < region bytes operands r o n). ⊎-elim
+      (λ (h : region mc bytes operands r o n ≤ mc .cache). inl h)
+      (λ (h : mc .cache < region mc bytes operands r o n). ⊎-elim
       (λ e. inr e)
       (λ p. absurd (
-      let e : none ≡ some (set r (p .0) (getD r (p .0) 0 - 1)) = sym lessened-ends ∙ lessening-at bytes operands costs o n r (p .0) h (p .1) in
+      let e : none ≡ some (set r (p .0) (getD r (p .0) 0 - 1)) = sym lessened-ends ∙ lessening-at mc bytes operands costs o n r (p .0) h (p .1) in
       let z : _≡_ {A = ℕ} 0 1 = cc in omega arith))
       (none-or-some (greatestScore r costs o n)))
-      (le-or-lt (region bytes operands r o n) cache)
+      (le-or-lt (region mc bytes operands r o n) (mc .cache))
 
 -- ---- the rules as a reader expects them: done where the region fits or no block is above 1, else one step and on
 
-module _ (bytes : List ℕ) (operands : ℕ) (costs : List ℕ) (o n : ℕ) (b : List ℕ) where
-  pub halved-small : region bytes operands b o n < 2 * cache → halved bytes operands costs o n b ≡ b
+module _ (mc : Machine) (bytes : List ℕ) (operands : ℕ) (costs : List ℕ) (o n : ℕ) (b : List ℕ) where
+  pub halved-small : region mc bytes operands b o n < 2 * mc .cache → halved mc bytes operands costs o n b ≡ b
   unfolding halved
-  halved-small h = until-stop (halving bytes operands costs o n) (cells o n b) b (halving-small bytes operands costs o n b h)
+  halved-small h = until-stop (halving mc bytes operands costs o n) (cells o n b) b (halving-small mc bytes operands costs o n b h)
 
-  pub halved-nothing : greatestScore b costs o n ≡ none → halved bytes operands costs o n b ≡ b
+  pub halved-nothing : greatestScore b costs o n ≡ none → halved mc bytes operands costs o n b ≡ b
   unfolding halved
-  halved-nothing e = until-stop (halving bytes operands costs o n) (cells o n b) b (halving-nothing bytes operands costs o n b e)
+  halved-nothing e = until-stop (halving mc bytes operands costs o n) (cells o n b) b (halving-nothing mc bytes operands costs o n b e)
 
-  pub halved-at : (i : ℕ) → 2 * cache ≤ region bytes operands b o n → greatestScore b costs o n ≡ some i
-      → halved bytes operands costs o n b ≡ halved bytes operands costs o n (set b i ((getD b i 0 + 1) / 2))
+  pub halved-at : (i : ℕ) → 2 * mc .cache ≤ region mc bytes operands b o n → greatestScore b costs o n ≡ some i
+      → halved mc bytes operands costs o n b ≡ halved mc bytes operands costs o n (set b i ((getD b i 0 + 1) / 2))
   unfolding halved
   halved-at i h e =
-      until-step (halving bytes operands costs o n) (cells o n) (halving-falls bytes operands costs o n) b (set b i ((getD b i 0 + 1) / 2))
-      (halving-at bytes operands costs o n b i h e)
+      until-step (halving mc bytes operands costs o n) (cells o n) (halving-falls mc bytes operands costs o n) b (set b i ((getD b i 0 + 1) / 2))
+      (halving-at mc bytes operands costs o n b i h e)
 
-  pub lessened-fits : region bytes operands b o n ≤ cache → lessened bytes operands costs o n b ≡ b
+  pub lessened-fits : region mc bytes operands b o n ≤ mc .cache → lessened mc bytes operands costs o n b ≡ b
   unfolding lessened
-  lessened-fits h = until-stop (lessening bytes operands costs o n) (cells o n b) b (lessening-small bytes operands costs o n b h)
+  lessened-fits h = until-stop (lessening mc bytes operands costs o n) (cells o n b) b (lessening-small mc bytes operands costs o n b h)
 
-  pub lessened-nothing : greatestScore b costs o n ≡ none → lessened bytes operands costs o n b ≡ b
+  pub lessened-nothing : greatestScore b costs o n ≡ none → lessened mc bytes operands costs o n b ≡ b
   unfolding lessened
-  lessened-nothing e = until-stop (lessening bytes operands costs o n) (cells o n b) b (lessening-nothing bytes operands costs o n b e)
+  lessened-nothing e = until-stop (lessening mc bytes operands costs o n) (cells o n b) b (lessening-nothing mc bytes operands costs o n b e)
 
-  pub lessened-at : (i : ℕ) → cache < region bytes operands b o n → greatestScore b costs o n ≡ some i
-      → lessened bytes operands costs o n b ≡ lessened bytes operands costs o n (set b i (getD b i 0 - 1))
+  pub lessened-at : (i : ℕ) → mc .cache < region mc bytes operands b o n → greatestScore b costs o n ≡ some i
+      → lessened mc bytes operands costs o n b ≡ lessened mc bytes operands costs o n (set b i (getD b i 0 - 1))
   unfolding lessened
   lessened-at i h e =
-      until-step (lessening bytes operands costs o n) (cells o n) (lessening-falls bytes operands costs o n) b (set b i (getD b i 0 - 1))
-      (lessening-at bytes operands costs o n b i h e)
+      until-step (lessening mc bytes operands costs o n) (cells o n) (lessening-falls mc bytes operands costs o n) b (set b i (getD b i 0 - 1))
+      (lessening-at mc bytes operands costs o n b i h e)
 
 -- ---- a turn of a loop that follows a rule: fewer cells, scores that still fit, and the same at the end
 
@@ -254,21 +255,21 @@ pub record Turn (rule : List ℕ → List ℕ) (o n rank : ℕ) (costs b b′ : 
   pub fit : ScoresFit rank costs b′
   pub same : rule b′ ≡ rule b
 
-module _ (bytes : List ℕ) (operands : ℕ) (costs : List ℕ) (o n rank : ℕ) (b : List ℕ) (i : ℕ)
+module _ (mc : Machine) (bytes : List ℕ) (operands : ℕ) (costs : List ℕ) (o n rank : ℕ) (b : List ℕ) (i : ℕ)
     (fit : ScoresFit rank costs b) (pick : greatestScore b costs o n ≡ some i) where
   turned : (rule : List ℕ → List ℕ) (b′ : List ℕ) → Shorter o n b b′ → rule b ≡ rule b′ → Turn rule o n rank costs b b′
   turned rule b′ s e = record { fewer = s .fewer; fit = scores-le rank costs b b′ (s .less) fit; same = sym e }
 
-  pub halved-turn : (v : ℕ) → v ≡ (getD b i 0 + 1) / 2 → 2 * cache ≤ region bytes operands b o n
-      → Turn (halved bytes operands costs o n) o n rank costs b (set b i v)
+  pub halved-turn : (v : ℕ) → v ≡ (getD b i 0 + 1) / 2 → 2 * mc .cache ≤ region mc bytes operands b o n
+      → Turn (halved mc bytes operands costs o n) o n rank costs b (set b i v)
   halved-turn v e big =
-      subst⁻¹ (λ (x : ℕ). Turn (halved bytes operands costs o n) o n rank costs b (set b i x)) e
-      (turned (halved bytes operands costs o n) (set b i ((getD b i 0 + 1) / 2))
-      (halving-shorter bytes operands costs o n b (set b i ((getD b i 0 + 1) / 2)) (halving-at bytes operands costs o n b i big pick))
-      (halved-at bytes operands costs o n b i big pick))
+      subst⁻¹ (λ (x : ℕ). Turn (halved mc bytes operands costs o n) o n rank costs b (set b i x)) e
+      (turned (halved mc bytes operands costs o n) (set b i ((getD b i 0 + 1) / 2))
+      (halving-shorter mc bytes operands costs o n b (set b i ((getD b i 0 + 1) / 2)) (halving-at mc bytes operands costs o n b i big pick))
+      (halved-at mc bytes operands costs o n b i big pick))
 
-  pub lessened-turn : cache < region bytes operands b o n → Turn (lessened bytes operands costs o n) o n rank costs b (set b i (getD b i 0 - 1))
+  pub lessened-turn : mc .cache < region mc bytes operands b o n → Turn (lessened mc bytes operands costs o n) o n rank costs b (set b i (getD b i 0 - 1))
   lessened-turn big =
-      turned (lessened bytes operands costs o n) (set b i (getD b i 0 - 1))
-      (lessening-shorter bytes operands costs o n b (set b i (getD b i 0 - 1)) (lessening-at bytes operands costs o n b i big pick))
-      (lessened-at bytes operands costs o n b i big pick)
+      turned (lessened mc bytes operands costs o n) (set b i (getD b i 0 - 1))
+      (lessening-shorter mc bytes operands costs o n b (set b i (getD b i 0 - 1)) (lessening-at mc bytes operands costs o n b i big pick))
+      (lessened-at mc bytes operands costs o n b i big pick)

@@ -14,10 +14,10 @@ use lib.ListN.{length, getD, set}
 use borrow.Author.Tests.{ltb-true, eqb-false, ne-eqb, lt-leb}
 use Rattle.strided.specs.Base.{greatest, padded, every}
 use Rattle.strided.specs.Layout.{Axis, extents, total}
-use Rattle.strided.specs.Refusals.{refusedBy, layoutRows, layoutRefused}
+use Rattle.strided.specs.Refusals.{refusedBy, planningRows, planningRefused}
 use Rattle.strided.specs.Order.{loopOrder, fusingOrder}
 use Rattle.strided.specs.Fuse.{planAxes}
-use Rattle.strided.specs.Region.{live, cache, byteTable, region}
+use Rattle.strided.specs.Region.{byteTable, region}
 use Rattle.strided.specs.Costs.{costs}
 use Rattle.strided.specs.Cut.{planRanks, cutting}
 use Rattle.strided.specs.Decline.{declined}
@@ -27,6 +27,7 @@ use Rattle.strided.specs.declared.Purpose.{Purpose}
 use Rattle.strided.specs.declared.Purpose.the-variants.{Pointwise, PointwiseInto, Fold}
 use Rattle.strided.specs.declared.Refusal.{Refusal}
 use Rattle.strided.specs.declared.Plan.{Plan}
+use Rattle.strided.specs.declared.Machine.{Machine}
 use Rattle.laws.specs.Base.Tests.{and-both}
 
 -- ---- the fit only shortens
@@ -51,63 +52,63 @@ greatest-most t (suc n) = go (t (suc n)) (greatest-most t n)
     go true h = le-refl (suc n)
     go false h = omega arith
 
-module _ (bytes sizes : List ℕ) (rank : ℕ) (chosenSize : ℕ → ℕ) where
-  shortens-above : (b : List ℕ) (i : ℕ) → shortens bytes sizes rank chosenSize b i ≡ true → 1 ≤ getD b i 0
+module _ (mc : Machine) (bytes sizes : List ℕ) (rank : ℕ) (chosenSize : ℕ → ℕ) where
+  shortens-above : (b : List ℕ) (i : ℕ) → shortens mc bytes sizes rank chosenSize b i ≡ true → 1 ≤ getD b i 0
   unfolding shortens
   shortens-above b i h =
-      let q = and-both (not (eqb (chosenSize i) 0)) (enters bytes sizes rank i && ltb 1 (getD b i 0)) h in
-      let r = and-both (enters bytes sizes rank i) (ltb 1 (getD b i 0)) (q .1) in
+      let q = and-both (not (eqb (chosenSize i) 0)) (enters mc bytes sizes rank i && ltb 1 (getD b i 0)) h in
+      let r = and-both (enters mc bytes sizes rank i) (ltb 1 (getD b i 0)) (q .1) in
       omega (arith, ltb-true 1 (getD b i 0) (r .1))
 
-  fit-from-most : (n : ℕ) (b : List ℕ) → AtMost (fitFrom bytes sizes rank chosenSize n b) b
+  fit-from-most : (n : ℕ) (b : List ℕ) → AtMost (fitFrom mc bytes sizes rank chosenSize n b) b
   unfolding fitFrom mostOf
   fit-from-most zero b i = le-refl (getD b i 0)
   fit-from-most (suc n) b i =
-      go (shortens bytes sizes rank chosenSize b n) (ltb live (load bytes sizes rank (set b n 1))) refl (λ c. fit-from-most n c i)
+      go (shortens mc bytes sizes rank chosenSize b n) (ltb (mc .live) (load mc bytes sizes rank (set b n 1))) refl (λ c. fit-from-most n c i)
     where
-      go : (s l : Bool) → shortens bytes sizes rank chosenSize b n ≡ s
-          → ((c : List ℕ) → getD (fitFrom bytes sizes rank chosenSize n c) i 0 ≤ getD c i 0)
-          → getD (cond s (cond l (fitFrom bytes sizes rank chosenSize n (set b n 1)) (set b n (mostOf bytes sizes rank b n))) (fitFrom bytes sizes rank chosenSize n b)) i 0
+      go : (s l : Bool) → shortens mc bytes sizes rank chosenSize b n ≡ s
+          → ((c : List ℕ) → getD (fitFrom mc bytes sizes rank chosenSize n c) i 0 ≤ getD c i 0)
+          → getD (cond s (cond l (fitFrom mc bytes sizes rank chosenSize n (set b n 1)) (set b n (mostOf mc bytes sizes rank b n))) (fitFrom mc bytes sizes rank chosenSize n b)) i 0
           ≤ getD b i 0
       go true true h f = le-trans (f (set b n 1)) (set-most b n 1 (shortens-above b n h) i)
-      go true false h f = set-most b n (mostOf bytes sizes rank b n) (greatest-most (λ x. leb (load bytes sizes rank (set b n x)) live) (getD b n 0)) i
+      go true false h f = set-most b n (mostOf mc bytes sizes rank b n) (greatest-most (λ x. leb (load mc bytes sizes rank (set b n x)) (mc .live)) (getD b n 0)) i
       go false l h f = f b
 
-  fitted-most : (b : List ℕ) → AtMost (fitted bytes sizes rank chosenSize b) b
+  fitted-most : (b : List ℕ) → AtMost (fitted mc bytes sizes rank chosenSize b) b
   unfolding fitted
-  fitted-most b i = go (ltb live (load bytes sizes rank b))
+  fitted-most b i = go (ltb (mc .live) (load mc bytes sizes rank b))
     where
-      go : (l : Bool) → getD (cond l (fitFrom bytes sizes rank chosenSize rank b) b) i 0 ≤ getD b i 0
+      go : (l : Bool) → getD (cond l (fitFrom mc bytes sizes rank chosenSize rank b) b) i 0 ≤ getD b i 0
       go true = fit-from-most rank b i
       go false = le-refl (getD b i 0)
 
 -- ---- the blocks
 
-module _ (sizes es : List ℕ) (strides : List ℤ) (rank c : ℕ) where
-  cut-most : AtMost (cutBlocks sizes es strides rank (PointwiseInto c)) (cutBlocks sizes es strides rank (Fold c))
+module _ (mc : Machine) (sizes es : List ℕ) (strides : List ℤ) (rank c : ℕ) where
+  cut-most : AtMost (cutBlocks mc sizes es strides rank (PointwiseInto c)) (cutBlocks mc sizes es strides rank (Fold c))
   unfolding cutBlocks
   cut-most i =
-      go (eqb rank 0 || (leb (region bytes (length sizes) es 0 rank) cache || every (grows sizes strides rank) 0 (length sizes)))
-      (declined bytes sizes (length sizes) es rank ruled)
+      go (eqb rank 0 || (leb (region mc bytes (length sizes) es 0 rank) (mc .cache) || every (grows sizes strides rank) 0 (length sizes)))
+      (declined mc bytes sizes (length sizes) es rank ruled)
     where
       bytes : List ℕ
       bytes = byteTable sizes strides
 
       ruled : List ℕ
-      ruled = cutting bytes (length sizes) (costs strides (length sizes) rank) (planRanks sizes strides rank) 0 rank es
+      ruled = cutting mc bytes (length sizes) (costs strides (length sizes) rank) (planRanks sizes strides rank) 0 rank es
 
-      fit : (two : Bool) → getD (cond two (fitted bytes sizes rank (λ i. natAbs (getD strides (c * 64 + i) (pos 0))) ruled) ruled) i 0 ≤ getD ruled i 0
-      fit true = fitted-most bytes sizes rank (λ i. natAbs (getD strides (c * 64 + i) (pos 0))) ruled i
+      fit : (two : Bool) → getD (cond two (fitted mc bytes sizes rank (λ i. natAbs (getD strides (c * 64 + i) (pos 0))) ruled) ruled) i 0 ≤ getD ruled i 0
+      fit true = fitted-most mc bytes sizes rank (λ i. natAbs (getD strides (c * 64 + i) (pos 0))) ruled i
       fit false = le-refl (getD ruled i 0)
 
       go : (whole kept : Bool)
-          → getD (cond whole es (cond kept es (fittedFor (PointwiseInto c) bytes sizes strides rank ruled))) i 0
+          → getD (cond whole es (cond kept es (fittedFor mc (PointwiseInto c) bytes sizes strides rank ruled))) i 0
           ≤ getD (cond whole es (cond kept es ruled)) i 0
       go true kept = le-refl (getD es i 0)
       go false true = le-refl (getD es i 0)
       go false false = fit (eqb (length sizes) 2)
 
-  cut-alone : (length sizes ≡ 2 → ⊥) → cutBlocks sizes es strides rank (PointwiseInto c) ≡ cutBlocks sizes es strides rank (Fold c)
+  cut-alone : (length sizes ≡ 2 → ⊥) → cutBlocks mc sizes es strides rank (PointwiseInto c) ≡ cutBlocks mc sizes es strides rank (Fold c)
   unfolding cutBlocks
   cut-alone h = rw (ne-eqb (length sizes) 2 h)
 
@@ -121,13 +122,13 @@ pub record Finer (p f : Plan) : Type 0 where
   pub strides : p .strides ≡ f .strides
   pub blocks : AtMost (p .blocks) (f .blocks)
 
-module _ (es sizes : List ℕ) (ss : List ℤ) where
+module _ (mc : Machine) (es sizes : List ℕ) (ss : List ℤ) where
   abbrev axes : Purpose → List Axis
   axes u = planAxes es (length sizes) ss u
 
   -- the plan of the axes for a purpose
   abbrev from : Purpose → Purpose → Plan
-  from v u = planFrom es sizes (axes v) u
+  from v u = planFrom mc es sizes (axes v) u
 
   from-finer : (c : ℕ) → Finer (from (PointwiseInto c) (PointwiseInto c)) (from (Fold c) (Fold c))
   unfolding planFrom planAxes fusingOrder loopOrder
@@ -142,19 +143,19 @@ module _ (es sizes : List ℕ) (ss : List ℤ) where
       r : ℕ
       r = length (axes (Fold c))
 
-      go : (i : ℕ) (small : Bool) → getD (cond small E (cutBlocks sizes E S r (PointwiseInto c))) i 0 ≤ getD (cond small E (cutBlocks sizes E S r (Fold c))) i 0
+      go : (i : ℕ) (small : Bool) → getD (cond small E (cutBlocks mc sizes E S r (PointwiseInto c))) i 0 ≤ getD (cond small E (cutBlocks mc sizes E S r (Fold c))) i 0
       go i true = le-refl (getD E i 0)
-      go i false = cut-most sizes E S r c i
+      go i false = cut-most mc sizes E S r c i
 
   same-finer : (p : Plan) → Finer p p
   same-finer p = record { rank = refl; operands = refl; extents = refl; strides = refl; blocks = λ i. le-refl (getD (p .blocks) i 0) }
 
   -- P with a chosen operand: the answer of F that chooses the same, with no block above F's
   pub fit-finer : (c : ℕ)
-      → (planned es sizes ss (PointwiseInto c) .answer ≡ planned es sizes ss (Fold c) .answer)
-      × Finer (planned es sizes ss (PointwiseInto c) .plan) (planned es sizes ss (Fold c) .plan)
-  unfolding planned layoutRefused
-  fit-finer c = go (layoutRefused es sizes ss (Fold c))
+      → (planned mc es sizes ss (PointwiseInto c) .answer ≡ planned mc es sizes ss (Fold c) .answer)
+      × Finer (planned mc es sizes ss (PointwiseInto c) .plan) (planned mc es sizes ss (Fold c) .plan)
+  unfolding planned planningRefused
+  fit-finer c = go (planningRefused mc es sizes ss (Fold c))
     where
       P : Plan
       P = from (PointwiseInto c) (PointwiseInto c)
@@ -167,17 +168,17 @@ module _ (es sizes : List ℕ) (ss : List ℤ) where
       go (some r) = (refl, same-finer (plannedOr (some r) P .plan))
 
   -- with other than two operands nothing is fitted
-  pub fit-alone : (c : ℕ) → (length sizes ≡ 2 → ⊥) → planned es sizes ss (PointwiseInto c) ≡ planned es sizes ss (Fold c)
-  unfolding planned layoutRefused planFrom planAxes fusingOrder loopOrder
+  pub fit-alone : (c : ℕ) → (length sizes ≡ 2 → ⊥) → planned mc es sizes ss (PointwiseInto c) ≡ planned mc es sizes ss (Fold c)
+  unfolding planned planningRefused planFrom planAxes fusingOrder loopOrder
   fit-alone c h =
-      rw (cut-alone sizes (padded 64 0 (extents (axes (Fold c)))) (strideTable (axes (Fold c)) (length sizes)) (length (axes (Fold c))) c h)
+      rw (cut-alone mc sizes (padded 64 0 (extents (axes (Fold c)))) (strideTable (axes (Fold c)) (length sizes)) (length (axes (Fold c))) c h)
 
   -- operand 0 is there wherever row 2 passes
-  unchosen-refused : layoutRefused es sizes ss Pointwise ≡ layoutRefused es sizes ss (Fold 0)
-  unfolding layoutRefused
+  unchosen-refused : planningRefused mc es sizes ss Pointwise ≡ planningRefused mc es sizes ss (Fold 0)
+  unfolding planningRefused
   unchosen-refused = go (eqb (length sizes) 0) refl
     where
-      go : (b : Bool) → eqb (length sizes) 0 ≡ b → refusedBy (layoutRows es sizes ss Pointwise) ≡ refusedBy (layoutRows es sizes ss (Fold 0))
+      go : (b : Bool) → eqb (length sizes) 0 ≡ b → refusedBy (planningRows mc es sizes ss Pointwise) ≡ refusedBy (planningRows mc es sizes ss (Fold 0))
       go true q = rw q
       go false q = let n : length sizes ≡ 0 → ⊥ = eqb-false (length sizes) 0 q in rw (lt-leb (length sizes) 0 (omega arith))
 
@@ -186,6 +187,6 @@ module _ (es sizes : List ℕ) (ss : List ℤ) where
   from-unchosen = refl
 
   -- with no chosen operand the lead is operand 0, and nothing is fitted
-  pub fit-unchosen : planned es sizes ss Pointwise ≡ planned es sizes ss (Fold 0)
+  pub fit-unchosen : planned mc es sizes ss Pointwise ≡ planned mc es sizes ss (Fold 0)
   unfolding planned
   fit-unchosen = ap₂ plannedOr unchosen-refused from-unchosen

@@ -12,13 +12,14 @@ use lib.ListN.{length, getD, replicate, length-replicate}
 use borrow.Author.Tests.{lt-ltb, le-ltb, eq-eqb, ne-eqb}
 use Rattle.strided.specs.Base.{some-of}
 use Rattle.strided.specs.Layout.{hasZero, total, reach, reachDown, inI64, maxI, maxU, row, strideRow}
-use Rattle.strided.specs.Refusals.{leaves, row5, layoutRefused}
+use Rattle.strided.specs.Refusals.{leaves, row5, planningRefused}
 use Rattle.strided.specs.Fuse.{planAxes}
 use Rattle.strided.specs.Plan.{planned, planFrom}
 use Rattle.strided.specs.Begin.{planExtents, planRow, beginRows, beginRefused}
 use Rattle.strided.specs.Text.{zeroStarts}
 use Rattle.strided.specs.declared.Purpose.{Purpose}
 use Rattle.strided.specs.declared.Plan.{Plan}
+use Rattle.strided.specs.declared.Machine.{Machine}
 use Rattle.laws.specs.Base.Layouts.{table-row, total-nozero}
 use Rattle.laws.specs.Base.Refusals.{NoneApplies}
 use Rattle.laws.specs.Base.Tests.{both-and}
@@ -27,6 +28,7 @@ use Rattle.laws.specs.Fuse.Reach.{plan-reach}
 use Rattle.laws.specs.Plan.Bounds.{plan-few}
 use Rattle.laws.specs.Refusals.Accepted.{Accepted, accepted}
 use Rattle.laws.specs.Refusals.Operands.{some-of-none}
+use Rattle.laws.specs.Refusals.Record.{planning-layout}
 use Rattle.laws.specs.Refusals.Rows.{none-refuses, passes-unless}
 use Rattle.laws.specs.Refusals.Zeros.{row5-total, no-zero-of, no-zero-test, total-some}
 use Rattle.laws.specs.Walk.Row9.{down-reach}
@@ -52,22 +54,22 @@ start-zero (suc n) (suc k) = start-zero n k
 
 -- ---- the plan
 
-module _ (es sizes : List ℕ) (ss : List ℤ) (u : Purpose) (h : layoutRefused es sizes ss u ≡ none) where
+module _ (mc : Machine) (es sizes : List ℕ) (ss : List ℤ) (u : Purpose) (h : planningRefused mc es sizes ss u ≡ none) where
   abbrev P : Plan
-  P = planned es sizes ss u .plan
+  P = planned mc es sizes ss u .plan
 
   a : Accepted es sizes ss u
-  a = accepted es sizes ss u h
+  a = accepted es sizes ss u (planning-layout mc es sizes ss u h)
 
-  pub planned-operands : planned es sizes ss u .plan .operands ≡ length sizes
+  pub planned-operands : planned mc es sizes ss u .plan .operands ≡ length sizes
   unfolding planned planFrom
   planned-operands = rw h
 
-  pub planned-rank : planned es sizes ss u .plan .rank ≤ 64
+  pub planned-rank : planned mc es sizes ss u .plan .rank ≤ 64
   unfolding planned planFrom
   planned-rank = rw h (plan-few es sizes ss u a)
 
-  plan-is : planned es sizes ss u .plan ≡ planFrom es sizes (planAxes es (length sizes) ss u) u
+  plan-is : planned mc es sizes ss u .plan ≡ planFrom mc es sizes (planAxes es (length sizes) ss u) u
   unfolding planned
   plan-is = rw h
 
@@ -77,7 +79,7 @@ module _ (es sizes : List ℕ) (ss : List ℤ) (u : Purpose) (h : layoutRefused 
       ap (λ (p : Plan). planRow p k) plan-is ∙ table-row (planAxes es (length sizes) ss u) (length sizes) k (plan-few es sizes ss u a) (a .few) l
 
   total-is : total (planExtents P) ≡ total es
-  total-is = ap total (planned-extents es sizes ss u h) ∙ plan-total es (length sizes) ss u
+  total-is = ap total (planned-extents mc es sizes ss u h) ∙ plan-total es (length sizes) ss u
 
   zero-back : hasZero (planExtents P) ≡ false → hasZero es ≡ false
   zero-back z = no-zero-test es (total-nozero es (subst (λ (n : ℕ). 0 < n) total-is (total-some (planExtents P) (no-zero-of (planExtents P) z))))
@@ -86,7 +88,7 @@ module _ (es sizes : List ℕ) (ss : List ℤ) (u : Purpose) (h : layoutRefused 
   near z k l =
       let y : hasZero es ≡ false = zero-back z in
       let e : reach (planExtents P) (planRow P k) ≡ reach es (strideRow ss (length es) k) =
-      ap₂ reach (planned-extents es sizes ss u h) (row-is k l) ∙ plan-reach es (length sizes) ss u (no-zero-of es y) (a .strides) k l in
+      ap₂ reach (planned-extents mc es sizes ss u h) (row-is k l) ∙ plan-reach es (length sizes) ss u (no-zero-of es y) (a .strides) k l in
       subst (λ (n : ℕ). n ≤ maxI) (sym e) (a .near y k l)
 
   abbrev M : ℕ
@@ -98,7 +100,7 @@ module _ (es sizes : List ℕ) (ss : List ℤ) (u : Purpose) (h : layoutRefused 
       ∙ zero-stays (planExtents P) (planRow P k) (near z k (subst (λ (n : ℕ). k < n) planned-operands l))
 
   -- the beginning is not refused
-  pub planned-begins : beginRefused (planned es sizes ss u .plan) (zeroStarts (planned es sizes ss u .plan)) ≡ none
+  pub planned-begins : beginRefused (planned mc es sizes ss u .plan) (zeroStarts (planned mc es sizes ss u .plan)) ≡ none
   unfolding beginRefused NoneApplies
   planned-begins =
       let one : 1 ≤ M = omega (arith, planned-operands, a .one) in

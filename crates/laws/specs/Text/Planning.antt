@@ -12,13 +12,15 @@ use lib.ListN.{length, length-map, length-append}
 use borrow.Author.Tests.{eq-eqb}
 use Rattle.strided.specs.Base.{over, first}
 use Rattle.strided.specs.Layout.{strideRow}
-use Rattle.strided.specs.Refusals.{Row, refusedBy, layoutRefused, row1, row2, row3, row4, row5, row6, row7}
+use Rattle.strided.specs.Refusals.{Row, refusedBy, layoutRefused, planningRefused, row1, row2, row3, row4, row5, row6, row7}
+use Rattle.strided.specs.Machine.{fixedFour}
 use Rattle.strided.specs.Fuse.{planAxes}
 use Rattle.strided.specs.Plan.{planned, planFrom, plannedOr}
 use Rattle.strided.specs.Text.{OperandLine, Parsed, InForm, LineFits, Each, NotInForm, Listing, Lists, sizesOf, stridesOf, layoutRowsOf, textRefused, refusing, listed}
 use Rattle.strided.specs.declared.Refusal.{Refusal}
 use Rattle.strided.specs.declared.Refusal.the-variants.{StrideCount, Form}
 use Rattle.strided.specs.declared.Answer.the-variants.{Served}
+use Rattle.laws.specs.Refusals.Record.{planning-fixed}
 use Rattle.laws.specs.Text.Once.{in-form-once}
 
 -- rank strides on each line: lines × rank in all
@@ -43,7 +45,7 @@ module _ {text : List ℕ} {p : Parsed} (f : InForm text p) where
   pub no-row3 : row3 (p .rank) (p .operands) (stridesOf p) .applies ≡ false
   no-row3 = ap not (eq-eqb (length (stridesOf p)) (p .rank * p .operands) strides-all)
 
-  -- planning's rows, with a rank, a count of operands and an outcome of row 3 put in
+  -- the layout's rows, with a rank, a count of operands and an outcome of row 3 put in
   rowsBy : ℕ → ℕ → Bool → List Row
   rowsBy r n b =
       row1 r ∷ row2 n ∷ record { applies = b; refusal = StrideCount } ∷ row4 n (p .purpose) ∷ row5 (p .extents)
@@ -58,12 +60,13 @@ module _ {text : List ℕ} {p : Parsed} (f : InForm text p) where
 
   -- so a text that is not refused has a plan, and the output is that plan's
   pub has-plan : (room : ℕ) → textRefused p room ≡ none
-      → planned (p .extents) (sizesOf p) (stridesOf p) (p .purpose)
-      ≡ record { answer = Served; plan = planFrom (p .extents) (sizesOf p) (planAxes (p .extents) (length (sizesOf p)) (stridesOf p) (p .purpose)) (p .purpose) }
+      → planned fixedFour (p .extents) (sizesOf p) (stridesOf p) (p .purpose)
+      ≡ record { answer = Served; plan = planFrom fixedFour (p .extents) (sizesOf p) (planAxes (p .extents) (length (sizesOf p)) (stridesOf p) (p .purpose)) (p .purpose) }
   unfolding textRefused planned
   has-plan room e =
-      let q : layoutRefused (p .extents) (sizesOf p) (stridesOf p) (p .purpose) ≡ none = sym as-planning ∙ first-none _ _ e in
-      ap (λ (r : Option Refusal). plannedOr r (planFrom (p .extents) (sizesOf p) (planAxes (p .extents) (length (sizesOf p)) (stridesOf p) (p .purpose)) (p .purpose))) q
+      let q : planningRefused fixedFour (p .extents) (sizesOf p) (stridesOf p) (p .purpose) ≡ none =
+      planning-fixed (p .extents) (sizesOf p) (stridesOf p) (p .purpose) ∙ sym as-planning ∙ first-none _ _ e in
+      ap (λ (r : Option Refusal). plannedOr r (planFrom fixedFour (p .extents) (sizesOf p) (planAxes (p .extents) (length (sizesOf p)) (stridesOf p) (p .purpose)) (p .purpose))) q
 
   -- the listing of what the text says is the text's: it says nothing else
   pub lists-said : (room : List ℕ) (l : Listing) → l ≡ listed p room → Lists text room l

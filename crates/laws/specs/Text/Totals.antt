@@ -12,7 +12,7 @@ use lib.Dec.{ltb}
 use lib.IntN.{ℤ}
 use lib.ListN.{length}
 use Rattle.strided.specs.Layout.{extents, total}
-use Rattle.strided.specs.Refusals.{layoutRefused}
+use Rattle.strided.specs.Refusals.{planningRefused}
 use Rattle.strided.specs.Fuse.{planAxes}
 use Rattle.strided.specs.Plan.{planned, planFrom}
 use Rattle.strided.specs.Walk.{CutAxis, ax, cutAxes, startsFrom, Block}
@@ -20,12 +20,14 @@ use Rattle.strided.specs.Begin.{planExtents, planBlocks}
 use Rattle.strided.specs.Text.{cellsIn, cellsOf, planWalk}
 use Rattle.strided.specs.declared.Purpose.{Purpose}
 use Rattle.strided.specs.declared.Plan.{Plan}
+use Rattle.strided.specs.declared.Machine.{Machine}
 use Rattle.laws.specs.Base.Arrays.{take-counted}
 use Rattle.laws.specs.Base.Layouts.{length-extents}
 use Rattle.laws.specs.Base.Sums.{sum}
 use Rattle.laws.specs.Fuse.Maps.{plan-total}
 use Rattle.laws.specs.Plan.Bounds.{plan-few}
 use Rattle.laws.specs.Refusals.Accepted.{accepted}
+use Rattle.laws.specs.Refusals.Record.{planning-layout}
 use Rattle.laws.specs.Walk.Totals.{cellCount, blockCount, cut-total, cells-total, blocks-total}
 
 -- ---- the cells
@@ -39,18 +41,18 @@ pub walk-cells : (p : Plan) → cellsOf (planWalk p) ≡ total (planExtents p)
 walk-cells p = cells-sum (planWalk p) ∙ cells-total (planExtents p) (planBlocks p)
 
 -- the extents of a plan that planning hands out
-pub planned-extents : (es sizes : List ℕ) (ss : List ℤ) (u : Purpose) → layoutRefused es sizes ss u ≡ none
-    → planExtents (planned es sizes ss u .plan) ≡ extents (planAxes es (length sizes) ss u)
+pub planned-extents : (mc : Machine) (es sizes : List ℕ) (ss : List ℤ) (u : Purpose) → planningRefused mc es sizes ss u ≡ none
+    → planExtents (planned mc es sizes ss u .plan) ≡ extents (planAxes es (length sizes) ss u)
 unfolding planned planFrom
-planned-extents es sizes ss u h =
+planned-extents mc es sizes ss u h =
     let axs = planAxes es (length sizes) ss u in
-    rw h (take-counted 0 64 (length axs) (extents axs) (length-extents axs) (plan-few es sizes ss u (accepted es sizes ss u h)))
+    rw h (take-counted 0 64 (length axs) (extents axs) (length-extents axs) (plan-few es sizes ss u (accepted es sizes ss u (planning-layout mc es sizes ss u h))))
 
 -- Z: the cells that are printed are the layout's
-pub planned-cells : (es sizes : List ℕ) (ss : List ℤ) (u : Purpose) → layoutRefused es sizes ss u ≡ none
-    → cellsOf (planWalk (planned es sizes ss u .plan)) ≡ total es
-planned-cells es sizes ss u h =
-    walk-cells (planned es sizes ss u .plan) ∙ ap total (planned-extents es sizes ss u h) ∙ plan-total es (length sizes) ss u
+pub planned-cells : (mc : Machine) (es sizes : List ℕ) (ss : List ℤ) (u : Purpose) → planningRefused mc es sizes ss u ≡ none
+    → cellsOf (planWalk (planned mc es sizes ss u .plan)) ≡ total es
+planned-cells mc es sizes ss u h =
+    walk-cells (planned mc es sizes ss u .plan) ∙ ap total (planned-extents mc es sizes ss u h) ∙ plan-total es (length sizes) ss u
 
 -- ---- the blocks
 
