@@ -1,9 +1,13 @@
-// What a layout is refused for: rows 1 to 7 of the refusal table. Beside it what all later crates read off a layout: the size of a
+// What a layout is refused for: rows 1 to 7 of the refusal table, with 24 among them where it is to be planned. Beside it what all later crates read off a layout: the size of a
 // stride, the total, the reach, the lead, and the number of a refusal.
 ghost use mathlib.Core.Path.{_≡_};
 ghost use Rattle.strided.specs.Layout.{lead};
-ghost use Rattle.strided.specs.Refusals.{number, negated, answered, layoutRefused};
+ghost use Rattle.strided.specs.Refusals.{number, negated, refusedBy, answered, countRows, spanRows, layoutRefused, planningRefused};
+ghost use Rattle.strided.specs.Machine.{allowed};
+ghost use Rattle.layout.specs.Laid.{Laid};
+ghost use lib.ListN.{length};
 use strided::Answer;
+use strided::Machine;
 use strided::Purpose;
 use strided::Refusal;
 
@@ -12,6 +16,7 @@ pub mod sizes;
 
 pub use rows::bytes_over;
 pub use rows::chosen_missing;
+pub use rows::machine_allowed;
 pub use rows::operands_wrong;
 pub use rows::rank_over;
 pub use rows::reach_at;
@@ -43,6 +48,7 @@ pub fn number(refusal: Refusal) -> u64
         Refusal::Form => 12,
         Refusal::TextTotal => 13,
         Refusal::Room => 14,
+        Refusal::Record => 24,
     }
 }
 
@@ -64,15 +70,14 @@ pub fn lead(purpose: Purpose) -> u64
     }
 }
 
-// Rows 1 to 7, the least number first. A row may lean on those before it: row 3 multiplies counts that rows 1 and 2 let through, and
-// rows 6 and 7 read the strides that row 3 counted.
-pub fn check_layout<'a>(
+// Rows 1 to 4, the least number first. Row 3 multiplies counts that rows 1 and 2 let through.
+fn check_counts<'a>(
     extents: &'a [u64],
     sizes: &'a [u64],
     strides: &'a [i64],
     purpose: Purpose,
 ) -> Answer
-    ensures { λ r. ⌜ r ≡ answered (layoutRefused (now (extents .entry)) (now (sizes .entry)) (now (strides .entry)) purpose) ⌝ }
+    ensures { λ r. ⌜ r ≡ answered (refusedBy (countRows (now (extents .entry)) (now (sizes .entry)) (now (strides .entry)) purpose)) ⌝ }
 {
     let rank = extents.len();
     let operands = sizes.len();
@@ -88,6 +93,16 @@ pub fn check_layout<'a>(
     if chosen_missing(operands, purpose) {
         return Answer::Refused(Refusal::Chosen);
     }
+    Answer::Served
+}
+
+// Rows 5 to 7. Rows 6 and 7 read the strides that row 3 counted.
+fn check_spans<'a>(extents: &'a [u64], sizes: &'a [u64], strides: &'a [i64]) -> Answer
+    requires { ⌜ Laid (now extents) (now strides) (length (now extents)) (length (now sizes)) ⌝ }
+    ensures { λ r. ⌜ r ≡ answered (refusedBy (spanRows (now (extents .entry)) (now (sizes .entry)) (now (strides .entry)))) ⌝ }
+{
+    let rank = extents.len();
+    let operands = sizes.len();
     if total_over(extents) {
         return Answer::Refused(Refusal::Total);
     }
@@ -98,4 +113,43 @@ pub fn check_layout<'a>(
         return Answer::Refused(Refusal::Bytes);
     }
     Answer::Served
+}
+
+// Rows 1 to 7, the least number first: what index finding refuses a layout for, and the text.
+pub fn check_layout<'a>(
+    extents: &'a [u64],
+    sizes: &'a [u64],
+    strides: &'a [i64],
+    purpose: Purpose,
+) -> Answer
+    ensures { λ r. ⌜ r ≡ answered (layoutRefused (now (extents .entry)) (now (sizes .entry)) (now (strides .entry)) purpose) ⌝ }
+{
+    let counts = check_counts(extents, sizes, strides, purpose);
+    match counts {
+        Answer::Served => check_spans(extents, sizes, strides),
+        Answer::Refused(refusal) => counts,
+    }
+}
+
+// Rows 1 to 4, 24, 5 to 7: what planning refuses.
+pub fn check_planning<'a>(
+    extents: &'a [u64],
+    sizes: &'a [u64],
+    strides: &'a [i64],
+    purpose: Purpose,
+    machine: Machine,
+) -> Answer
+    ensures { λ r. ⌜ r ≡ answered (planningRefused machine (now (extents .entry)) (now (sizes .entry)) (now (strides .entry)) purpose) ⌝ }
+{
+    let counts = check_counts(extents, sizes, strides, purpose);
+    match counts {
+        Answer::Served => {
+            if machine_allowed(machine) {
+                check_spans(extents, sizes, strides)
+            } else {
+                Answer::Refused(Refusal::Record)
+            }
+        }
+        Answer::Refused(refusal) => counts,
+    }
 }

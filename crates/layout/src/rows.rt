@@ -1,9 +1,11 @@
 // Rows 1 to 7 of the refusal table, each as a test. Rows 5 and 6 serve a walk's beginning too, so the operands' strides may stand further
 // apart than the rank.
 ghost use mathlib.Core.Path.{_≡_};
-ghost use Prim.Native.Nat.{_+_, _*_, _^_, _≤_, min};
+ghost use Prim.Native.Nat.{_+_, _*_, _%_, _^_, _≤_, _<_, min};
 ghost use lib.ListN.{length};
-ghost use lib.Dec.{ltb};
+ghost use lib.Dec.{ltb, leb, eqb};
+ghost use mathlib.Core.Bool.{_&&_};
+ghost use Rattle.strided.specs.Machine.{lineAllowed, allowed};
 ghost use Rattle.strided.specs.Base.{some-of};
 ghost use Rattle.strided.specs.Layout.{reach, maxI};
 ghost use Rattle.strided.specs.Refusals.{row1, row2, row3, row4, row5, row6, row7};
@@ -15,6 +17,7 @@ use super::sizes::reach_of;
 use super::sizes::total_len;
 use strided::MAX_OPERANDS;
 use strided::MAX_RANK;
+use strided::Machine;
 use strided::Purpose;
 
 // Row 1.
@@ -48,6 +51,55 @@ pub fn chosen_missing(operands: usize, purpose: Purpose) -> bool
         Purpose::PointwiseInto(k) => operands as u64 <= k,
         Purpose::Fold(k) => operands as u64 <= k,
     }
+}
+
+// A line of the machine: a power of two from 32 to 256.
+fn line_allowed(line: u64) -> bool
+    ensures { λ r. ⌜ r ≡ lineAllowed line ⌝ }
+{
+    if line == 32 {
+        return true;
+    }
+    if line == 64 {
+        return true;
+    }
+    if line == 128 {
+        return true;
+    }
+    line == 256
+}
+
+// A number between two, both included.
+fn between(low: u64, x: u64, high: u64) -> bool
+    ensures { λ r. ⌜ r ≡ leb low x && leb x high ⌝ }
+{
+    if low <= x { x <= high } else { false }
+}
+
+// A way of the machine: whole lines, from one up to the cache.
+fn way_allowed(line: u64, cache: u64, way: u64) -> bool
+    requires { ⌜ 0 < line ⌝ }
+    ensures { λ r. ⌜ r ≡ eqb (way % line) 0 && (leb line way && leb way cache) ⌝ }
+{
+    if way % line == 0 {
+        between(line, way, cache)
+    } else {
+        false
+    }
+}
+
+// Row 24, whether it does not apply. The line is tested first: the way is divided by it.
+pub fn machine_allowed(machine: Machine) -> bool
+    ensures { λ r. ⌜ r ≡ allowed machine ⌝ }
+{
+    if line_allowed(machine.line) {
+        if between(4096, machine.cache, 1048576) {
+            if way_allowed(machine.line, machine.cache, machine.way) {
+                return between(1, machine.live, 16);
+            }
+        }
+    }
+    false
 }
 
 // Row 5. A zero extent makes the total 0.

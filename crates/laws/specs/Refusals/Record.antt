@@ -26,7 +26,7 @@ pub record Line (n : ℕ) : Type 0 where
   pub from : 32 ≤ n
   pub to : n ≤ 256
 
-line-true : (n : ℕ) → lineAllowed n ≡ true → Line n
+pub line-true : (n : ℕ) → lineAllowed n ≡ true → Line n
 line-true n h = ⊎-elim
     (λ e. let q = eqb-true n 32 e in record { power = (5, q); from = omega arith; to = omega arith })
     (λ r. ⊎-elim

@@ -1,7 +1,7 @@
 -- The first row that applies refuses: the laws that an entry's tests, one after the other, are proved with. Assumes nothing.
 use mathlib.Core.Path.{_≡_, refl, sym, ap, _∙_}
-use mathlib.Core.Bool.{Bool, true, false, _&&_, not, false≢true}
-use mathlib.Core.List.{List, [], _∷_}
+use mathlib.Core.Bool.{Bool, true, false, cond, _&&_, not, false≢true}
+use mathlib.Core.List.{List, [], _∷_, _++_}
 use mathlib.Core.Option.{Option, none, some}
 use Prim.Native.Nat.{ℕ}
 use native.Mathlib.Omega.{arith}
@@ -32,6 +32,26 @@ module _ {all rs : List Row} {r : Row} (p : Past all (r ∷ rs)) {b : Bool} (is 
 
 pub past-served : {all : List Row} → Past all [] → Served ≡ answered (refusedBy all)
 past-served p = sym (ap answered (p .same))
+
+-- ---- rows before others
+
+pub rows-refuse : (xs ys : List Row) (r : Refusal) → refusedBy xs ≡ some r → refusedBy (xs ++ ys) ≡ some r
+rows-refuse [] ys r h = let z : _≡_ {A = ℕ} 0 1 = cc h in absurd (omega arith)
+rows-refuse (x ∷ xs) ys r h = go (x .applies) h (rows-refuse xs ys r)
+  where
+    go : (b : Bool) → cond b (some (x .refusal)) (refusedBy xs) ≡ some r → (refusedBy xs ≡ some r → refusedBy (xs ++ ys) ≡ some r)
+        → cond b (some (x .refusal)) (refusedBy (xs ++ ys)) ≡ some r
+    go true q f = q
+    go false q f = f q
+
+pub rows-pass : (xs ys : List Row) → refusedBy xs ≡ none → refusedBy (xs ++ ys) ≡ refusedBy ys
+rows-pass [] ys h = refl
+rows-pass (x ∷ xs) ys h = go (x .applies) h (rows-pass xs ys)
+  where
+    go : (b : Bool) → cond b (some (x .refusal)) (refusedBy xs) ≡ none → (refusedBy xs ≡ none → refusedBy (xs ++ ys) ≡ refusedBy ys)
+        → cond b (some (x .refusal)) (refusedBy (xs ++ ys)) ≡ refusedBy ys
+    go true q f = let z : _≡_ {A = ℕ} 0 1 = cc q in absurd (omega arith)
+    go false q f = f q
 
 -- ---- no row applies
 

@@ -1,108 +1,51 @@
--- `layout::check_layout` meets its contract: its tests are the rows of the table, one after the other. Assumes nothing.
+-- `layout::check_layout` meets its contract: rows 1 to 4, and where they pass 5 to 7. Assumes nothing.
+use mathlib.Core.Path.{_≡_, sym, _∙_}
+use mathlib.Core.Option.{none}
 use borrow.Author.Needs.{needs}
-use Rattle.strided.specs.Refusals.{layoutRows, layoutRefused}
-use Rattle.laws.specs.Refusals.Rows.{past-none, past-next, past-refused, past-served}
-use Rattle.layout.proofs.Table.{Passed, few-axes, few-operands, rows-laid}
+use Rattle.strided.specs.Refusals.{refusedBy, countRows}
+use Rattle.laws.specs.Refusals.Rows.{served-none}
+use Rattle.layout.proofs.Table.{counts-laid, layout-spans, layout-counts-refuse}
 use Rattle.layout.proofs.check_layout.Statement.{statement}
 use Rattle.layout.proofs.check_layout.Tie as tie
 
--- no row up to the one just tested applies
-passed-1 : (c : tie.Else1) → let a = c .before .before .before .before .args in Passed 1 (a .extents .now) (a .sizes .now) (a .strides .now) (a .purpose)
-passed-1 c = past-next (past-none _) (c .before .rank-over .ensures) (c .if1 .left)
+check-counts-requires : tie.Need-check-counts-requires
+check-counts-requires c κs = search needs
 
-passed-2 : (c : tie.Else2) → let a = c .before .before .before .before .before .before .args in Passed 2 (a .extents .now) (a .sizes .now) (a .strides .now) (a .purpose)
-passed-2 c = past-next (passed-1 (c .before .before)) (c .before .operands-wrong .ensures) (c .if2 .left)
+enum-told : tie.Need-enum-told
+enum-told c = search needs
 
-passed-3 : (c : tie.Else3) → let a = c .before .before .before .before .before .before .before .before .args in Passed 3 (a .extents .now) (a .sizes .now) (a .strides .now) (a .purpose)
-passed-3 c = past-next (passed-2 (c .before .before)) (c .before .strides-wrong .ensures) (c .if3 .left)
+-- rows 1 to 4 pass
+passed : (c : tie.After-enum-told) → let a = c .before .before .before .before .before .args in refusedBy (countRows (a .extents .now) (a .sizes .now) (a .strides .now) (a .purpose)) ≡ none
+passed c = served-none _ (sym (c .before .before .check-counts .ensures) ∙ c .enum-told .given .1)
 
-passed-4 : (c : tie.Else4) → let a = c .before .before .before .before .before .before .before .before .before .before .args in Passed 4 (a .extents .now) (a .sizes .now) (a .strides .now) (a .purpose)
-passed-4 c = past-next (passed-3 (c .before .before)) (c .before .chosen-missing .ensures) (c .if4 .left)
+check-spans-requires : tie.Need-check-spans-requires
+check-spans-requires c κs =
+    let a = c .before .before .before .before .before .args in
+    counts-laid (a .extents .now) (a .sizes .now) (a .strides .now) (a .purpose) (passed c)
 
-passed-5 : (c : tie.Else5) → let a = c .before .before .before .before .before .before .before .before .before .before .before .before .args in Passed 5 (a .extents .now) (a .sizes .now) (a .strides .now) (a .purpose)
-passed-5 c = past-next (passed-4 (c .before .before)) (c .before .total-over .ensures) (c .if5 .left)
-
-passed-6 : (c : tie.Else6) → let a = c .before .before .before .before .before .before .before .before .before .before .before .before .before .before .args in Passed 6 (a .extents .now) (a .sizes .now) (a .strides .now) (a .purpose)
-passed-6 c = past-next (passed-5 (c .before .before)) (c .before .reach-over .ensures) (c .if6 .left)
-
-passed-7 : (c : tie.Else7) → let a = c .before .before .before .before .before .before .before .before .before .before .before .before .before .before .before .before .args in Passed 7 (a .extents .now) (a .sizes .now) (a .strides .now) (a .purpose)
-passed-7 c = past-next (passed-6 (c .before .before)) (c .before .bytes-over .ensures) (c .if7 .left)
-
-rank-over-requires : tie.Need-rank-over-requires
-rank-over-requires c κs = search needs
+enum-known-counts : tie.Need-enum-known-counts
+enum-known-counts c = search needs
 
 returns : tie.Need-returns
-unfolding layoutRefused
 returns c =
-    let a = c .before .before .before .before .args in
-    past-refused (past-none (layoutRows (a .extents .now) (a .sizes .now) (a .strides .now) (a .purpose))) (c .before .rank-over .ensures) (c .if1 .taken)
-
-operands-wrong-requires : tie.Need-operands-wrong-requires
-operands-wrong-requires c κs = search needs
+    let t = c .before in
+    let a = t .before .before .before .before .before .args in
+    layout-spans (a .extents .now) (a .sizes .now) (a .strides .now) (a .purpose) (passed t) (c .check-spans .ensures)
 
 returns-2 : tie.Need-returns-2
-unfolding layoutRefused
-returns-2 c = past-refused (passed-1 (c .before .before)) (c .before .operands-wrong .ensures) (c .if2 .taken)
-
-strides-wrong-requires : tie.Need-strides-wrong-requires
-strides-wrong-requires c κs =
-    let before = c .before .before in
-    (few-axes _ (before .before .rank-over .ensures) (before .if1 .left), few-operands _ (c .before .operands-wrong .ensures) (c .if2 .left))
-
-returns-3 : tie.Need-returns-3
-unfolding layoutRefused
-returns-3 c = past-refused (passed-2 (c .before .before)) (c .before .strides-wrong .ensures) (c .if3 .taken)
-
-chosen-missing-requires : tie.Need-chosen-missing-requires
-chosen-missing-requires c κs = search needs
-
-returns-4 : tie.Need-returns-4
-unfolding layoutRefused
-returns-4 c = past-refused (passed-3 (c .before .before)) (c .before .chosen-missing .ensures) (c .if4 .taken)
-
-total-over-requires : tie.Need-total-over-requires
-total-over-requires c κs = search needs
-
-returns-5 : tie.Need-returns-5
-unfolding layoutRefused
-returns-5 c = past-refused (passed-4 (c .before .before)) (c .before .total-over .ensures) (c .if5 .taken)
-
-reach-over-requires : tie.Need-reach-over-requires
-reach-over-requires c κs =
-    let e = c .before .before .before .before in rows-laid _ _ _ (e .before .strides-wrong .ensures) (e .if3 .left)
-
-returns-6 : tie.Need-returns-6
-unfolding layoutRefused
-returns-6 c = past-refused (passed-5 (c .before .before)) (c .before .reach-over .ensures) (c .if6 .taken)
-
-bytes-over-requires : tie.Need-bytes-over-requires
-bytes-over-requires c κs =
-    let e = c .before .before .before .before .before .before in rows-laid _ _ _ (e .before .strides-wrong .ensures) (e .if3 .left)
-
-returns-7 : tie.Need-returns-7
-unfolding layoutRefused
-returns-7 c = past-refused (passed-6 (c .before .before)) (c .before .bytes-over .ensures) (c .if7 .taken)
-
-returns-8 : tie.Need-returns-8
-unfolding layoutRefused
-returns-8 c = past-served (passed-7 c)
+returns-2 c =
+    let g = c .before in
+    let l = g .before .before in
+    let a = l .before .before .before .args in
+    layout-counts-refuse (a .extents .now) (a .sizes .now) (a .strides .now) (a .purpose) _ (sym (l .check-counts .ensures) ∙ g .counts .given .1)
 
 pub check-layout-spec : {M : Type 1} → statement M
 check-layout-spec =
     tie.close
     (tie.spec
-    rank-over-requires
+    check-counts-requires
+    enum-told
+    check-spans-requires
+    enum-known-counts
     returns
-    operands-wrong-requires
-    returns-2
-    strides-wrong-requires
-    returns-3
-    chosen-missing-requires
-    returns-4
-    total-over-requires
-    returns-5
-    reach-over-requires
-    returns-6
-    bytes-over-requires
-    returns-7
-    returns-8)
+    returns-2)

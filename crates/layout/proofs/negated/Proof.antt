@@ -10,11 +10,11 @@ use mir.Syntax.{w64}
 use mir.Facts.{toZ-pos, toZ-ofZ}
 use Rattle.strided.specs.Refusals.{number, negated}
 use Rattle.strided.specs.declared.Refusal.{Refusal}
-use Rattle.strided.specs.declared.Refusal.the-variants.{Rank, Operands, StrideCount, Chosen, Total, Reach, Bytes, StartCount, Offsets, State, Index, Form, TextTotal, Room}
+use Rattle.strided.specs.declared.Refusal.the-variants.{Rank, Operands, StrideCount, Chosen, Total, Reach, Bytes, StartCount, Offsets, State, Index, Form, TextTotal, Room, Record}
 use Rattle.layout.proofs.negated.Statement.{statement}
 use Rattle.layout.proofs.negated.Tie as tie
 
-number-small : (r : Refusal) → number r < 15
+number-small : (r : Refusal) → number r < 25
 number-small Rank = omega arith
 number-small Operands = omega arith
 number-small StrideCount = omega arith
@@ -29,6 +29,7 @@ number-small Index = omega arith
 number-small Form = omega arith
 number-small TextTotal = omega arith
 number-small Room = omega arith
+number-small Record = omega arith
 
 mag-less : (n : ℕ) → mag (negℤ (pos n)) ≤ n
 mag-less zero = omega arith
