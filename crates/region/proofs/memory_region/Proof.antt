@@ -13,19 +13,27 @@ use Rattle.region.proofs.memory_region.Statement.{statement}
 use Rattle.region.proofs.memory_region.Tie as tie
 
 abbrev Inv-loop : tie.InvT-loop
-Inv-loop blocks bytes operands offset rank r₀ k₀ r k = (k ≤ operands) × (r ≡ min (sum (regionOf bytes blocks offset (rank - offset)) 0 k) cap)
+Inv-loop machine blocks bytes operands offset rank limit r₀ k₀ r k = (k ≤ operands) × (r ≡ min (sum (regionOf machine bytes blocks offset (rank - offset)) 0 k) (cap machine))
 
 abbrev μ-loop : tie.MeasureT-loop
-μ-loop blocks bytes operands offset rank r₀ k₀ r k = operands - k
+μ-loop machine blocks bytes operands offset rank limit r₀ k₀ r k = operands - k
+
+mul-limit : tie.Need-mul-limit Inv-loop μ-loop
+mul-limit c = omega arith
+
+add-limit : tie.Need-add-limit Inv-loop μ-loop
+add-limit c = omega arith
 
 loop-holds : tie.Need-loop-holds Inv-loop μ-loop
-loop-holds c = (omega arith, capped (sym (sum-none _ 0)))
+loop-holds c =
+    let a = c .before .args in
+    (omega arith, omega (arith, sum-none (regionOf (a .machine) (a .bytes .now) (a .blocks .now) (a .offset) (a .rank - a .offset)) 0))
 
 region-of-requires : tie.Need-region-of-requires Inv-loop μ-loop
 region-of-requires c κs = search needs
 
 sat-add-requires : tie.Need-sat-add-requires Inv-loop μ-loop
-sat-add-requires c κs = tt
+sat-add-requires c κs = omega arith
 
 add-k : tie.Need-add-k Inv-loop μ-loop
 add-k c = omega arith
@@ -34,20 +42,20 @@ loop-less : tie.Need-loop-less Inv-loop μ-loop
 loop-less c = omega arith
 
 loop-again : tie.Need-loop-again Inv-loop μ-loop
-loop-again c = let a = c .before .before .before .before .args in
+loop-again c = let a = c .before .before .before .before .before .args in
     let l = c .before .before .before .loop in
-    let f : ℕ → ℕ = regionOf (a .bytes .now) (a .blocks .now) (a .offset) (a .rank - a .offset) in (
+    let f : ℕ → ℕ = regionOf (a .machine) (a .bytes .now) (a .blocks .now) (a .offset) (a .rank - a .offset) in (
       omega arith,
-      add-sat (sum f 0 (l .k)) (f (l .k)) cap (l .inv .1) (c .before .region-of .ensures) (c .sat-add .ensures)
-          ∙ capped (sym (sum-next f (l .k))),
+      add-sat (sum f 0 (l .k)) (f (l .k)) (cap (a .machine)) (l .inv .1) (c .before .region-of .ensures) (c .sat-add .ensures)
+          ∙ capped (cap (a .machine)) (sym (sum-next f (l .k))),
     )
 
 returns : tie.Need-returns Inv-loop μ-loop
 unfolding region
-returns c = let a = c .before .before .args in
+returns c = let a = c .before .before .before .args in
     let l = c .before .loop in
     let e : l .k ≡ a .operands = omega arith in
-    l .inv .1 ∙ ap (λ (k : ℕ). min (sum (regionOf (a .bytes .now) (a .blocks .now) (a .offset) (a .rank - a .offset)) 0 k) cap) e
+    l .inv .1 ∙ ap (λ (k : ℕ). min (sum (regionOf (a .machine) (a .bytes .now) (a .blocks .now) (a .offset) (a .rank - a .offset)) 0 k) (cap (a .machine))) e
 
 pub memory-region-spec : {M : Type 1} → statement M
 memory-region-spec =
@@ -55,6 +63,8 @@ memory-region-spec =
     (tie.spec
     Inv-loop
     μ-loop
+    mul-limit
+    add-limit
     loop-holds
     region-of-requires
     sat-add-requires

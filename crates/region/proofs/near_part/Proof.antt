@@ -16,9 +16,9 @@ least-requires : tie.Need-least-requires
 least-requires c κs = search needs
 
 -- what bounds the product
-small : (c : tie.After-least) → c .before .before .args .s * c .least .result ≤ 64 * 65537
-small c = let p : c .before .before .args .s ≤ 64 = omega (arith, c .before .before .pre) in
-    let q : c .least .result ≤ 65537 = omega (arith, c .least .ensures) in
+small : (c : tie.After-least) → c .before .before .args .s * c .least .result ≤ 256 * 2097153
+small c = let p : c .before .before .args .s ≤ 256 = omega (arith, c .before .before .pre) in
+    let q : c .least .result ≤ 2097153 = omega (arith, c .least .ensures) in
     mul-le-mul p q
 
 mul-result : tie.Need-mul-result
@@ -26,7 +26,7 @@ mul-result c = omega (arith, small c)
 
 returns : tie.Need-returns
 returns c = let a = c .before .before .args in
-    (ap (λ (x : ℕ). a .s * x) (c .least .ensures ∙ capped (c .before .less-one .ensures)), omega (arith, small c))
+    (ap (λ (x : ℕ). a .s * x) (c .least .ensures ∙ capped (a .top) (c .before .less-one .ensures)), omega (arith, small c))
 
 pub near-part-spec : {M : Type 1} → statement M
 near-part-spec = tie.close (tie.spec less-one-requires least-requires mul-result returns)
