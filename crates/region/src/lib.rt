@@ -61,8 +61,8 @@ fn region_of<'a>(
     offset: usize,
     rank: usize,
 ) -> u64
-    requires { ⌜ (k < 8) × ((offset ≤ rank) × (rank ≤ 64)) ⌝ }
     requires { ⌜ Allowed machine ⌝ }
+    requires { ⌜ (k < 8) × ((offset ≤ rank) × (rank ≤ 64)) ⌝ }
     ensures { λ r. ⌜ r ≡ min (regionOf machine (now (bytes .entry)) (now (blocks .entry)) offset (rank - offset) k) (cap machine) ⌝ }
 {
     let top = 2 * machine.cache + 1;
@@ -92,8 +92,8 @@ pub fn memory_region<'a>(
     offset: usize,
     rank: usize,
 ) -> u64
-    requires { ⌜ (operands ≤ 8) × ((offset ≤ rank) × (rank ≤ 64)) ⌝ }
     requires { ⌜ Allowed machine ⌝ }
+    requires { ⌜ (operands ≤ 8) × ((offset ≤ rank) × (rank ≤ 64)) ⌝ }
     ensures { λ r. ⌜ r ≡ min (region machine (now (bytes .entry)) operands (now (blocks .entry)) offset (rank - offset)) (cap machine) ⌝ }
 {
     let limit = 2 * machine.cache + 1;

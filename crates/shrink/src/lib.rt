@@ -2,21 +2,17 @@
 // to shorten is the one with the greatest score.
 use region::less_one;
 use region::memory_region;
+use strided::Machine;
 ghost use mathlib.Core.Path.{_≡_};
 ghost use Prim.Native.Nat.{_+_, _-_, _/_, _≤_, _<_};
-ghost use Rattle.strided.specs.Region.{cache, region};
+ghost use Rattle.strided.specs.Machine.{Allowed};
+ghost use Rattle.strided.specs.Region.{region};
 ghost use Rattle.strided.specs.Cut.{score, greatestScore, halved, lessened, shrunk};
 ghost use Rattle.laws.specs.Cut.Steps.{ScoresFit};
 ghost use Rattle.laws.specs.Cut.Picks.{topOf};
 ghost use Rattle.laws.specs.Cut.Jump.{clippedOver};
 ghost use Rattle.laws.specs.Cut.Level.{Least};
 ghost use Rattle.shrink.specs.Picked.{picked};
-
-// The size of a typical L1 data cache, which the blocks of a tile are to fit.
-pub const BLOCK_MEMORY_SIZE: u64 = 32768;
-
-// Blocks are halved while the region is at least this; the rest is taken off one by one.
-const HALVING_SIZE: u64 = 65536;
 
 // Which block is to be shortened.
 pub enum Pick {
@@ -58,8 +54,9 @@ fn half(x: u64) -> u64
     x / 2 + x % 2
 }
 
-// While the region is at least 65,536, the picked block is halved.
+// While the region is at least twice the cache, the picked block is halved.
 fn halve<'a>(
+    machine: Machine,
     blocks: &mut [u64; 64],
     bytes: &'a [u64; 512],
     costs: &'a [u64; 64],
@@ -67,11 +64,12 @@ fn halve<'a>(
     offset: usize,
     rank: usize,
 )
+    requires { ⌜ Allowed machine ⌝ }
     requires { ⌜ ((operands ≤ 8) × ((offset ≤ rank) × (rank ≤ 64))) × ScoresFit rank (now costs) (now blocks) ⌝ }
-    ensures { λ _. ⌜ now (blocks .exit) ≡ halved (now (bytes .entry)) operands (now (costs .entry)) offset (rank - offset) (now (blocks .entry)) ⌝ }
+    ensures { λ _. ⌜ now (blocks .exit) ≡ halved machine (now (bytes .entry)) operands (now (costs .entry)) offset (rank - offset) (now (blocks .entry)) ⌝ }
 {
     loop {
-        if memory_region(blocks, bytes, operands, offset, rank) < HALVING_SIZE {
+        if memory_region(machine, blocks, bytes, operands, offset, rank) < 2 * machine.cache {
             return;
         }
         let Pick::At(i) = last_argmax_weighted(blocks, costs, offset, rank) else {
@@ -81,8 +79,9 @@ fn halve<'a>(
     }
 }
 
-// While the region is above 32,768, the picked block loses 1.
+// While the region is above the cache, the picked block loses 1.
 fn lessen<'a>(
+    machine: Machine,
     blocks: &mut [u64; 64],
     bytes: &'a [u64; 512],
     costs: &'a [u64; 64],
@@ -90,11 +89,12 @@ fn lessen<'a>(
     offset: usize,
     rank: usize,
 )
+    requires { ⌜ Allowed machine ⌝ }
     requires { ⌜ ((operands ≤ 8) × ((offset ≤ rank) × (rank ≤ 64))) × ScoresFit rank (now costs) (now blocks) ⌝ }
-    ensures { λ _. ⌜ now (blocks .exit) ≡ lessened (now (bytes .entry)) operands (now (costs .entry)) offset (rank - offset) (now (blocks .entry)) ⌝ }
+    ensures { λ _. ⌜ now (blocks .exit) ≡ lessened machine (now (bytes .entry)) operands (now (costs .entry)) offset (rank - offset) (now (blocks .entry)) ⌝ }
 {
     loop {
-        if memory_region(blocks, bytes, operands, offset, rank) <= BLOCK_MEMORY_SIZE {
+        if memory_region(machine, blocks, bytes, operands, offset, rank) <= machine.cache {
             return;
         }
         let Pick::At(i) = last_argmax_weighted(blocks, costs, offset, rank) else {
@@ -140,9 +140,10 @@ fn top_score<'a>(blocks: &'a [u64; 64], costs: &'a [u64; 64], offset: usize, ran
     less_one(blocks[i]) * costs[i]
 }
 
-// The score to jump to: the least at which the region of the clipped blocks is still above 32,768. Halving the way to it takes 64 turns at
+// The score to jump to: the least at which the region of the clipped blocks is still above the cache. Halving the way to it takes 64 turns at
 // most.
 fn level<'a>(
+    machine: Machine,
     blocks: &'a [u64; 64],
     bytes: &'a [u64; 512],
     costs: &'a [u64; 64],
@@ -150,9 +151,10 @@ fn level<'a>(
     offset: usize,
     rank: usize,
 ) -> u64
+    requires { ⌜ Allowed machine ⌝ }
     requires { ⌜ ((operands ≤ 8) × ((offset ≤ rank) × (rank ≤ 64))) × ScoresFit rank (now costs) (now blocks) ⌝ }
-    requires { ⌜ cache < region (now bytes) operands (now blocks) offset (rank - offset) ⌝ }
-    ensures { λ r. ⌜ Least (now (bytes .entry)) operands (now (costs .entry)) offset (rank - offset) (now (blocks .entry)) r ⌝ }
+    requires { ⌜ machine .cache < region machine (now bytes) operands (now blocks) offset (rank - offset) ⌝ }
+    ensures { λ r. ⌜ Least machine (now (bytes .entry)) operands (now (costs .entry)) offset (rank - offset) (now (blocks .entry)) r ⌝ }
 {
     let mut t = *blocks;
     let mut lo: u64 = 0;
@@ -160,7 +162,7 @@ fn level<'a>(
     while lo < hi {
         let mid = lo + (hi - lo) / 2;
         clip_into(blocks, costs, offset, rank, mid, &mut t);
-        if BLOCK_MEMORY_SIZE < memory_region(&t, bytes, operands, offset, rank) {
+        if machine.cache < memory_region(machine, &t, bytes, operands, offset, rank) {
             hi = mid;
         } else {
             lo = mid + 1;
@@ -171,6 +173,7 @@ fn level<'a>(
 
 // As `lessen`, with one jump in place of the many single steps before the last few: below the jump's score each axis has at most one more.
 fn lessen_far<'a>(
+    machine: Machine,
     blocks: &mut [u64; 64],
     bytes: &'a [u64; 512],
     costs: &'a [u64; 64],
@@ -178,21 +181,23 @@ fn lessen_far<'a>(
     offset: usize,
     rank: usize,
 )
+    requires { ⌜ Allowed machine ⌝ }
     requires { ⌜ ((operands ≤ 8) × ((offset ≤ rank) × (rank ≤ 64))) × ScoresFit rank (now costs) (now blocks) ⌝ }
-    ensures { λ _. ⌜ now (blocks .exit) ≡ lessened (now (bytes .entry)) operands (now (costs .entry)) offset (rank - offset) (now (blocks .entry)) ⌝ }
+    ensures { λ _. ⌜ now (blocks .exit) ≡ lessened machine (now (bytes .entry)) operands (now (costs .entry)) offset (rank - offset) (now (blocks .entry)) ⌝ }
 {
-    if memory_region(blocks, bytes, operands, offset, rank) <= BLOCK_MEMORY_SIZE {
+    if memory_region(machine, blocks, bytes, operands, offset, rank) <= machine.cache {
         return;
     }
-    let s = level(blocks, bytes, costs, operands, offset, rank);
+    let s = level(machine, blocks, bytes, costs, operands, offset, rank);
     let mut t = *blocks;
     clip_into(blocks, costs, offset, rank, s, &mut t);
     *blocks = t;
-    lessen(blocks, bytes, costs, operands, offset, rank);
+    lessen(machine, blocks, bytes, costs, operands, offset, rank);
 }
 
 // The blocks from offset to rank, halved and then lessened.
 pub fn shrink<'a>(
+    machine: Machine,
     blocks: &mut [u64; 64],
     bytes: &'a [u64; 512],
     costs: &'a [u64; 64],
@@ -200,9 +205,10 @@ pub fn shrink<'a>(
     offset: usize,
     rank: usize,
 )
+    requires { ⌜ Allowed machine ⌝ }
     requires { ⌜ ((operands ≤ 8) × ((offset ≤ rank) × (rank ≤ 64))) × ScoresFit rank (now costs) (now blocks) ⌝ }
-    ensures { λ _. ⌜ now (blocks .exit) ≡ shrunk (now (bytes .entry)) operands (now (costs .entry)) offset (rank - offset) (now (blocks .entry)) ⌝ }
+    ensures { λ _. ⌜ now (blocks .exit) ≡ shrunk machine (now (bytes .entry)) operands (now (costs .entry)) offset (rank - offset) (now (blocks .entry)) ⌝ }
 {
-    halve(blocks, bytes, costs, operands, offset, rank);
-    lessen_far(blocks, bytes, costs, operands, offset, rank);
+    halve(machine, blocks, bytes, costs, operands, offset, rank);
+    lessen_far(machine, blocks, bytes, costs, operands, offset, rank);
 }

@@ -6,7 +6,7 @@ use mathlib.Core.Path.{_≡_, refl, sym, ap, _∙_}
 use mathlib.Core.Option.{some, none}
 use Prim.Native.Nat.{ℕ, _-_, _*_, _≤_, _<_}
 use lib.ListN.{set}
-use Rattle.strided.specs.Region.{cache, region}
+use Rattle.strided.specs.Region.{region}
 use Rattle.strided.specs.Cut.{greatestScore, cells, halved}
 use Rattle.laws.specs.Cut.Picks.{pick-is}
 use Rattle.laws.specs.Cut.Steps.{ScoresFit, halved-small, halved-nothing, Turn, halved-turn}
@@ -15,24 +15,27 @@ use Rattle.shrink.proofs.halve.Statement.{statement}
 use Rattle.shrink.proofs.halve.Tie as tie
 
 abbrev Inv-loop : tie.InvT-loop
-Inv-loop blocks₀ bytes costs operands offset rank blocks = ScoresFit rank costs blocks
-    × (halved bytes operands costs offset (rank - offset) blocks ≡ halved bytes operands costs offset (rank - offset) blocks₀)
+Inv-loop machine blocks₀ bytes costs operands offset rank blocks = ScoresFit rank costs blocks
+    × (halved machine bytes operands costs offset (rank - offset) blocks ≡ halved machine bytes operands costs offset (rank - offset) blocks₀)
 
 abbrev μ-loop : tie.MeasureT-loop
-μ-loop blocks₀ bytes costs operands offset rank blocks = cells offset (rank - offset) blocks
+μ-loop machine blocks₀ bytes costs operands offset rank blocks = cells offset (rank - offset) blocks
 
 loop-holds : tie.Need-loop-holds Inv-loop μ-loop
-loop-holds c = (c .pre .1, refl)
+loop-holds c = (c .pre .1 .1, refl)
 
 memory-region-requires : tie.Need-memory-region-requires Inv-loop μ-loop
 memory-region-requires c κs = search needs
 
+mul-if1 : tie.Need-mul-if1 Inv-loop μ-loop
+mul-if1 c = omega arith
+
 returns : tie.Need-returns Inv-loop μ-loop
-returns c = let l = c .before .before .before in
+returns c = let l = c .before .before .before .before in
     let a = l .before .args in
     let n : ℕ = a .rank - a .offset in
-    let small : region (a .bytes .now) (a .operands) (l .loop .blocks) (a .offset) n < 2 * cache = omega arith in
-    sym (halved-small (a .bytes .now) (a .operands) (a .costs .now) (a .offset) n (l .loop .blocks) small) ∙ l .loop .inv .1
+    let small : region (a .machine) (a .bytes .now) (a .operands) (l .loop .blocks) (a .offset) n < 2 * a .machine .cache = omega arith in
+    sym (halved-small (a .machine) (a .bytes .now) (a .operands) (a .costs .now) (a .offset) n (l .loop .blocks) small) ∙ l .loop .inv .1
 
 last-argmax-weighted-requires : tie.Need-last-argmax-weighted-requires Inv-loop μ-loop
 last-argmax-weighted-requires c κs = search needs
@@ -45,15 +48,15 @@ enum-told c = search needs
 
 returns-2 : tie.Need-returns-2 Inv-loop μ-loop
 returns-2 c = let p = c .before .before in
-    let l = p .before .before .before .before .before in
+    let l = p .before .before .before .before .before .before in
     let a = l .before .args in
     let n : ℕ = a .rank - a .offset in
     let nothing : greatestScore (l .loop .blocks) (a .costs .now) (a .offset) n ≡ none = sym (p .last-argmax-weighted .ensures) ∙ ap picked (c .enum-told .given .1) in
-    sym (halved-nothing (a .bytes .now) (a .operands) (a .costs .now) (a .offset) n (l .loop .blocks) nothing) ∙ l .loop .inv .1
+    sym (halved-nothing (a .machine) (a .bytes .now) (a .operands) (a .costs .now) (a .offset) n (l .loop .blocks) nothing) ∙ l .loop .inv .1
 
 -- the turn's begin, from where the pick is told
 abbrev top : tie.After-known-told Inv-loop μ-loop → tie.At-loop Inv-loop μ-loop
-top c = c .before .before .before .before .before .before .before .before
+top c = c .before .before .before .before .before .before .before .before .before
 
 -- the pick, where there is one
 at : (c : tie.After-known-told Inv-loop μ-loop)
@@ -87,13 +90,13 @@ turn : (c : tie.After-half Inv-loop μ-loop)
     let l = top k in
     let a = l .before .args in
     let n : ℕ = a .rank - a .offset in
-    Turn (halved (a .bytes .now) (a .operands) (a .costs .now) (a .offset) n) (a .offset) n (a .rank) (a .costs .now) (l .loop .blocks) (set (l .loop .blocks) (k .before .i .given .0 .0) (c .half .result))
+    Turn (halved (a .machine) (a .bytes .now) (a .operands) (a .costs .now) (a .offset) n) (a .offset) n (a .rank) (a .costs .now) (l .loop .blocks) (set (l .loop .blocks) (k .before .i .given .0 .0) (c .half .result))
 turn c = let k = c .before .before in
     let l = top k in
     let a = l .before .args in
     let n : ℕ = a .rank - a .offset in
-    let big : 2 * cache ≤ region (a .bytes .now) (a .operands) (l .loop .blocks) (a .offset) n = omega arith in
-    halved-turn (a .bytes .now) (a .operands) (a .costs .now) (a .offset) n (a .rank) (l .loop .blocks) (k .before .i .given .0 .0) (l .loop .inv .0) (at k) (c .half .result) (c .half .ensures) big
+    let big : 2 * a .machine .cache ≤ region (a .machine) (a .bytes .now) (a .operands) (l .loop .blocks) (a .offset) n = omega arith in
+    halved-turn (a .machine) (a .bytes .now) (a .operands) (a .costs .now) (a .offset) n (a .rank) (l .loop .blocks) (k .before .i .given .0 .0) (l .loop .inv .0) (at k) (c .half .result) (c .half .ensures) big
 
 loop-less : tie.Need-loop-less Inv-loop μ-loop
 loop-less c = turn c .fewer
@@ -109,6 +112,7 @@ halve-spec =
     μ-loop
     loop-holds
     memory-region-requires
+    mul-if1
     returns
     last-argmax-weighted-requires
     enum-known-i

@@ -6,7 +6,7 @@ use mathlib.Core.Path.{_≡_, refl, sym, ap, _∙_}
 use mathlib.Core.Option.{some, none}
 use Prim.Native.Nat.{ℕ, _-_, _≤_, _<_}
 use lib.ListN.{getD, set}
-use Rattle.strided.specs.Region.{cache, region}
+use Rattle.strided.specs.Region.{region}
 use Rattle.strided.specs.Cut.{greatestScore, cells, lessened}
 use Rattle.laws.specs.Cut.Picks.{pick-is}
 use Rattle.laws.specs.Cut.Steps.{ScoresFit, lessened-fits, lessened-nothing, Turn, lessened-turn}
@@ -15,24 +15,24 @@ use Rattle.shrink.proofs.lessen.Statement.{statement}
 use Rattle.shrink.proofs.lessen.Tie as tie
 
 abbrev Inv-loop : tie.InvT-loop
-Inv-loop blocks₀ bytes costs operands offset rank blocks = ScoresFit rank costs blocks
-    × (lessened bytes operands costs offset (rank - offset) blocks ≡ lessened bytes operands costs offset (rank - offset) blocks₀)
+Inv-loop machine blocks₀ bytes costs operands offset rank blocks = ScoresFit rank costs blocks
+    × (lessened machine bytes operands costs offset (rank - offset) blocks ≡ lessened machine bytes operands costs offset (rank - offset) blocks₀)
 
 abbrev μ-loop : tie.MeasureT-loop
-μ-loop blocks₀ bytes costs operands offset rank blocks = cells offset (rank - offset) blocks
+μ-loop machine blocks₀ bytes costs operands offset rank blocks = cells offset (rank - offset) blocks
 
 loop-holds : tie.Need-loop-holds Inv-loop μ-loop
-loop-holds c = (c .pre .1, refl)
+loop-holds c = (c .pre .1 .1, refl)
 
 memory-region-requires : tie.Need-memory-region-requires Inv-loop μ-loop
 memory-region-requires c κs = search needs
 
 returns : tie.Need-returns Inv-loop μ-loop
-returns c = let l = c .before .before .before in
+returns c = let l = c .before .before .before .before in
     let a = l .before .args in
     let n : ℕ = a .rank - a .offset in
-    let small : region (a .bytes .now) (a .operands) (l .loop .blocks) (a .offset) n ≤ cache = omega arith in
-    sym (lessened-fits (a .bytes .now) (a .operands) (a .costs .now) (a .offset) n (l .loop .blocks) small) ∙ l .loop .inv .1
+    let small : region (a .machine) (a .bytes .now) (a .operands) (l .loop .blocks) (a .offset) n ≤ a .machine .cache = omega arith in
+    sym (lessened-fits (a .machine) (a .bytes .now) (a .operands) (a .costs .now) (a .offset) n (l .loop .blocks) small) ∙ l .loop .inv .1
 
 last-argmax-weighted-requires : tie.Need-last-argmax-weighted-requires Inv-loop μ-loop
 last-argmax-weighted-requires c κs = search needs
@@ -45,15 +45,15 @@ enum-told c = search needs
 
 returns-2 : tie.Need-returns-2 Inv-loop μ-loop
 returns-2 c = let p = c .before .before in
-    let l = p .before .before .before .before .before in
+    let l = p .before .before .before .before .before .before in
     let a = l .before .args in
     let n : ℕ = a .rank - a .offset in
     let nothing : greatestScore (l .loop .blocks) (a .costs .now) (a .offset) n ≡ none = sym (p .last-argmax-weighted .ensures) ∙ ap picked (c .enum-told .given .1) in
-    sym (lessened-nothing (a .bytes .now) (a .operands) (a .costs .now) (a .offset) n (l .loop .blocks) nothing) ∙ l .loop .inv .1
+    sym (lessened-nothing (a .machine) (a .bytes .now) (a .operands) (a .costs .now) (a .offset) n (l .loop .blocks) nothing) ∙ l .loop .inv .1
 
 -- the turn's begin, from where the pick is told
 abbrev top : tie.After-known-told Inv-loop μ-loop → tie.At-loop Inv-loop μ-loop
-top c = c .before .before .before .before .before .before .before .before
+top c = c .before .before .before .before .before .before .before .before .before
 
 -- the pick, where there is one
 at : (c : tie.After-known-told Inv-loop μ-loop)
@@ -84,12 +84,12 @@ turn : (k : tie.After-known-told Inv-loop μ-loop)
     let a = l .before .args in
     let n : ℕ = a .rank - a .offset in
     let i : ℕ = k .before .i .given .0 .0 in
-    Turn (lessened (a .bytes .now) (a .operands) (a .costs .now) (a .offset) n) (a .offset) n (a .rank) (a .costs .now) (l .loop .blocks) (set (l .loop .blocks) i (getD (l .loop .blocks) i 0 - 1))
+    Turn (lessened (a .machine) (a .bytes .now) (a .operands) (a .costs .now) (a .offset) n) (a .offset) n (a .rank) (a .costs .now) (l .loop .blocks) (set (l .loop .blocks) i (getD (l .loop .blocks) i 0 - 1))
 turn k = let l = top k in
     let a = l .before .args in
     let n : ℕ = a .rank - a .offset in
-    let big : cache < region (a .bytes .now) (a .operands) (l .loop .blocks) (a .offset) n = omega arith in
-    lessened-turn (a .bytes .now) (a .operands) (a .costs .now) (a .offset) n (a .rank) (l .loop .blocks) (k .before .i .given .0 .0) (l .loop .inv .0) (at k) big
+    let big : a .machine .cache < region (a .machine) (a .bytes .now) (a .operands) (l .loop .blocks) (a .offset) n = omega arith in
+    lessened-turn (a .machine) (a .bytes .now) (a .operands) (a .costs .now) (a .offset) n (a .rank) (l .loop .blocks) (k .before .i .given .0 .0) (l .loop .inv .0) (at k) big
 
 loop-less : tie.Need-loop-less Inv-loop μ-loop
 loop-less c = turn (c .before) .fewer

@@ -4,22 +4,22 @@ use borrow.Author.Needs.{needs}
 use native.Mathlib.Omega.{arith}
 use mathlib.Core.List.{List}
 use Prim.Native.Nat.{ℕ, _-_, _≤_, _<_, _^_}
-use Rattle.strided.specs.Region.{cache, region}
+use Rattle.strided.specs.Region.{region}
 use Rattle.laws.specs.Cut.Level.{Seeking, seek-first, seek-down, seek-up, sought}
 use Rattle.shrink.proofs.level.Statement.{statement}
 use Rattle.shrink.proofs.level.Tie as tie
 
 abbrev Inv-loop : tie.InvT-loop
-Inv-loop blocks bytes costs operands offset rank t₀ lo₀ hi₀ t lo hi = Seeking bytes operands costs offset (rank - offset) blocks t lo hi × (hi < 2 ^ 64)
+Inv-loop machine blocks bytes costs operands offset rank t₀ lo₀ hi₀ t lo hi = Seeking machine bytes operands costs offset (rank - offset) blocks t lo hi × (hi < 2 ^ 64)
 
 abbrev μ-loop : tie.MeasureT-loop
-μ-loop blocks bytes costs operands offset rank t₀ lo₀ hi₀ t lo hi = hi - lo
+μ-loop machine blocks bytes costs operands offset rank t₀ lo₀ hi₀ t lo hi = hi - lo
 
 top-score-requires : tie.Need-top-score-requires Inv-loop μ-loop
 top-score-requires c κs = search needs
 
 loop-holds : tie.Need-loop-holds Inv-loop μ-loop
-loop-holds c = let s = c .before .before in (seek-first _ _ _ _ _ _ (s .pre .1) _ (c .top-score .ensures), omega arith)
+loop-holds c = let s = c .before .before in (seek-first _ _ _ _ _ _ _ (s .pre .1 .1) _ (c .top-score .ensures), omega arith)
 
 sub-mid : tie.Need-sub-mid Inv-loop μ-loop
 sub-mid c = omega arith
@@ -38,12 +38,12 @@ loop-less c = omega arith
 
 loop-again : tie.Need-loop-again Inv-loop μ-loop
 loop-again c =
-    let k = c .before .before .before in
+    let k = c .before .before .before .before in
     let l = k .before .before .before .loop in
     let a = k .before .before .before .before .before .before .args in
     let t : List ℕ = k .clip-into .last .1 .1 .1 .1 .1 .0 in
-    let big : cache < region (a .bytes .now) (a .operands) t (a .offset) (a .rank - a .offset) = omega (arith, c .before .memory-region .ensures, c .if1 .taken) in
-    (seek-down _ _ _ _ _ _ (l .t) (l .lo) (l .hi) _ (l .inv .0) (omega arith) (omega arith) (k .clip-into .ensures) big, omega arith)
+    let big : a .machine .cache < region (a .machine) (a .bytes .now) (a .operands) t (a .offset) (a .rank - a .offset) = omega (arith, c .before .before .memory-region .ensures, c .if1 .taken) in
+    (seek-down (a .machine) _ _ _ _ _ _ (l .t) (l .lo) (l .hi) _ (l .inv .0) (omega arith) (omega arith) (k .clip-into .ensures) big, omega arith)
 
 add-lo : tie.Need-add-lo Inv-loop μ-loop
 add-lo c = omega arith
@@ -53,15 +53,15 @@ loop-less-2 c = omega arith
 
 loop-again-2 : tie.Need-loop-again-2 Inv-loop μ-loop
 loop-again-2 c =
-    let k = c .before .before .before in
+    let k = c .before .before .before .before in
     let l = k .before .before .before .loop in
     let a = k .before .before .before .before .before .before .args in
     let t : List ℕ = k .clip-into .last .1 .1 .1 .1 .1 .0 in
-    let small : region (a .bytes .now) (a .operands) t (a .offset) (a .rank - a .offset) ≤ cache = omega (arith, c .before .memory-region .ensures, c .if1 .left) in
-    (seek-up _ _ _ _ _ _ (l .t) (l .lo) (l .hi) _ (l .inv .0) (omega arith) (omega arith) (k .clip-into .ensures) small, omega arith)
+    let small : region (a .machine) (a .bytes .now) (a .operands) t (a .offset) (a .rank - a .offset) ≤ a .machine .cache = omega (arith, c .before .before .memory-region .ensures, c .if1 .left) in
+    (seek-up (a .machine) _ _ _ _ _ _ (l .t) (l .lo) (l .hi) _ (l .inv .0) (omega arith) (omega arith) (k .clip-into .ensures) small, omega arith)
 
 returns : tie.Need-returns Inv-loop μ-loop
-returns c = let l = c .before .loop in sought _ _ _ _ _ _ (l .t) (l .lo) (l .hi) (l .inv .0) (c .loop-test .left)
+returns c = let l = c .before .loop in sought _ _ _ _ _ _ _ (l .t) (l .lo) (l .hi) (l .inv .0) (c .loop-test .left)
 
 pub level-spec : {M : Type 1} → statement M
 level-spec =

@@ -20,10 +20,13 @@ lessen-far-requires c κs =
     let bytes : List ℕ = a .bytes .now in
     let n : ℕ = a .rank - a .offset in
     let b : List ℕ = a .blocks .now in
-    let half : List ℕ = halved bytes (a .operands) (a .costs .now) (a .offset) n b in (
+    let half : List ℕ = halved (a .machine) bytes (a .operands) (a .costs .now) (a .offset) n b in (
       s .pre .0,
-      subst⁻¹ (λ (l : List ℕ). ScoresFit (a .rank) (a .costs .now) l) (h .halve .ensures)
-          (scores-le (a .rank) (a .costs .now) b half (halved-le bytes (a .operands) (a .costs .now) (a .offset) n b) (s .pre .1)),
+      (
+        s .pre .1 .0,
+        subst⁻¹ (λ (l : List ℕ). ScoresFit (a .rank) (a .costs .now) l) (h .halve .ensures)
+            (scores-le (a .rank) (a .costs .now) b half (halved-le (a .machine) bytes (a .operands) (a .costs .now) (a .offset) n b) (s .pre .1 .1)),
+      ),
     )
 
 returns : tie.Need-returns
@@ -31,7 +34,7 @@ unfolding shrunk
 returns c =
     let h = c .before .before in
     let a = h .before .before .args in
-    c .lessen-far .ensures ∙ ap (lessened (a .bytes .now) (a .operands) (a .costs .now) (a .offset) (a .rank - a .offset)) (h .halve .ensures)
+    c .lessen-far .ensures ∙ ap (lessened (a .machine) (a .bytes .now) (a .operands) (a .costs .now) (a .offset) (a .rank - a .offset)) (h .halve .ensures)
 
 pub shrink-spec : {M : Type 1} → statement M
 shrink-spec = tie.close (tie.spec halve-requires lessen-far-requires returns)
