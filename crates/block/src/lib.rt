@@ -1,11 +1,12 @@
 // Cutting: block sizes whose region fits the cache, by the axis ranks, the byte strides and the costs of the plan's axes.
 use region::memory_region;
-use shrink::BLOCK_MEMORY_SIZE;
 use shrink::shrink;
+use strided::Machine;
 ghost use mathlib.Core.Path.{_≡_};
 ghost use Prim.Native.Nat.{_-_, _<_, _≤_};
 ghost use lib.ListN.{getD};
 ghost use Rattle.strided.specs.Base.{least};
+ghost use Rattle.strided.specs.Machine.{Allowed};
 ghost use Rattle.strided.specs.Region.{byteAt};
 ghost use Rattle.strided.specs.Cut.{leastRank, leastByte, keepsFirst, ones, cutting};
 ghost use Rattle.laws.specs.Cut.Steps.{ScoresFit};
@@ -109,6 +110,7 @@ fn set_ones(blocks: &mut [u64; 64], offset: usize, rank: usize)
 // Cutting, on the axes from offset to rank: a first axis that is innermost for every operand is kept whole, and the rule starts over on
 // the next tail. The ranks are those of all the plan's axes on every level.
 pub fn compute_blocks_at<'a>(
+    machine: Machine,
     blocks: &mut [u64; 64],
     bytes: &'a [u64; 512],
     costs: &'a [u64; 64],
@@ -117,22 +119,32 @@ pub fn compute_blocks_at<'a>(
     offset: usize,
     rank: usize,
 )
+    requires { ⌜ Allowed machine ⌝ }
     requires { ⌜ (((0 < operands) × (operands ≤ 8)) × ((offset ≤ rank) × (rank ≤ 64))) × ScoresFit rank (now costs) (now blocks) ⌝ }
-    ensures { λ _. ⌜ now (blocks .exit) ≡ cutting (now (bytes .entry)) operands (now (costs .entry)) (now (ranks .entry)) offset (rank - offset) (now (blocks .entry)) ⌝ }
+    ensures { λ _. ⌜ now (blocks .exit) ≡ cutting machine (now (bytes .entry)) operands (now (costs .entry)) (now (ranks .entry)) offset (rank - offset) (now (blocks .entry)) ⌝ }
 {
     if offset == rank {
         return;
     }
-    if memory_region(blocks, bytes, operands, offset, rank) <= BLOCK_MEMORY_SIZE {
+    if memory_region(machine, blocks, bytes, operands, offset, rank) <= machine.cache {
         return;
     }
     if keeps_first(ranks, operands, offset, rank) {
-        compute_blocks_at(blocks, bytes, costs, ranks, operands, offset + 1, rank);
+        compute_blocks_at(
+            machine,
+            blocks,
+            bytes,
+            costs,
+            ranks,
+            operands,
+            offset + 1,
+            rank,
+        );
         return;
     }
-    if BLOCK_MEMORY_SIZE < least_byte(bytes, operands, offset, rank) {
+    if machine.cache < least_byte(bytes, operands, offset, rank) {
         set_ones(blocks, offset, rank);
         return;
     }
-    shrink(blocks, bytes, costs, operands, offset, rank);
+    shrink(machine, blocks, bytes, costs, operands, offset, rank);
 }

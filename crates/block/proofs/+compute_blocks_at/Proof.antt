@@ -5,7 +5,7 @@ use mathlib.Core.Path.{sym, subst, _∙_}
 use Prim.Native.Nat.{ℕ, _<_, _≤_, _-_, _+_}
 use borrow.Fn.Kinds.{In, Out}
 use borrow.Fn.PlainCycle.{Measures, is, falls, and}
-use Rattle.strided.specs.Region.{cache, region}
+use Rattle.strided.specs.Region.{region}
 use Rattle.laws.specs.Cut.Cases.{cut-empty, cut-fits, cut-keeps, cut-flat, cut-less}
 use Rattle.region.proofs.memory_region.Kinds as memory-region-kinds
 use Rattle.region.proofs.memory_region.Reads as memory-region-reads
@@ -25,7 +25,7 @@ use Rattle.block.proofs.+compute_blocks_at.Tie.{close}
 
 -- the axes of the tail: rank less offset
 abbrev μ : Measures 2 kinds.ps ℕ
-μ κs a = a .1 .1 .1 .1 .1 .1 .0 - a .1 .1 .1 .1 .1 .0
+μ κs a = a .1 .1 .1 .1 .1 .1 .1 .0 - a .1 .1 .1 .1 .1 .1 .0
 
 -- what is asked at a tail of t axes, and of the call, whose tail is shorter
 abbrev Asked : ℕ → In 2 kinds.ps
@@ -66,23 +66,23 @@ module _ (t : ℕ) where
   returns : lts.Need-returns (callees t) (Asked t) reads.Post
   returns c =
       let a = c .before .args in
-      sym (cut-empty (a .bytes .now) (a .operands) (a .costs .now) (a .ranks .now) (a .offset) (a .rank) (a .blocks .now) (c .if1 .taken))
+      sym (cut-empty (a .machine) (a .bytes .now) (a .operands) (a .costs .now) (a .ranks .now) (a .offset) (a .rank) (a .blocks .now) (c .if1 .taken))
 
   memory-region-requires : lts.Need-memory-region-requires (callees t) (Asked t) reads.Post
-  memory-region-requires c κs = omega arith
+  memory-region-requires c κs = (c .before .before .pre .1 .0, omega arith)
 
   returns-2 : lts.Need-returns-2 (callees t) (Asked t) reads.Post
   returns-2 c =
-      let a = c .before .before .before .before .args in
-      let small : region (a .bytes .now) (a .operands) (a .blocks .now) (a .offset) (a .rank - a .offset) ≤ cache = omega arith in
-      sym (cut-fits (a .bytes .now) (a .operands) (a .costs .now) (a .ranks .now) (a .offset) (a .rank) (a .blocks .now) (omega arith) small)
+      let a = c .before .before .before .before .before .args in
+      let small : region (a .machine) (a .bytes .now) (a .operands) (a .blocks .now) (a .offset) (a .rank - a .offset) ≤ a .machine .cache = omega arith in
+      sym (cut-fits (a .machine) (a .bytes .now) (a .operands) (a .costs .now) (a .ranks .now) (a .offset) (a .rank) (a .blocks .now) (omega arith) small)
 
   keeps-first-requires : lts.Need-keeps-first-requires (callees t) (Asked t) reads.Post
   keeps-first-requires c κs = omega arith
 
   -- the arguments, from where the first axis is tested
   abbrev start : lts.After-keeps-first (callees t) (Asked t) reads.Post → lts.Start (callees t) (Asked t) reads.Post
-  start k = k .before .before .before .before .before
+  start k = k .before .before .before .before .before .before
 
   -- there the tail has an axis, and its region is too large
   some : (k : lts.After-keeps-first (callees t) (Asked t) reads.Post) → start k .args .offset < start k .args .rank
@@ -90,7 +90,7 @@ module _ (t : ℕ) where
 
   big : (k : lts.After-keeps-first (callees t) (Asked t) reads.Post)
       → let a = start k .args in
-      cache < region (a .bytes .now) (a .operands) (a .blocks .now) (a .offset) (a .rank - a .offset)
+      a .machine .cache < region (a .machine) (a .bytes .now) (a .operands) (a .blocks .now) (a .offset) (a .rank - a .offset)
   big k = omega arith
 
   add-compute-blocks-at : lts.Need-add-compute-blocks-at (callees t) (Asked t) reads.Post
@@ -100,14 +100,14 @@ module _ (t : ℕ) where
   compute-blocks-at-requires c κs =
       let s = start (c .before .before) in
       let below : s .args .rank - (s .args .offset + 1) < t = omega (arith, s .pre .0) in
-      (below, (omega arith, s .pre .1 .1))
+      (below, (s .pre .1 .0, (omega arith, s .pre .1 .1 .1)))
 
   returns-3 : lts.Need-returns-3 (callees t) (Asked t) reads.Post
   returns-3 c =
       let k = c .before .before .before in
       let a = start k .args in
       c .compute-blocks-at .ensures
-      ∙ sym (cut-keeps (a .bytes .now) (a .operands) (a .costs .now) (a .ranks .now) (a .offset) (a .rank) (a .blocks .now) (some k) (big k)
+      ∙ sym (cut-keeps (a .machine) (a .bytes .now) (a .operands) (a .costs .now) (a .ranks .now) (a .offset) (a .rank) (a .blocks .now) (some k) (big k)
       (sym (k .keeps-first .ensures) ∙ c .before .before .if3 .taken))
 
   least-byte-requires : lts.Need-least-byte-requires (callees t) (Asked t) reads.Post
@@ -118,24 +118,24 @@ module _ (t : ℕ) where
 
   returns-4 : lts.Need-returns-4 (callees t) (Asked t) reads.Post
   returns-4 c =
-      let m = c .before .before .before in
+      let m = c .before .before .before .before in
       let k = m .before .before in
       let a = start k .args in
       c .set-ones .ensures
-      ∙ sym (cut-flat (a .bytes .now) (a .operands) (a .costs .now) (a .ranks .now) (a .offset) (a .rank) (a .blocks .now) (some k) (big k)
-      (sym (k .keeps-first .ensures) ∙ m .before .if3 .left) (subst (λ (x : ℕ). cache < x) (m .least-byte .ensures) (c .before .before .if4 .taken)))
+      ∙ sym (cut-flat (a .machine) (a .bytes .now) (a .operands) (a .costs .now) (a .ranks .now) (a .offset) (a .rank) (a .blocks .now) (some k) (big k)
+      (sym (k .keeps-first .ensures) ∙ m .before .if3 .left) (subst (λ (x : ℕ). a .machine .cache < x) (m .least-byte .ensures) (c .before .before .if4 .taken)))
 
   shrink-requires : lts.Need-shrink-requires (callees t) (Asked t) reads.Post
-  shrink-requires c κs = (omega arith, start (c .before .before .before .before) .pre .1 .1)
+  shrink-requires c κs = let s = start (c .before .before .before .before .before) in (s .pre .1 .0, (omega arith, s .pre .1 .1 .1))
 
   returns-5 : lts.Need-returns-5 (callees t) (Asked t) reads.Post
   returns-5 c =
-      let m = c .before .before .before in
+      let m = c .before .before .before .before in
       let k = m .before .before in
       let a = start k .args in
       c .shrink .ensures
-      ∙ sym (cut-less (a .bytes .now) (a .operands) (a .costs .now) (a .ranks .now) (a .offset) (a .rank) (a .blocks .now) (some k) (big k)
-      (sym (k .keeps-first .ensures) ∙ m .before .if3 .left) (subst (λ (x : ℕ). x ≤ cache) (m .least-byte .ensures) (c .before .before .if4 .left)))
+      ∙ sym (cut-less (a .machine) (a .bytes .now) (a .operands) (a .costs .now) (a .ranks .now) (a .offset) (a .rank) (a .blocks .now) (some k) (big k)
+      (sym (k .keeps-first .ensures) ∙ m .before .if3 .left) (subst (λ (x : ℕ). x ≤ a .machine .cache) (m .least-byte .ensures) (c .before .before .if4 .left)))
 
 pub +compute-blocks-at-spec : {M : Type 1} → statement M
 +compute-blocks-at-spec = close μ λ t. lts.spec (callees t)
