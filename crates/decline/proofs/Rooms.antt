@@ -3,7 +3,7 @@ use mathlib.Core.Path.{_≡_, ap}
 use mathlib.Core.Bool.{Bool, true, false, cond}
 use mathlib.Core.List.{List}
 use Prim.Native.Nat.{ℕ, _+_, _-_, _*_, _%_, _≤_, _<_, _^_}
-use native.Mathlib.Nat.{le-refl, zero-add, mul-le-mul}
+use native.Mathlib.Nat.{le-refl, zero-add, mul-le-mul, mod-lt}
 use native.Mathlib.Omega.{arith}
 use lib.IntN.{ℤ}
 use lib.ListN.{length}
@@ -20,10 +20,10 @@ cond-part true x = le-refl x
 cond-part false x = omega arith
 
 -- the product of two remainders
-pub rests-fit : (a b : ℕ) → a % 64 * (b % 64) ≤ 3969
-rests-fit a b =
-    let p : a % 64 ≤ 63 = omega arith in
-    let q : b % 64 ≤ 63 = omega arith in
+pub rests-fit : (l a b : ℕ) → 0 < l → l ≤ 256 → a % l * (b % l) ≤ 65025
+rests-fit l a b h k =
+    let p : a % l ≤ 255 = omega (arith, mod-lt a h) in
+    let q : b % l ≤ 255 = omega (arith, mod-lt b h) in
     mul-le-mul p q
 
 -- a slab over all axes has 1 + reach elements

@@ -3,10 +3,12 @@
 // and for whole lines look at it, and everything stays within 1 + reach, which row 6 bounds.
 use layout::sizes::less_one;
 use layout::sizes::magnitude;
+use strided::Machine;
 ghost use mathlib.Core.Path.{_≡_};
 ghost use Prim.Native.Nat.{_+_, _-_, _*_, _^_, _<_, _≤_};
 ghost use lib.ListN.{length};
 ghost use Rattle.strided.specs.Base.{sum, every};
+ghost use Rattle.strided.specs.Machine.{Allowed};
 ghost use Rattle.strided.specs.Region.{byteTable};
 ghost use Rattle.strided.specs.Decline.{firstCut, passes, declined};
 ghost use Rattle.laws.specs.Cut.Rising.{before, wayOf, adds};
@@ -30,10 +32,11 @@ fn first_cut<'a>(extents: &'a [u64; 64], blocks: &'a [u64; 64], rank: usize) -> 
 }
 
 // Whether n elements are whole lines. Two remainders tell it, where n * size may pass 64 bits.
-fn whole_lines(n: u64, size: u64) -> bool
-    ensures { λ r. ⌜ r ≡ wholeLines size n ⌝ }
+fn whole_lines(machine: Machine, n: u64, size: u64) -> bool
+    requires { ⌜ Allowed machine ⌝ }
+    ensures { λ r. ⌜ r ≡ wholeLines machine size n ⌝ }
 {
-    (n % 64) * (size % 64) % 64 == 0
+    (n % machine.line) * (size % machine.line) % machine.line == 0
 }
 
 // The size of operand k's stride on axis i.
@@ -103,6 +106,7 @@ fn span_so_far<'a>(
 
 // Whether axis i steps by whole lines and by no less than the span so far.
 fn keeps_apart<'a>(
+    machine: Machine,
     size: u64,
     strides: &'a [i64; 512],
     extents: &'a [u64; 64],
@@ -112,11 +116,12 @@ fn keeps_apart<'a>(
     w: u64,
     i: usize,
 ) -> bool
+    requires { ⌜ Allowed machine ⌝ }
     requires { ⌜ ((k < 8) × (i < 64)) × ((cut ≤ rank) × (rank ≤ 64)) × (w + sum (wayOf (strideSize (now strides) k) (now extents)) cut (rank - cut) ≤ 2 ^ 63) ⌝ }
-    ensures { λ r. ⌜ r ≡ separates size (strideSize (now (strides .entry)) k) (now (extents .entry)) cut (rank - cut) w i ⌝ }
+    ensures { λ r. ⌜ r ≡ separates machine size (strideSize (now (strides .entry)) k) (now (extents .entry)) cut (rank - cut) w i ⌝ }
 {
     let s = stride_size(strides, k, i);
-    if whole_lines(s, size) {
+    if whole_lines(machine, s, size) {
         span_so_far(strides, extents, cut, rank, k, w, i) <= s
     } else {
         false
@@ -125,6 +130,7 @@ fn keeps_apart<'a>(
 
 // Whether every axis from the cut on keeps the slabs of w elements apart.
 fn tail_separated<'a>(
+    machine: Machine,
     size: u64,
     strides: &'a [i64; 512],
     extents: &'a [u64; 64],
@@ -133,12 +139,13 @@ fn tail_separated<'a>(
     k: usize,
     w: u64,
 ) -> bool
+    requires { ⌜ Allowed machine ⌝ }
     requires { ⌜ (k < 8) × ((cut ≤ rank) × (rank ≤ 64)) × (w + sum (wayOf (strideSize (now strides) k) (now extents)) cut (rank - cut) ≤ 2 ^ 63) ⌝ }
-    ensures { λ r. ⌜ r ≡ every (separates size (strideSize (now (strides .entry)) k) (now (extents .entry)) cut (rank - cut) w) cut (rank - cut) ⌝ }
+    ensures { λ r. ⌜ r ≡ every (separates machine size (strideSize (now (strides .entry)) k) (now (extents .entry)) cut (rank - cut) w) cut (rank - cut) ⌝ }
 {
     let mut i = cut;
     while i < rank {
-        if keeps_apart(size, strides, extents, cut, rank, k, w, i) {
+        if keeps_apart(machine, size, strides, extents, cut, rank, k, w, i) {
             i += 1;
         } else {
             return false;
@@ -149,6 +156,7 @@ fn tail_separated<'a>(
 
 // Whether no two slabs of operand k share a line.
 fn slabs_share_no_line<'a>(
+    machine: Machine,
     sizes: &'a [u64],
     strides: &'a [i64; 512],
     extents: &'a [u64; 64],
@@ -156,16 +164,17 @@ fn slabs_share_no_line<'a>(
     rank: usize,
     k: usize,
 ) -> bool
+    requires { ⌜ Allowed machine ⌝ }
     requires { ⌜ ((k < length (now sizes)) × (cut ≤ rank)) × WithinReach (now sizes) (now strides) (now extents) rank ⌝ }
-    ensures { λ r. ⌜ r ≡ passes (byteTable (now (sizes .entry)) (now (strides .entry))) (now (sizes .entry)) (now (extents .entry)) cut rank k ⌝ }
+    ensures { λ r. ⌜ r ≡ passes machine (byteTable (now (sizes .entry)) (now (strides .entry))) (now (sizes .entry)) (now (extents .entry)) cut rank k ⌝ }
 {
     let size = sizes[k];
     if size == 0 {
         return true;
     }
     let w = slab_width(strides, extents, cut, k);
-    if whole_lines(w, size) {
-        tail_separated(size, strides, extents, cut, rank, k, w)
+    if whole_lines(machine, w, size) {
+        tail_separated(machine, size, strides, extents, cut, rank, k, w)
     } else {
         false
     }
@@ -173,14 +182,16 @@ fn slabs_share_no_line<'a>(
 
 // Whether every operand's slabs at the first cut, which is not axis 0, share no line.
 pub fn declines_tiles<'a>(
+    machine: Machine,
     sizes: &'a [u64],
     strides: &'a [i64; 512],
     extents: &'a [u64; 64],
     blocks: &'a [u64; 64],
     rank: usize,
 ) -> bool
+    requires { ⌜ Allowed machine ⌝ }
     requires { ⌜ WithinReach (now sizes) (now strides) (now extents) rank ⌝ }
-    ensures { λ r. ⌜ r ≡ declined (byteTable (now (sizes .entry)) (now (strides .entry))) (now (sizes .entry)) (length (now (sizes .entry))) (now (extents .entry)) rank (now (blocks .entry)) ⌝ }
+    ensures { λ r. ⌜ r ≡ declined machine (byteTable (now (sizes .entry)) (now (strides .entry))) (now (sizes .entry)) (length (now (sizes .entry))) (now (extents .entry)) rank (now (blocks .entry)) ⌝ }
 {
     let cut = first_cut(extents, blocks, rank);
     if cut == 0 {
@@ -192,7 +203,7 @@ pub fn declines_tiles<'a>(
     let operands = sizes.len();
     let mut k = 0;
     while k < operands {
-        if slabs_share_no_line(sizes, strides, extents, cut, rank, k) {
+        if slabs_share_no_line(machine, sizes, strides, extents, cut, rank, k) {
             k += 1;
         } else {
             return false;

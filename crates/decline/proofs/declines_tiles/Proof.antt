@@ -15,10 +15,10 @@ use Rattle.decline.proofs.declines_tiles.Statement.{statement}
 use Rattle.decline.proofs.declines_tiles.Tie as tie
 
 abbrev Inv-loop : tie.InvT-loop
-Inv-loop sizes strides extents blocks rank cut operands k₀ k = (k ≤ operands) × (every (passes (byteTable sizes strides) sizes extents cut rank) 0 k ≡ true)
+Inv-loop machine sizes strides extents blocks rank cut operands k₀ k = (k ≤ operands) × (every (passes machine (byteTable sizes strides) sizes extents cut rank) 0 k ≡ true)
 
 abbrev μ-loop : tie.MeasureT-loop
-μ-loop sizes strides extents blocks rank cut operands k₀ k = operands - k
+μ-loop machine sizes strides extents blocks rank cut operands k₀ k = operands - k
 
 first-cut-requires : tie.Need-first-cut-requires Inv-loop μ-loop
 first-cut-requires c κs = search needs
@@ -26,17 +26,17 @@ first-cut-requires c κs = search needs
 returns : tie.Need-returns Inv-loop μ-loop
 returns c = let f = c .before .first-cut in
     let a = c .before .before .before .args in
-    sym (declined-first (a .sizes .now) (a .strides .now) (a .extents .now) (a .rank) (a .blocks .now) (f .result) (f .ensures .0) (c .if1 .taken))
+    sym (declined-first (a .machine) (a .sizes .now) (a .strides .now) (a .extents .now) (a .rank) (a .blocks .now) (f .result) (f .ensures .0) (c .if1 .taken))
 
 returns-2 : tie.Need-returns-2 Inv-loop μ-loop
 returns-2 c = let f = c .before .before .first-cut in
     let a = c .before .before .before .before .args in
-    sym (declined-none (a .sizes .now) (a .strides .now) (a .extents .now) (a .rank) (a .blocks .now) (f .result) (f .ensures .0) (omega (arith, c .before .if1 .left)) (c .if2 .taken))
+    sym (declined-none (a .machine) (a .sizes .now) (a .strides .now) (a .extents .now) (a .rank) (a .blocks .now) (f .result) (f .ensures .0) (omega (arith, c .before .if1 .left)) (c .if2 .taken))
 
 -- the test of one operand at the cut
 test : tie.After-first-cut Inv-loop μ-loop → ℕ → Bool
 test c = let a = c .before .before .args in
-    passes (byteTable (a .sizes .now) (a .strides .now)) (a .sizes .now) (a .extents .now) (c .first-cut .result) (a .rank)
+    passes (a .machine) (byteTable (a .sizes .now) (a .strides .now)) (a .sizes .now) (a .extents .now) (c .first-cut .result) (a .rank)
 
 loop-holds : tie.Need-loop-holds Inv-loop μ-loop
 loop-holds c = (omega arith, every-none _)
@@ -61,12 +61,12 @@ rest : (c : tie.Else2 Inv-loop μ-loop) (r : Bool)
     → let f = c .before .before in
     let a = f .before .before .args in
     every (test f) 0 (length (a .sizes .now)) ≡ r
-    → r ≡ declined (byteTable (a .sizes .now) (a .strides .now)) (a .sizes .now) (length (a .sizes .now)) (a .extents .now) (a .rank) (a .blocks .now)
+    → r ≡ declined (a .machine) (byteTable (a .sizes .now) (a .strides .now)) (a .sizes .now) (length (a .sizes .now)) (a .extents .now) (a .rank) (a .blocks .now)
 unfolding test
 rest c r e =
     let f = c .before .before .first-cut in
     let a = c .before .before .before .before .args in
-    sym (declined-rest (a .sizes .now) (a .strides .now) (a .extents .now) (a .rank) (a .blocks .now) (f .result) (f .ensures .0) r
+    sym (declined-rest (a .machine) (a .sizes .now) (a .strides .now) (a .extents .now) (a .rank) (a .blocks .now) (f .result) (f .ensures .0) r
     (omega (arith, c .before .if1 .left)) (omega (arith, c .if2 .left, f .ensures .1)) e)
 
 returns-3 : tie.Need-returns-3 Inv-loop μ-loop

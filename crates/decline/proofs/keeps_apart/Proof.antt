@@ -22,21 +22,21 @@ span-so-far-requires c κs = search needs
 -- the test of the line is that of the stride that was read
 lined : (c : tie.After-whole-lines) (t : Bool) → c .whole-lines .result ≡ t
     → let a = c .before .before .args in
-    wholeLines (a .size) (strideSize (a .strides .now) (a .k) (a .i)) ≡ t
-lined c t e = sym (ap (wholeLines (c .before .before .args .size)) (c .before .stride-size .ensures)) ∙ sym (c .whole-lines .ensures) ∙ e
+    wholeLines (a .machine) (a .size) (strideSize (a .strides .now) (a .k) (a .i)) ≡ t
+lined c t e = let a = c .before .before .args in sym (ap (wholeLines (a .machine) (a .size)) (c .before .stride-size .ensures)) ∙ sym (c .whole-lines .ensures) ∙ e
 
 returns : tie.Need-returns
 returns c = let s = c .before .before in
     let a = s .before .before .args in
     let f : ℕ → ℕ = strideSize (a .strides .now) (a .k) in
     ap₂ leb (c .span-so-far .ensures) (s .before .stride-size .ensures)
-    ∙ sym (separates-line (a .size) f (a .extents .now) (a .cut) (a .rank - a .cut) (a .w) (a .i) (lined s _ (c .before .if1 .taken)))
+    ∙ sym (separates-line (a .machine) (a .size) f (a .extents .now) (a .cut) (a .rank - a .cut) (a .w) (a .i) (lined s _ (c .before .if1 .taken)))
 
 returns-2 : tie.Need-returns-2
 returns-2 c = let s = c .before in
     let a = s .before .before .args in
     let f : ℕ → ℕ = strideSize (a .strides .now) (a .k) in
-    sym (separates-off (a .size) f (a .extents .now) (a .cut) (a .rank - a .cut) (a .w) (a .i) (lined s _ (c .if1 .left)))
+    sym (separates-off (a .machine) (a .size) f (a .extents .now) (a .cut) (a .rank - a .cut) (a .w) (a .i) (lined s _ (c .if1 .left)))
 
 pub keeps-apart-spec : {M : Type 1} → statement M
 keeps-apart-spec =

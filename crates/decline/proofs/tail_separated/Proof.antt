@@ -13,14 +13,14 @@ use Rattle.decline.proofs.tail_separated.Statement.{statement}
 use Rattle.decline.proofs.tail_separated.Tie as tie
 
 abbrev Inv-loop : tie.InvT-loop
-Inv-loop size strides extents cut rank k w i₀ i = (cut ≤ i) × (i ≤ rank) × (every (separates size (strideSize strides k) extents cut (rank - cut) w) cut (i - cut) ≡ true)
+Inv-loop machine size strides extents cut rank k w i₀ i = (cut ≤ i) × (i ≤ rank) × (every (separates machine size (strideSize strides k) extents cut (rank - cut) w) cut (i - cut) ≡ true)
 
 abbrev μ-loop : tie.MeasureT-loop
-μ-loop size strides extents cut rank k w i₀ i = rank - i
+μ-loop machine size strides extents cut rank k w i₀ i = rank - i
 
 -- the test at one axis
 test : tie.Start Inv-loop μ-loop → ℕ → Bool
-test s = let a = s .args in separates (a .size) (strideSize (a .strides .now) (a .k)) (a .extents .now) (a .cut) (a .rank - a .cut) (a .w)
+test s = let a = s .args in separates (a .machine) (a .size) (strideSize (a .strides .now) (a .k)) (a .extents .now) (a .cut) (a .rank - a .cut) (a .w)
 
 loop-holds : tie.Need-loop-holds Inv-loop μ-loop
 loop-holds c = (omega arith, omega arith, every-start _ _)
