@@ -3,12 +3,14 @@
 // of that axis, so they must all stay; a block on an axis whose byte stride is a multiple of the way puts that many of them into one set.
 use region::sat_add;
 use region::sat_mul;
+use strided::Machine;
 ghost use mathlib.Core.Path.{_≡_};
 ghost use mathlib.Core.Bool.{_&&_};
 ghost use Prim.Native.Nat.{_+_, _*_, _<_, _≤_, min};
 ghost use lib.Dec.{ltb};
 ghost use lib.ListN.{length, set};
-ghost use Rattle.strided.specs.Region.{live, byteAt};
+ghost use Rattle.strided.specs.Machine.{Allowed, fixedFour};
+ghost use Rattle.strided.specs.Region.{byteAt};
 ghost use Rattle.strided.specs.Fit.{reuse, aliases, fitted};
 ghost use Rattle.laws.specs.Cut.Saturate.{cap};
 ghost use Rattle.l1.specs.Live.{liveAxes, productOf, Of, loadBy, entersBy, shortensBy, mostBy, chosenSize};
@@ -20,21 +22,36 @@ pub struct L1Sets {
 }
 
 impl L1Sets {
+    // The four numbers that document 01 fixes, and the record of them: the text keeps it.
     pub const LINE: u64 = 64;
+
+    pub const CACHE: u64 = 32768;
 
     pub const WAY: u64 = 4096;
 
     // The lines of a set that may be live: its eight less a quarter, which replacement and prefetching take.
     pub const LIVE: u64 = 6;
 
+    pub fn fixed() -> Machine
+        ensures { λ r. ⌜ r ≡ fixedFour ⌝ }
+    {
+        Machine {
+            line: Self::LINE,
+            cache: Self::CACHE,
+            way: Self::WAY,
+            live: Self::LIVE,
+        }
+    }
+
     // Operand k's first axis with a byte stride below a line; the rank where there is none.
-    fn reuse_axis(bytes: &[u64; 512], rank: usize, k: usize) -> usize
+    fn reuse_axis(machine: Machine, bytes: &[u64; 512], rank: usize, k: usize) -> usize
+        requires { ⌜ Allowed machine ⌝ }
         requires { ⌜ (k < 8) × (rank ≤ 64) ⌝ }
-        ensures { λ r. ⌜ r ≡ reuse (now (bytes .entry)) rank k ⌝ }
+        ensures { λ r. ⌜ r ≡ reuse machine (now (bytes .entry)) rank k ⌝ }
     {
         let mut i = 0;
         while i < rank {
-            if bytes[k * 64 + i] < Self::LINE {
+            if bytes[k * 64 + i] < machine.line {
                 return i;
             }
             i += 1;
@@ -42,23 +59,31 @@ impl L1Sets {
         i
     }
 
-    fn live_axes<'a>(bytes: &'a [u64; 512], sizes: &'a [u64], rank: usize, k: usize) -> usize
+    fn live_axes<'a>(
+        machine: Machine,
+        bytes: &'a [u64; 512],
+        sizes: &'a [u64],
+        rank: usize,
+        k: usize,
+    ) -> usize
+        requires { ⌜ Allowed machine ⌝ }
         requires { ⌜ ((k < 8) × (rank ≤ 64)) × (k < length (now sizes)) ⌝ }
-        ensures { λ r. ⌜ r ≡ liveAxes (now (bytes .entry)) (now (sizes .entry)) rank k ⌝ }
+        ensures { λ r. ⌜ r ≡ liveAxes machine (now (bytes .entry)) (now (sizes .entry)) rank k ⌝ }
     {
         if sizes[k] == 0 {
             return 0;
         }
-        let c = Self::reuse_axis(bytes, rank, k);
+        let c = Self::reuse_axis(machine, bytes, rank, k);
         if c < rank { c } else { 0 }
     }
 
-    fn of<'a>(bytes: &'a [u64; 512], sizes: &'a [u64], rank: usize) -> L1Sets
+    fn of<'a>(machine: Machine, bytes: &'a [u64; 512], sizes: &'a [u64], rank: usize) -> L1Sets
+        requires { ⌜ Allowed machine ⌝ }
         requires { ⌜ (rank ≤ 64) × (length (now sizes) ≡ 2) ⌝ }
-        ensures { λ r. ⌜ Of (now (bytes .entry)) (now (sizes .entry)) rank r ⌝ }
+        ensures { λ r. ⌜ Of machine (now (bytes .entry)) (now (sizes .entry)) rank r ⌝ }
     {
-        let first = Self::live_axes(bytes, sizes, rank, 0);
-        let second = Self::live_axes(bytes, sizes, rank, 1);
+        let first = Self::live_axes(machine, bytes, sizes, rank, 0);
+        let second = Self::live_axes(machine, bytes, sizes, rank, 1);
         L1Sets {
             first: first,
             second: second,
@@ -66,28 +91,37 @@ impl L1Sets {
     }
 
     // Whether every step along a byte stride lands in the same set.
-    fn in_one_set(s: u64) -> bool
-        ensures { λ r. ⌜ r ≡ aliases s ⌝ }
+    fn in_one_set(machine: Machine, s: u64) -> bool
+        requires { ⌜ Allowed machine ⌝ }
+        ensures { λ r. ⌜ r ≡ aliases machine s ⌝ }
     {
         if s == 0 {
             return false;
         }
-        s % Self::WAY == 0
+        s % machine.way == 0
     }
 
     // The lines of one set that operand k keeps live along its first axes.
-    fn operand_load<'a>(bytes: &'a [u64; 512], blocks: &'a [u64; 64], k: usize, axes: usize) -> u64
+    fn operand_load<'a>(
+        machine: Machine,
+        bytes: &'a [u64; 512],
+        blocks: &'a [u64; 64],
+        k: usize,
+        axes: usize,
+    ) -> u64
+        requires { ⌜ Allowed machine ⌝ }
         requires { ⌜ (k < 8) × (axes ≤ 64) ⌝ }
-        ensures { λ r. ⌜ r ≡ min (productOf (now (bytes .entry)) (now (blocks .entry)) k axes) cap ⌝ }
+        ensures { λ r. ⌜ r ≡ min (productOf machine (now (bytes .entry)) (now (blocks .entry)) k axes) (cap machine) ⌝ }
     {
         if axes == 0 {
             return 0;
         }
+        let top = 2 * machine.cache + 1;
         let mut m: u64 = 1;
         let mut i = 0;
         while i < axes {
-            if Self::in_one_set(bytes[k * 64 + i]) {
-                m = sat_mul(m, blocks[i]);
+            if Self::in_one_set(machine, bytes[k * 64 + i]) {
+                m = sat_mul(m, blocks[i], top);
             }
             i += 1;
         }
@@ -95,81 +129,102 @@ impl L1Sets {
     }
 
     // The lines of one set that both operands keep live.
-    fn load<'a>(self, bytes: &'a [u64; 512], blocks: &'a [u64; 64]) -> u64
+    fn load<'a>(self, machine: Machine, bytes: &'a [u64; 512], blocks: &'a [u64; 64]) -> u64
+        requires { ⌜ Allowed machine ⌝ }
         requires { ⌜ (self .first ≤ 64) × (self .second ≤ 64) ⌝ }
-        ensures { λ r. ⌜ r ≡ min (loadBy (now (bytes .entry)) self (now (blocks .entry))) cap ⌝ }
+        ensures { λ r. ⌜ r ≡ min (loadBy machine (now (bytes .entry)) self (now (blocks .entry))) (cap machine) ⌝ }
     {
-        let a = Self::operand_load(bytes, blocks, 0, self.first);
-        let b = Self::operand_load(bytes, blocks, 1, self.second);
-        sat_add(a, b)
+        let a = Self::operand_load(machine, bytes, blocks, 0, self.first);
+        let b = Self::operand_load(machine, bytes, blocks, 1, self.second);
+        sat_add(a, b, 2 * machine.cache + 1)
     }
 
     // The block of axis i is put at x. Answers the load.
-    fn load_with(self, bytes: &[u64; 512], blocks: &mut [u64; 64], i: usize, x: u64) -> u64
+    fn load_with(
+        self,
+        machine: Machine,
+        bytes: &[u64; 512],
+        blocks: &mut [u64; 64],
+        i: usize,
+        x: u64,
+    ) -> u64
+        requires { ⌜ Allowed machine ⌝ }
         requires { ⌜ ((self .first ≤ 64) × (self .second ≤ 64)) × (i < 64) ⌝ }
-        ensures load { λ r. ⌜ r ≡ min (loadBy (now (bytes .entry)) self (set (now (blocks .entry)) i x)) cap ⌝ }
+        ensures load { λ r. ⌜ r ≡ min (loadBy machine (now (bytes .entry)) self (set (now (blocks .entry)) i x)) (cap machine) ⌝ }
         ensures blocks { λ _. ⌜ now (blocks .exit) ≡ set (now (blocks .entry)) i x ⌝ }
     {
         blocks[i] = x;
-        self.load(bytes, blocks)
+        self.load(machine, bytes, blocks)
     }
 
     // Whether axis i is one of operand k's first axes and brings its lines into one set.
-    fn enters_of(bytes: &[u64; 512], axes: usize, i: usize, k: usize) -> bool
+    fn enters_of(machine: Machine, bytes: &[u64; 512], axes: usize, i: usize, k: usize) -> bool
+        requires { ⌜ Allowed machine ⌝ }
         requires { ⌜ (k < 8) × (i < 64) ⌝ }
-        ensures { λ r. ⌜ r ≡ ltb i axes && aliases (byteAt (now (bytes .entry)) k i) ⌝ }
+        ensures { λ r. ⌜ r ≡ ltb i axes && aliases machine (byteAt (now (bytes .entry)) k i) ⌝ }
     {
         if i < axes {
-            Self::in_one_set(bytes[k * 64 + i])
+            Self::in_one_set(machine, bytes[k * 64 + i])
         } else {
             false
         }
     }
 
     // Whether axis i enters a product.
-    fn enters(self, bytes: &[u64; 512], i: usize) -> bool
+    fn enters(self, machine: Machine, bytes: &[u64; 512], i: usize) -> bool
+        requires { ⌜ Allowed machine ⌝ }
         requires { ⌜ i < 64 ⌝ }
-        ensures { λ r. ⌜ r ≡ entersBy (now (bytes .entry)) self i ⌝ }
+        ensures { λ r. ⌜ r ≡ entersBy machine (now (bytes .entry)) self i ⌝ }
     {
-        if Self::enters_of(bytes, self.first, i, 0) {
+        if Self::enters_of(machine, bytes, self.first, i, 0) {
             return true;
         }
-        Self::enters_of(bytes, self.second, i, 1)
+        Self::enters_of(machine, bytes, self.second, i, 1)
     }
 
     // Whether the fit shortens axis i: the order in which a cell of the chosen operand is written never changes, so an axis along which it
     // does not move is left alone.
     fn shortened<'a>(
         self,
+        machine: Machine,
         bytes: &'a [u64; 512],
         strides: &'a [i64; 512],
         chosen: usize,
         blocks: &'a [u64; 64],
         i: usize,
     ) -> bool
+        requires { ⌜ Allowed machine ⌝ }
         requires { ⌜ (i < 64) × (chosen < 8) ⌝ }
-        ensures { λ r. ⌜ r ≡ shortensBy (now (bytes .entry)) self (chosenSize (now (strides .entry)) chosen) (now (blocks .entry)) i ⌝ }
+        ensures { λ r. ⌜ r ≡ shortensBy machine (now (bytes .entry)) self (chosenSize (now (strides .entry)) chosen) (now (blocks .entry)) i ⌝ }
     {
         if strides[chosen * 64 + i] == 0 {
             return false;
         }
-        if self.enters(bytes, i) {
+        if self.enters(machine, bytes, i) {
             1 < blocks[i]
         } else {
             false
         }
     }
 
-    // The block of axis i is put at the greatest up to `whole` with load at most 6, where block 1 has one.
-    fn widen(self, bytes: &[u64; 512], blocks: &mut [u64; 64], i: usize, whole: u64)
-        requires { ⌜ (((self .first ≤ 64) × (self .second ≤ 64)) × (i < 64)) × ((1 ≤ whole) × (loadBy (now bytes) self (set (now blocks) i 1) ≤ live)) ⌝ }
-        ensures { λ _. ⌜ now (blocks .exit) ≡ set (now (blocks .entry)) i (mostBy (now (bytes .entry)) self (now (blocks .entry)) i whole) ⌝ }
+    // The block of axis i is put at the greatest up to `whole` with load at most the live lines, where block 1 has one.
+    fn widen(
+        self,
+        machine: Machine,
+        bytes: &[u64; 512],
+        blocks: &mut [u64; 64],
+        i: usize,
+        whole: u64,
+    )
+        requires { ⌜ Allowed machine ⌝ }
+        requires { ⌜ (((self .first ≤ 64) × (self .second ≤ 64)) × (i < 64)) × ((1 ≤ whole) × (loadBy machine (now bytes) self (set (now blocks) i 1) ≤ machine .live)) ⌝ }
+        ensures { λ _. ⌜ now (blocks .exit) ≡ set (now (blocks .entry)) i (mostBy machine (now (bytes .entry)) self (now (blocks .entry)) i whole) ⌝ }
     {
         let mut lo: u64 = 1;
         let mut hi = whole;
         while lo < hi {
             let mid = hi - (hi - lo) / 2;
-            if self.load_with(bytes, blocks, i, mid) <= Self::LIVE {
+            if self.load_with(machine, bytes, blocks, i, mid) <= machine.live {
                 lo = mid;
             } else {
                 hi = mid - 1;
@@ -178,9 +233,10 @@ impl L1Sets {
         blocks[i] = lo;
     }
 
-    // The blocks with load at most 6, or with every block that may be shortened at 1. The outermost axis is shortened first, so that the
+    // The blocks with load at most the live lines, or with every block that may be shortened at 1. The outermost axis is shortened first, so that the
     // inner run stays long; blocks only shrink, so that the region still fits.
     pub fn fit<'a>(
+        machine: Machine,
         blocks: &mut [u64; 64],
         bytes: &'a [u64; 512],
         sizes: &'a [u64],
@@ -188,20 +244,21 @@ impl L1Sets {
         chosen: usize,
         rank: usize,
     )
+        requires { ⌜ Allowed machine ⌝ }
         requires { ⌜ ((rank ≤ 64) × (chosen < 8)) × (length (now sizes) ≡ 2) ⌝ }
-        ensures { λ _. ⌜ now (blocks .exit) ≡ fitted (now (bytes .entry)) (now (sizes .entry)) rank (chosenSize (now (strides .entry)) chosen) (now (blocks .entry)) ⌝ }
+        ensures { λ _. ⌜ now (blocks .exit) ≡ fitted machine (now (bytes .entry)) (now (sizes .entry)) rank (chosenSize (now (strides .entry)) chosen) (now (blocks .entry)) ⌝ }
     {
-        let sets = Self::of(bytes, sizes, rank);
-        if sets.load(bytes, blocks) <= Self::LIVE {
+        let sets = Self::of(machine, bytes, sizes, rank);
+        if sets.load(machine, bytes, blocks) <= machine.live {
             return;
         }
         let mut n = rank;
         while 0 < n {
             let i = n - 1;
-            if sets.shortened(bytes, strides, chosen, blocks, i) {
+            if sets.shortened(machine, bytes, strides, chosen, blocks, i) {
                 let whole = blocks[i];
-                if sets.load_with(bytes, blocks, i, 1) <= Self::LIVE {
-                    sets.widen(bytes, blocks, i, whole);
+                if sets.load_with(machine, bytes, blocks, i, 1) <= machine.live {
+                    sets.widen(machine, bytes, blocks, i, whole);
                     return;
                 }
             }

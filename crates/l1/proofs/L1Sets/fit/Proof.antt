@@ -9,7 +9,6 @@ use mathlib.Core.Logic.{⊎-elim}
 use Prim.Native.Nat.{ℕ, _-_, _≤_, _<_}
 use lib.ListN.{getD, set}
 use lib.Seq.{set-set}
-use Rattle.strided.specs.Region.{live}
 use Rattle.strided.specs.Fit.{load, shortens, fitFrom, fitted}
 use Rattle.laws.specs.Cut.Cases.{shortens-above, fit-none, fit-skip, fit-on, fit-last, fitted-small, fitted-big}
 use Rattle.l1.specs.Live.{Of, loadBy, mostBy, chosenSize}
@@ -18,18 +17,18 @@ use Rattle.l1.proofs.L1Sets.fit.Statement.{statement}
 use Rattle.l1.proofs.L1Sets.fit.Tie as tie
 
 abbrev Inv-loop : tie.InvT-loop
-Inv-loop blocks₀ bytes sizes strides chosen rank sets n₀ blocks n = (n ≤ rank) × (Of bytes sizes rank sets)
-    × (fitFrom bytes sizes rank (chosenSize strides chosen) n blocks ≡ fitted bytes sizes rank (chosenSize strides chosen) blocks₀)
+Inv-loop machine blocks₀ bytes sizes strides chosen rank sets n₀ blocks n = (n ≤ rank) × (Of machine bytes sizes rank sets)
+    × (fitFrom machine bytes sizes rank (chosenSize strides chosen) n blocks ≡ fitted machine bytes sizes rank (chosenSize strides chosen) blocks₀)
 
 abbrev μ-loop : tie.MeasureT-loop
-μ-loop blocks₀ bytes sizes strides chosen rank sets n₀ blocks n = n
+μ-loop machine blocks₀ bytes sizes strides chosen rank sets n₀ blocks n = n
 
 of-requires : tie.Need-of-requires Inv-loop μ-loop
 of-requires c κs = search needs
 
 -- the place where the live axes are told, from the loop's begin
 abbrev told : tie.At-loop Inv-loop μ-loop → tie.After-of Inv-loop μ-loop
-told l = l .before .before .before .before
+told l = l .before .before .before .before .before
 
 -- the stride sizes of the chosen operand
 abbrev chosenBy : tie.After-of Inv-loop μ-loop → ℕ → ℕ
@@ -39,31 +38,31 @@ chosenBy s = let a = s .before .before .args in chosenSize (a .strides .now) (a 
 short : (s : tie.After-of Inv-loop μ-loop) → (s .of .result .first ≤ 64) × (s .of .result .second ≤ 64)
 short s =
     let a = s .before .before .args in
-    let r : a .rank ≤ 64 = s .before .before .pre .0 .0 in (
-      omega (arith, r, first-le (a .bytes .now) (a .sizes .now) (a .rank) (s .of .result) (s .of .ensures)),
-      omega (arith, r, second-le (a .bytes .now) (a .sizes .now) (a .rank) (s .of .result) (s .of .ensures)),
+    let r : a .rank ≤ 64 = s .before .before .pre .1 .0 .0 in (
+      omega (arith, r, first-le (a .machine) (a .bytes .now) (a .sizes .now) (a .rank) (s .of .result) (s .of .ensures)),
+      omega (arith, r, second-le (a .machine) (a .bytes .now) (a .sizes .now) (a .rank) (s .of .result) (s .of .ensures)),
     )
 
 -- the load that the code tests is the definition's
 whole-load : (s : tie.After-of Inv-loop μ-loop) (b : List ℕ)
     → let a = s .before .before .args in
-    load (a .bytes .now) (a .sizes .now) (a .rank) b ≡ loadBy (a .bytes .now) (s .of .result) b
-whole-load s b = let a = s .before .before .args in load-by (a .bytes .now) (a .sizes .now) (a .rank) (s .of .result) (s .of .ensures) b
+    load (a .machine) (a .bytes .now) (a .sizes .now) (a .rank) b ≡ loadBy (a .machine) (a .bytes .now) (s .of .result) b
+whole-load s b = let a = s .before .before .args in load-by (a .machine) (a .bytes .now) (a .sizes .now) (a .rank) (s .of .result) (s .of .ensures) b
 
 load-requires : tie.Need-load-requires Inv-loop μ-loop
-load-requires c κs = short (c .before)
+load-requires c κs = (c .before .before .before .pre .0, short (c .before))
 
 returns : tie.Need-returns Inv-loop μ-loop
-returns c = let s = c .before .before .before in
+returns c = let s = c .before .before .before .before in
     let a = s .before .before .args in
-    sym (fitted-small (a .bytes .now) (a .sizes .now) (a .rank) (chosenBy s) (a .blocks .now) (omega (arith, whole-load s (a .blocks .now), c .before .load .ensures, c .if1 .taken)))
+    sym (fitted-small (a .machine) (a .bytes .now) (a .sizes .now) (a .rank) (chosenBy s) (a .blocks .now) (omega (arith, whole-load s (a .blocks .now), c .before .before .load .ensures, c .if1 .taken)))
 
 loop-holds : tie.Need-loop-holds Inv-loop μ-loop
-loop-holds c = let s = c .before .before .before in
+loop-holds c = let s = c .before .before .before .before in
     let a = s .before .before .args in (
       omega arith,
       s .of .ensures,
-      sym (fitted-big (a .bytes .now) (a .sizes .now) (a .rank) (chosenBy s) (a .blocks .now) (omega (arith, whole-load s (a .blocks .now), c .before .load .ensures, c .if1 .left))),
+      sym (fitted-big (a .machine) (a .bytes .now) (a .sizes .now) (a .rank) (chosenBy s) (a .blocks .now) (omega (arith, whole-load s (a .blocks .now), c .before .before .load .ensures, c .if1 .left))),
     )
 
 sub-i : tie.Need-sub-i Inv-loop μ-loop
@@ -76,12 +75,12 @@ shortened-requires c κs = search needs
 test : (h : tie.After-shortened Inv-loop μ-loop)
     → let l = h .before .before .before in
     let a = told l .before .before .args in
-    (t : Bool) → h .shortened .result ≡ t → shortens (a .bytes .now) (a .sizes .now) (a .rank) (chosenBy (told l)) (l .loop .blocks) (l .loop .n - 1) ≡ t
+    (t : Bool) → h .shortened .result ≡ t → shortens (a .machine) (a .bytes .now) (a .sizes .now) (a .rank) (chosenBy (told l)) (l .loop .blocks) (l .loop .n - 1) ≡ t
 test h t e =
     let l = h .before .before .before in
     let s = told l in
     let a = s .before .before .args in
-    shortens-by (a .bytes .now) (a .sizes .now) (a .rank) (s .of .result) (s .of .ensures) (chosenBy s) (l .loop .blocks) (l .loop .n - 1) ∙ sym (h .shortened .ensures) ∙ e
+    shortens-by (a .machine) (a .bytes .now) (a .sizes .now) (a .rank) (s .of .result) (s .of .ensures) (chosenBy s) (l .loop .blocks) (l .loop .n - 1) ∙ sym (h .shortened .ensures) ∙ e
 
 mul-whole : tie.Need-mul-whole Inv-loop μ-loop
 mul-whole c = omega arith
@@ -90,28 +89,10 @@ element-copy-out-whole : tie.Need-element-copy-out-whole Inv-loop μ-loop
 element-copy-out-whole c = omega arith
 
 load-with-requires : tie.Need-load-with-requires Inv-loop μ-loop
-load-with-requires c κs = (short (told (c .before .before .before .before .before .before)), omega arith)
+load-with-requires c κs = let s = told (c .before .before .before .before .before .before) in (s .before .before .pre .0, (short s, omega arith))
 
 widen-requires : tie.Need-widen-requires Inv-loop μ-loop
 widen-requires c κs =
-    let w = c .before .before in
-    let h = w .before .before .before .before in
-    let l = h .before .before .before in
-    let s = told l in
-    let a = s .before .before .args in
-    let b : List ℕ = l .loop .blocks in
-    let i : ℕ = l .loop .n - 1 in
-    let above = shortens-above (a .bytes .now) (a .sizes .now) (a .rank) (chosenBy s) b i (test h true (w .before .before .before .if2 .taken)) in
-    let small : loadBy (a .bytes .now) (s .of .result) (set b i 1) ≤ live = omega (arith, w .load-with .ensures .0, c .before .if3 .taken) in (
-      (short s, omega arith),
-      (
-        omega arith,
-        subst⁻¹ (λ (x : List ℕ). loadBy (a .bytes .now) (s .of .result) x ≤ live) (ap (λ (x : List ℕ). set x i 1) (w .load-with .ensures .1) ∙ set-set b i 1 1) small,
-      ),
-    )
-
-returns-2 : tie.Need-returns-2 Inv-loop μ-loop
-returns-2 c =
     let w = c .before .before .before in
     let h = w .before .before .before .before in
     let l = h .before .before .before in
@@ -119,13 +100,34 @@ returns-2 c =
     let a = s .before .before .args in
     let b : List ℕ = l .loop .blocks in
     let i : ℕ = l .loop .n - 1 in
+    let above = shortens-above (a .machine) (a .bytes .now) (a .sizes .now) (a .rank) (chosenBy s) b i (test h true (w .before .before .before .if2 .taken)) in
+    let small : loadBy (a .machine) (a .bytes .now) (s .of .result) (set b i 1) ≤ a .machine .live = omega (arith, w .load-with .ensures .0, c .before .if3 .taken) in (
+      s .before .before .pre .0,
+      (
+        (short s, omega arith),
+        (
+          omega arith,
+          subst⁻¹ (λ (x : List ℕ). loadBy (a .machine) (a .bytes .now) (s .of .result) x ≤ a .machine .live) (ap (λ (x : List ℕ). set x i 1) (w .load-with .ensures .1) ∙ set-set b i 1 1) small,
+        ),
+      ),
+    )
+
+returns-2 : tie.Need-returns-2 Inv-loop μ-loop
+returns-2 c =
+    let w = c .before .before .before .before in
+    let h = w .before .before .before .before in
+    let l = h .before .before .before in
+    let s = told l in
+    let a = s .before .before .args in
+    let b : List ℕ = l .loop .blocks in
+    let i : ℕ = l .loop .n - 1 in
     let one : List ℕ = set b i 1 in
-    let small : load (a .bytes .now) (a .sizes .now) (a .rank) one ≤ live = omega (arith, whole-load s one, w .load-with .ensures .0, c .before .before .if3 .taken) in
+    let small : load (a .machine) (a .bytes .now) (a .sizes .now) (a .rank) one ≤ a .machine .live = omega (arith, whole-load s one, w .load-with .ensures .0, c .before .before .if3 .taken) in
     c .widen .ensures
-    ∙ ap (λ (x : List ℕ). set x i (mostBy (a .bytes .now) (s .of .result) x i (getD b i 0))) (w .load-with .ensures .1)
-    ∙ set-set b i 1 (mostBy (a .bytes .now) (s .of .result) one i (getD b i 0))
-    ∙ ap (set b i) (sym (most-by (a .bytes .now) (a .sizes .now) (a .rank) (s .of .result) (s .of .ensures) b i 1))
-    ∙ sym (fit-last (a .bytes .now) (a .sizes .now) (a .rank) (chosenBy s) b (l .loop .n) (omega arith) (test h true (w .before .before .before .if2 .taken)) small) ∙ l .loop .inv .2
+    ∙ ap (λ (x : List ℕ). set x i (mostBy (a .machine) (a .bytes .now) (s .of .result) x i (getD b i 0))) (w .load-with .ensures .1)
+    ∙ set-set b i 1 (mostBy (a .machine) (a .bytes .now) (s .of .result) one i (getD b i 0))
+    ∙ ap (set b i) (sym (most-by (a .machine) (a .bytes .now) (a .sizes .now) (a .rank) (s .of .result) (s .of .ensures) b i 1))
+    ∙ sym (fit-last (a .machine) (a .bytes .now) (a .sizes .now) (a .rank) (chosenBy s) b (l .loop .n) (omega arith) (test h true (w .before .before .before .if2 .taken)) small) ∙ l .loop .inv .2
 
 sub-n : tie.Need-sub-n Inv-loop μ-loop
 sub-n c = omega arith
@@ -141,12 +143,12 @@ loop-again c = let h = c .before in
     let b : List ℕ = l .loop .blocks in
     let n : ℕ = l .loop .n in
     let one : List ℕ = set b (n - 1) 1 in
-    let from : List ℕ → List ℕ = fitFrom (a .bytes .now) (a .sizes .now) (a .rank) (chosenBy s) (n - 1) in
+    let from : List ℕ → List ℕ = fitFrom (a .machine) (a .bytes .now) (a .sizes .now) (a .rank) (chosenBy s) (n - 1) in
     ⊎-elim
     (λ w.
-    let big : live < load (a .bytes .now) (a .sizes .now) (a .rank) one = omega (arith, whole-load s one, w .3 .ensures .0, w .4 .left) in
-    (omega arith, l .loop .inv .1, ap from (w .5 ∙ w .3 .ensures .1) ∙ sym (fit-on (a .bytes .now) (a .sizes .now) (a .rank) (chosenBy s) b n (omega arith) (test h true (w .0 .taken)) big) ∙ l .loop .inv .2))
-    (λ w. (omega arith, l .loop .inv .1, ap from (w .1) ∙ sym (fit-skip (a .bytes .now) (a .sizes .now) (a .rank) (chosenBy s) b n (omega arith) (test h false (w .0 .left))) ∙ l .loop .inv .2))
+    let big : a .machine .live < load (a .machine) (a .bytes .now) (a .sizes .now) (a .rank) one = omega (arith, whole-load s one, w .3 .ensures .0, w .5 .left) in
+    (omega arith, l .loop .inv .1, ap from (w .6 ∙ w .3 .ensures .1) ∙ sym (fit-on (a .machine) (a .bytes .now) (a .sizes .now) (a .rank) (chosenBy s) b n (omega arith) (test h true (w .0 .taken)) big) ∙ l .loop .inv .2))
+    (λ w. (omega arith, l .loop .inv .1, ap from (w .1) ∙ sym (fit-skip (a .machine) (a .bytes .now) (a .sizes .now) (a .rank) (chosenBy s) b n (omega arith) (test h false (w .0 .left))) ∙ l .loop .inv .2))
     (c .if2 .came)
 
 returns-3 : tie.Need-returns-3 Inv-loop μ-loop
@@ -155,7 +157,7 @@ returns-3 c = let l = c .before in
     let a = s .before .before .args in
     let b : List ℕ = l .loop .blocks in
     let e : l .loop .n ≡ 0 = omega arith in
-    sym (ap (λ (n : ℕ). fitFrom (a .bytes .now) (a .sizes .now) (a .rank) (chosenBy s) n b) e ∙ fit-none (a .bytes .now) (a .sizes .now) (a .rank) (chosenBy s) b) ∙ l .loop .inv .2
+    sym (ap (λ (n : ℕ). fitFrom (a .machine) (a .bytes .now) (a .sizes .now) (a .rank) (chosenBy s) n b) e ∙ fit-none (a .machine) (a .bytes .now) (a .sizes .now) (a .rank) (chosenBy s) b) ∙ l .loop .inv .2
 
 pub fit-spec : {M : Type 1} → statement M
 fit-spec =

@@ -15,7 +15,7 @@ shared-slice-read-if1 c = search needs
 
 returns : tie.Need-returns
 returns c = let a = c .before .before .before .args in
-    sym (live-empty (a .bytes .now) (a .sizes .now) (a .rank) (a .k) (eq-eqb _ _ (c .if1 .taken)))
+    sym (live-empty (a .machine) (a .bytes .now) (a .sizes .now) (a .rank) (a .k) (eq-eqb _ _ (c .if1 .taken)))
 
 reuse-axis-requires : tie.Need-reuse-axis-requires
 reuse-axis-requires c κs = search needs
@@ -23,11 +23,11 @@ reuse-axis-requires c κs = search needs
 returns-2 : tie.Need-returns-2
 returns-2 c = let a = c .before .before .before .before .before .args in
     c .before .reuse-axis .ensures
-    ∙ sym (live-some (a .bytes .now) (a .sizes .now) (a .rank) (a .k) (ne-eqb _ _ (c .before .before .if1 .left)) (subst (λ (x : ℕ). x < a .rank) (c .before .reuse-axis .ensures) (c .if2 .taken)))
+    ∙ sym (live-some (a .machine) (a .bytes .now) (a .sizes .now) (a .rank) (a .k) (ne-eqb _ _ (c .before .before .if1 .left)) (subst (λ (x : ℕ). x < a .rank) (c .before .reuse-axis .ensures) (c .if2 .taken)))
 
 returns-3 : tie.Need-returns-3
 returns-3 c = let a = c .before .before .before .before .before .args in
-    sym (live-none (a .bytes .now) (a .sizes .now) (a .rank) (a .k) (subst (λ (x : ℕ). a .rank ≤ x) (c .before .reuse-axis .ensures) (c .if2 .left)))
+    sym (live-none (a .machine) (a .bytes .now) (a .sizes .now) (a .rank) (a .k) (subst (λ (x : ℕ). a .rank ≤ x) (c .before .reuse-axis .ensures) (c .if2 .left)))
 
 pub live-axes-spec : {M : Type 1} → statement M
 live-axes-spec =
