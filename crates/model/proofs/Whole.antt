@@ -10,7 +10,7 @@ use lib.IntN.{ℤ}
 use lib.ListN.{length}
 use borrow.Author.Tests.{eqb-true, eq-eqb, ne-eqb}
 use Rattle.strided.specs.Base.{every}
-use Rattle.strided.specs.Region.{cache, byteTable, region}
+use Rattle.strided.specs.Region.{byteTable, region}
 use Rattle.strided.specs.Costs.{costs}
 use Rattle.strided.specs.Cut.{planRanks, cutting}
 use Rattle.strided.specs.Decline.{declined}
@@ -18,6 +18,7 @@ use Rattle.strided.specs.Fit.{fitted}
 use Rattle.strided.specs.Plan.{grows, fittedFor, cutBlocks}
 use Rattle.strided.specs.declared.Purpose.{Purpose}
 use Rattle.strided.specs.declared.Purpose.the-variants.{Pointwise, PointwiseInto, Fold}
+use Rattle.strided.specs.declared.Machine.{Machine}
 use Rattle.laws.specs.Cut.Same.{SameBytes, SameCosts, SameRanks, region-same, cutting-same, fitted-same}
 use Rattle.laws.specs.Cut.Tables.{strideSize}
 use Rattle.model.specs.Exits.{inOrder, exits}
@@ -25,10 +26,10 @@ use Rattle.model.specs.Exits.{inOrder, exits}
 -- ---- the exits, by the tests of the code
 
 -- no cut whatever the extents: no table is looked at
-pub whole-in-order : (sizes es : List ℕ) (strides : List ℤ) (rank : ℕ) (u : Purpose) → inOrder sizes strides rank ≡ true → cutBlocks sizes es strides rank u ≡ es
+pub whole-in-order : (mc : Machine) (sizes es : List ℕ) (strides : List ℤ) (rank : ℕ) (u : Purpose) → inOrder sizes strides rank ≡ true → cutBlocks mc sizes es strides rank u ≡ es
 unfolding cutBlocks inOrder
-whole-in-order sizes es strides rank u e =
-    rw (go (eqb rank 0) (leb (region (byteTable sizes strides) (length sizes) es 0 rank) cache) (every (grows sizes strides rank) 0 (length sizes)) e)
+whole-in-order mc sizes es strides rank u e =
+    rw (go (eqb rank 0) (leb (region mc (byteTable sizes strides) (length sizes) es 0 rank) (mc .cache)) (every (grows sizes strides rank) 0 (length sizes)) e)
   where
     go : (a b c : Bool) → a || c ≡ true → a || (b || c) ≡ true
     go true b c q = refl
@@ -44,8 +45,8 @@ module _ (sizes : List ℕ) (strides : List ℤ) (rank : ℕ) where
   unfolding inOrder
   in-order-some n = rw (ne-eqb rank 0 n)
 
-module _ (bytes sizes es : List ℕ) (strides : List ℤ) (rank : ℕ) where
-  pub exits-fits : leb (region bytes (length sizes) es 0 rank) cache ≡ true → exits bytes sizes es strides rank ≡ true
+module _ (mc : Machine) (bytes sizes es : List ℕ) (strides : List ℤ) (rank : ℕ) where
+  pub exits-fits : leb (region mc bytes (length sizes) es 0 rank) (mc .cache) ≡ true → exits mc bytes sizes es strides rank ≡ true
   unfolding exits
   exits-fits e = rw e (go (eqb rank 0))
     where
@@ -53,65 +54,65 @@ module _ (bytes sizes es : List ℕ) (strides : List ℤ) (rank : ℕ) where
       go true = refl
       go false = refl
 
-  pub exits-not : inOrder sizes strides rank ≡ false → leb (region bytes (length sizes) es 0 rank) cache ≡ false → exits bytes sizes es strides rank ≡ false
+  pub exits-not : inOrder sizes strides rank ≡ false → leb (region mc bytes (length sizes) es 0 rank) (mc .cache) ≡ false → exits mc bytes sizes es strides rank ≡ false
   unfolding exits inOrder
   exits-not i e = rw e i
 
 -- ---- the whole
 
-module _ (sizes es : List ℕ) (strides : List ℤ) (rank : ℕ) (u : Purpose)
+module _ (mc : Machine) (sizes es : List ℕ) (strides : List ℤ) (rank : ℕ) (u : Purpose)
     (bytes : List ℕ) (same : SameBytes (length sizes) rank bytes (byteTable sizes strides)) where
   true-table : List ℕ
   true-table = byteTable sizes strides
 
   -- what cutting gives, by the definition's tables
   ruled : List ℕ
-  ruled = cutting true-table (length sizes) (costs strides (length sizes) rank) (planRanks sizes strides rank) 0 rank es
+  ruled = cutting mc true-table (length sizes) (costs strides (length sizes) rank) (planRanks sizes strides rank) 0 rank es
 
-  whole : cutBlocks sizes es strides rank u
-      ≡ cond (exits true-table sizes es strides rank) es
-      (cond (declined true-table sizes (length sizes) es rank ruled) es (fittedFor u true-table sizes strides rank ruled))
+  whole : cutBlocks mc sizes es strides rank u
+      ≡ cond (exits mc true-table sizes es strides rank) es
+      (cond (declined mc true-table sizes (length sizes) es rank ruled) es (fittedFor mc u true-table sizes strides rank ruled))
   unfolding cutBlocks exits ruled true-table
   whole = refl
 
-  exits-is : exits bytes sizes es strides rank ≡ exits true-table sizes es strides rank
+  exits-is : exits mc bytes sizes es strides rank ≡ exits mc true-table sizes es strides rank
   unfolding exits true-table
   exits-is =
-      ap (λ (r : ℕ). eqb rank 0 || (leb r cache || every (grows sizes strides rank) 0 (length sizes)))
-      (region-same (length sizes) rank bytes (byteTable sizes strides) same es 0 rank (omega arith))
+      ap (λ (r : ℕ). eqb rank 0 || (leb r (mc .cache) || every (grows sizes strides rank) 0 (length sizes)))
+      (region-same mc (length sizes) rank bytes (byteTable sizes strides) same es 0 rank (omega arith))
 
-  fit-is : (v : Purpose) (b : List ℕ) → fittedFor v bytes sizes strides rank b ≡ fittedFor v true-table sizes strides rank b
+  fit-is : (v : Purpose) (b : List ℕ) → fittedFor mc v bytes sizes strides rank b ≡ fittedFor mc v true-table sizes strides rank b
   unfolding true-table
   fit-is Pointwise b = refl
   fit-is (Fold c) b = refl
   fit-is (PointwiseInto c) b = go (eqb (length sizes) 2) refl
     where
       go : (t : Bool) → eqb (length sizes) 2 ≡ t
-          → cond t (fitted bytes sizes rank (strideSize strides c) b) b ≡ cond t (fitted (byteTable sizes strides) sizes rank (strideSize strides c) b) b
+          → cond t (fitted mc bytes sizes rank (strideSize strides c) b) b ≡ cond t (fitted mc (byteTable sizes strides) sizes rank (strideSize strides c) b) b
       go true e =
-          fitted-same (length sizes) rank bytes (byteTable sizes strides) same (omega (arith, eqb-true (length sizes) 2 e)) sizes (strideSize strides c) b
+          fitted-same mc (length sizes) rank bytes (byteTable sizes strides) same (omega (arith, eqb-true (length sizes) 2 e)) sizes (strideSize strides c) b
       go false e = refl
 
-  pub whole-exits : exits bytes sizes es strides rank ≡ true → cutBlocks sizes es strides rank u ≡ es
+  pub whole-exits : exits mc bytes sizes es strides rank ≡ true → cutBlocks mc sizes es strides rank u ≡ es
   whole-exits e = whole ∙ rw (sym exits-is ∙ e)
 
   module _ (cs : List ℕ) (even : SameCosts rank cs (costs strides (length sizes) rank))
       (ranks : List (List ℕ)) (ranked : SameRanks (length sizes) rank ranks (planRanks sizes strides rank))
-      (b : List ℕ) (is : b ≡ cutting bytes (length sizes) cs ranks 0 rank es) (on : exits bytes sizes es strides rank ≡ false) where
+      (b : List ℕ) (is : b ≡ cutting mc bytes (length sizes) cs ranks 0 rank es) (on : exits mc bytes sizes es strides rank ≡ false) where
     ruled-is : b ≡ ruled
     unfolding ruled true-table
     ruled-is =
         is
-        ∙ cutting-same (length sizes) rank bytes (byteTable sizes strides) same cs (costs strides (length sizes) rank) even
+        ∙ cutting-same mc (length sizes) rank bytes (byteTable sizes strides) same cs (costs strides (length sizes) rank) even
         ranks (planRanks sizes strides rank) ranked rank 0 (omega arith) es
 
-    declined-is : declined true-table sizes (length sizes) es rank ruled ≡ declined (byteTable sizes strides) sizes (length sizes) es rank b
+    declined-is : declined mc true-table sizes (length sizes) es rank ruled ≡ declined mc (byteTable sizes strides) sizes (length sizes) es rank b
     unfolding true-table
-    declined-is = ap (declined (byteTable sizes strides) sizes (length sizes) es rank) (sym ruled-is)
+    declined-is = ap (declined mc (byteTable sizes strides) sizes (length sizes) es rank) (sym ruled-is)
 
-    pub whole-declined : declined (byteTable sizes strides) sizes (length sizes) es rank b ≡ true → es ≡ cutBlocks sizes es strides rank u
+    pub whole-declined : declined mc (byteTable sizes strides) sizes (length sizes) es rank b ≡ true → es ≡ cutBlocks mc sizes es strides rank u
     whole-declined d = sym (whole ∙ rw (sym exits-is ∙ on, declined-is ∙ d))
 
-    pub whole-fitted : declined (byteTable sizes strides) sizes (length sizes) es rank b ≡ false → {c : List ℕ} → c ≡ fittedFor u bytes sizes strides rank b → c ≡ cutBlocks sizes es strides rank u
+    pub whole-fitted : declined mc (byteTable sizes strides) sizes (length sizes) es rank b ≡ false → {c : List ℕ} → c ≡ fittedFor mc u bytes sizes strides rank b → c ≡ cutBlocks mc sizes es strides rank u
     whole-fitted d f =
-        f ∙ sym (whole ∙ rw (sym exits-is ∙ on, declined-is ∙ d) (sym (ap (fittedFor u bytes sizes strides rank) ruled-is ∙ fit-is u ruled)))
+        f ∙ sym (whole ∙ rw (sym exits-is ∙ on, declined-is ∙ d) (sym (ap (fittedFor mc u bytes sizes strides rank) ruled-is ∙ fit-is u ruled)))

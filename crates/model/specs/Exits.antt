@@ -6,8 +6,9 @@ use lib.Dec.{ltb, leb, eqb}
 use lib.IntN.{ℤ}
 use lib.ListN.{length}
 use Rattle.strided.specs.Base.{every}
-use Rattle.strided.specs.Region.{cache, region}
+use Rattle.strided.specs.Region.{region}
 use Rattle.strided.specs.Plan.{grows}
+use Rattle.strided.specs.declared.Machine.{Machine}
 use Rattle.laws.specs.Cut.Tables.{strideSize}
 
 -- operand k has "a nonzero first stride and strictly growing stride sizes"
@@ -22,6 +23,6 @@ unfoldable pub inOrder : List ℕ → List ℤ → ℕ → Bool
 inOrder sizes strides rank = eqb rank 0 || every (grows sizes strides rank) 0 (length sizes)
 
 -- "No cut if rank is 0, the region is at most 32,768, or every operand has size above 0 .."
-unfoldable pub exits : List ℕ → List ℕ → List ℕ → List ℤ → ℕ → Bool
-exits bytes sizes es strides rank =
-    eqb rank 0 || (leb (region bytes (length sizes) es 0 rank) cache || every (grows sizes strides rank) 0 (length sizes))
+unfoldable pub exits : Machine → List ℕ → List ℕ → List ℕ → List ℤ → ℕ → Bool
+exits mc bytes sizes es strides rank =
+    eqb rank 0 || (leb (region mc bytes (length sizes) es 0 rank) (mc .cache) || every (grows sizes strides rank) 0 (length sizes))

@@ -5,7 +5,7 @@ use decline::declines_tiles;
 use l1::L1Sets;
 use layout::sizes::magnitude;
 use region::memory_region;
-use shrink::BLOCK_MEMORY_SIZE;
+use strided::Machine;
 use strided::Purpose;
 ghost use mathlib.Core.Path.{_≡_};
 ghost use Prim.Native.Nat.{_+_, _<_, _≤_};
@@ -16,7 +16,8 @@ ghost use mathlib.Core.Bool.{false};
 ghost use Rattle.strided.specs.Layout.{chosen};
 ghost use Rattle.strided.specs.Refusals.{missing};
 ghost use Rattle.strided.specs.Plan.{grows, fittedFor, cutBlocks};
-ghost use Rattle.strided.specs.Region.{cache, region};
+ghost use Rattle.strided.specs.Machine.{Allowed};
+ghost use Rattle.strided.specs.Region.{region};
 ghost use Rattle.model.specs.Plannable.{Plannable, Products, Tables};
 ghost use Rattle.model.specs.ByteRows.{byteRows};
 ghost use Rattle.model.specs.Exits.{increasing, inOrder, exits};
@@ -118,20 +119,23 @@ pub fn keeps_order<'a>(sizes: &'a [u64], strides: &'a [i64; 512], rank: usize) -
 
 // Whether the whole fits the cache, so that no axis is cut either.
 pub fn fits_whole<'a>(
+    machine: Machine,
     extents: &'a [u64; 64],
     bytes: &'a [u64; 512],
     operands: usize,
     rank: usize,
 ) -> bool
+    requires { ⌜ Allowed machine ⌝ }
     requires { ⌜ (operands ≤ 8) × (rank ≤ 64) ⌝ }
-    ensures { λ r. ⌜ r ≡ leb (region (now (bytes .entry)) operands (now (extents .entry)) 0 rank) cache ⌝ }
+    ensures { λ r. ⌜ r ≡ leb (region machine (now (bytes .entry)) operands (now (extents .entry)) 0 rank) (machine .cache) ⌝ }
 {
-    memory_region(extents, bytes, operands, 0, rank) <= BLOCK_MEMORY_SIZE
+    memory_region(machine, extents, bytes, operands, 0, rank) <= machine.cache
 }
 
 // A copy into the chosen operand is fitted to the L1 sets. A fold keeps the model's blocks, which order its sum; walks with more operands
 // lose more by short runs than they gain.
 fn fit_for<'a>(
+    machine: Machine,
     blocks: &mut [u64; 64],
     bytes: &'a [u64; 512],
     sizes: &'a [u64],
@@ -139,15 +143,16 @@ fn fit_for<'a>(
     rank: usize,
     purpose: Purpose,
 )
+    requires { ⌜ Allowed machine ⌝ }
     requires { ⌜ (rank ≤ 64) × (missing (length (now sizes)) (chosen purpose) ≡ false) ⌝ }
-    ensures { λ _. ⌜ now (blocks .exit) ≡ fittedFor purpose (now (bytes .entry)) (now (sizes .entry)) (now (strides .entry)) rank (now (blocks .entry)) ⌝ }
+    ensures { λ _. ⌜ now (blocks .exit) ≡ fittedFor machine purpose (now (bytes .entry)) (now (sizes .entry)) (now (strides .entry)) rank (now (blocks .entry)) ⌝ }
 {
     match purpose {
         Purpose::Pointwise => (),
         Purpose::Fold(c) => (),
         Purpose::PointwiseInto(c) => {
             if sizes.len() == 2 {
-                L1Sets::fit(blocks, bytes, sizes, strides, c as usize, rank);
+                L1Sets::fit(machine, blocks, bytes, sizes, strides, c as usize, rank);
             }
         }
     }
@@ -156,6 +161,7 @@ fn fit_for<'a>(
 // The block sizes of a plan whose total is above 1,024 and which neither of the tests above keeps whole, written into `blocks`. `bytes`, `costs`
 // and `ranks` are those of the plan's axes.
 pub fn cut_blocks<'a>(
+    machine: Machine,
     extents: &'a [u64; 64],
     bytes: &'a [u64; 512],
     sizes: &'a [u64],
@@ -166,16 +172,17 @@ pub fn cut_blocks<'a>(
     purpose: Purpose,
     blocks: &mut [u64; 64],
 )
+    requires { ⌜ Allowed machine ⌝ }
     requires { ⌜ Plannable (now sizes) (now extents) (now strides) rank purpose ⌝ }
     requires { ⌜ Tables (now sizes) (now strides) rank (now bytes) (now costs) ranks ⌝ }
-    requires { ⌜ exits (now bytes) (now sizes) (now extents) (now strides) rank ≡ false ⌝ }
-    ensures { λ _. ⌜ now (blocks .exit) ≡ cutBlocks (now (sizes .entry)) (now (extents .entry)) (now (strides .entry)) rank purpose ⌝ }
+    requires { ⌜ exits machine (now bytes) (now sizes) (now extents) (now strides) rank ≡ false ⌝ }
+    ensures { λ _. ⌜ now (blocks .exit) ≡ cutBlocks machine (now (sizes .entry)) (now (extents .entry)) (now (strides .entry)) rank purpose ⌝ }
 {
     *blocks = *extents;
-    compute_blocks_at(blocks, bytes, costs, &ranks, sizes.len(), 0, rank);
-    if declines_tiles(sizes, strides, extents, blocks, rank) {
+    compute_blocks_at(machine, blocks, bytes, costs, &ranks, sizes.len(), 0, rank);
+    if declines_tiles(machine, sizes, strides, extents, blocks, rank) {
         *blocks = *extents;
         return;
     }
-    fit_for(blocks, bytes, sizes, strides, rank, purpose);
+    fit_for(machine, blocks, bytes, sizes, strides, rank, purpose);
 }

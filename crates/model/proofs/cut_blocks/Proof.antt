@@ -18,28 +18,31 @@ compute-blocks-at-requires : tie.Need-compute-blocks-at-requires
 compute-blocks-at-requires c κs =
     let s = c .before .before .before .before in
     let a = s .args in
-    let p = s .pre .0 in (
-      ((p .one, p .few), (omega arith, p .axes)),
-      scores (a .sizes .now) (a .extents .now) (a .strides .now) (a .rank) (a .purpose) p (a .costs .now) (s .pre .1 .0 .costs),
+    let p = s .pre .1 .0 in (
+      s .pre .0,
+      (
+        ((p .one, p .few), (omega arith, p .axes)),
+        scores (a .sizes .now) (a .extents .now) (a .strides .now) (a .rank) (a .purpose) p (a .costs .now) (s .pre .1 .1 .0 .costs),
+      ),
     )
 
 declines-tiles-requires : tie.Need-declines-tiles-requires
 declines-tiles-requires c κs =
     let s = c .before .before .before .before .before .before in
     let a = s .args in
-    within-reach (a .sizes .now) (a .extents .now) (a .strides .now) (a .rank) (a .purpose) (s .pre .0)
+    (s .pre .0, within-reach (a .sizes .now) (a .extents .now) (a .strides .now) (a .rank) (a .purpose) (s .pre .1 .0))
 
 -- the table of byte strides is the definition's on the plan's axes
 same : (s : tie.Start) → let a = s .args in SameBytes (length (a .sizes .now)) (a .rank) (a .bytes .now) (byteTable (a .sizes .now) (a .strides .now))
-same s = let a = s .args in same-bytes (a .sizes .now) (a .strides .now) (a .rank) (a .bytes .now) (s .pre .0 .axes) (s .pre .1 .0 .bytes)
+same s = let a = s .args in same-bytes (a .sizes .now) (a .strides .now) (a .rank) (a .bytes .now) (s .pre .1 .0 .axes) (s .pre .1 .1 .0 .bytes)
 
 -- the blocks that cutting gives
 cut : (c : tie.After-compute-blocks-at)
     → let a = c .before .before .before .before .before .args in
-    c .compute-blocks-at .last .0 ≡ cutting (a .bytes .now) (length (a .sizes .now)) (a .costs .now) (a .t6) 0 (a .rank) (a .extents .now)
+    c .compute-blocks-at .last .1 .0 ≡ cutting (a .machine) (a .bytes .now) (length (a .sizes .now)) (a .costs .now) (a .t7) 0 (a .rank) (a .extents .now)
 cut c =
     let a = c .before .before .before .before .before .args in
-    c .compute-blocks-at .ensures ∙ ap (λ (n : ℕ). cutting (a .bytes .now) (length (a .sizes .now)) (a .costs .now) (a .t6) 0 n (a .extents .now)) (sub-zero (a .rank))
+    c .compute-blocks-at .ensures ∙ ap (λ (n : ℕ). cutting (a .machine) (a .bytes .now) (length (a .sizes .now)) (a .costs .now) (a .t7) 0 n (a .extents .now)) (sub-zero (a .rank))
 
 returns : tie.Need-returns
 returns c =
@@ -47,8 +50,8 @@ returns c =
     let r = d .before .before in
     let s = r .before .before .before .before .before in
     let a = s .args in
-    let t = s .pre .1 .0 in
-    whole-declined (a .sizes .now) (a .extents .now) (a .strides .now) (a .rank) (a .purpose) (a .bytes .now) (same s) (a .costs .now) (t .costs) (a .t6) (t .ranks) (r .compute-blocks-at .last .0) (cut r) (s .pre .1 .1)
+    let t = s .pre .1 .1 .0 in
+    whole-declined (a .machine) (a .sizes .now) (a .extents .now) (a .strides .now) (a .rank) (a .purpose) (a .bytes .now) (same s) (a .costs .now) (t .costs) (a .t7) (t .ranks) (r .compute-blocks-at .last .1 .0) (cut r) (s .pre .1 .1 .1)
     (sym (d .declines-tiles .ensures) ∙ c .before .if1 .taken)
 
 fit-for-requires : tie.Need-fit-for-requires
@@ -61,8 +64,8 @@ returns-2 c =
     let r = d .before .before in
     let s = r .before .before .before .before .before in
     let a = s .args in
-    let t = s .pre .1 .0 in
-    whole-fitted (a .sizes .now) (a .extents .now) (a .strides .now) (a .rank) (a .purpose) (a .bytes .now) (same s) (a .costs .now) (t .costs) (a .t6) (t .ranks) (r .compute-blocks-at .last .0) (cut r) (s .pre .1 .1)
+    let t = s .pre .1 .1 .0 in
+    whole-fitted (a .machine) (a .sizes .now) (a .extents .now) (a .strides .now) (a .rank) (a .purpose) (a .bytes .now) (same s) (a .costs .now) (t .costs) (a .t7) (t .ranks) (r .compute-blocks-at .last .1 .0) (cut r) (s .pre .1 .1 .1)
     (sym (d .declines-tiles .ensures) ∙ e .if1 .left) (c .fit-for .ensures)
 
 pub cut-blocks-spec : {M : Type 1} → statement M

@@ -35,15 +35,15 @@ fit-requires c κs = let t = c .before .before in
     let k : ℕ = t .before .purpose2 .given .0 .0 in
     let two : length (a .sizes .now) ≡ 2 = c .before .if1 .taken in
     let there : missing (length (a .sizes .now)) (chosen (PointwiseInto k)) ≡ false =
-    subst (λ (v : Purpose). missing (length (a .sizes .now)) (chosen v) ≡ false) (into t) (s .pre .1) in
+    subst (λ (v : Purpose). missing (length (a .sizes .now)) (chosen v) ≡ false) (into t) (s .pre .1 .1) in
     let below : k < length (a .sizes .now) = leb-false (length (a .sizes .now)) k there in
-    ((s .pre .0, omega arith), two)
+    (s .pre .0, ((s .pre .1 .0, omega arith), two))
 
 returns : tie.Need-returns
-returns c = search needs
+returns c = rw (c .enum-told .given .1)
 
 returns-2 : tie.Need-returns-2
-returns-2 c = search needs
+returns-2 c = rw (c .before .purpose .given .1)
 
 returns-3 : tie.Need-returns-3
 returns-3 c = let t = c .before .before .before in rw (into t, eq-eqb _ _ (c .before .before .if1 .taken)) (c .fit .ensures)

@@ -2,7 +2,7 @@
 use native.Mathlib.Omega.{arith}
 use mathlib.Core.Path.{_≡_, refl, ap, _∙_}
 use mathlib.Core.Bool.{Bool, true, false}
-use Prim.Native.Nat.{ℕ, min}
+use Prim.Native.Nat.{ℕ, _<_, min}
 use native.Mathlib.Nat.{sub-zero}
 use lib.Dec.{leb}
 use borrow.Author.Needs.{needs}
@@ -12,20 +12,21 @@ use Rattle.laws.specs.Cut.Saturate.{cap}
 use Rattle.model.proofs.fits_whole.Statement.{statement}
 use Rattle.model.proofs.fits_whole.Tie as tie
 
-tested : (r x : ℕ) → r ≡ min x cap → leb r 32768 ≡ leb x 32768
-tested r x e = go (leb x 32768) refl
+tested : (r x n m : ℕ) → n < m → r ≡ min x m → leb r n ≡ leb x n
+tested r x n m h e = go (leb x n) refl
   where
-    go : (t : Bool) → leb x 32768 ≡ t → leb r 32768 ≡ t
-    go true q = le-leb r 32768 (omega (arith, leb-true x 32768 q))
-    go false q = lt-leb r 32768 (omega (arith, leb-false x 32768 q))
+    go : (t : Bool) → leb x n ≡ t → leb r n ≡ t
+    go true q = le-leb r n (omega (arith, leb-true x n q))
+    go false q = lt-leb r n (omega (arith, leb-false x n q))
 
 memory-region-requires : tie.Need-memory-region-requires
 memory-region-requires c κs = search needs
 
 returns : tie.Need-returns
-returns c = let a = c .before .args in
-    tested (c .memory-region .result) (region (a .bytes .now) (a .operands) (a .extents .now) 0 (a .rank))
-    (c .memory-region .ensures ∙ ap (λ (n : ℕ). min (region (a .bytes .now) (a .operands) (a .extents .now) 0 n) cap) (sub-zero (a .rank)))
+returns c = let m = c .before in
+    let a = m .before .args in
+    tested (m .memory-region .result) (region (a .machine) (a .bytes .now) (a .operands) (a .extents .now) 0 (a .rank)) (a .machine .cache) (cap (a .machine)) (omega arith)
+    (m .memory-region .ensures ∙ ap (λ (n : ℕ). min (region (a .machine) (a .bytes .now) (a .operands) (a .extents .now) 0 n) (cap (a .machine))) (sub-zero (a .rank)))
 
 pub fits-whole-spec : {M : Type 1} → statement M
 fits-whole-spec = tie.close (tie.spec memory-region-requires returns)
