@@ -11,9 +11,10 @@ use lib.IntN.{ℤ, pos}
 use lib.ListN.{length}
 use Rattle.strided.specs.Base.{padded, over, run}
 use Rattle.strided.specs.Layout.{Axis, extents, row, total, hasZero}
-use Rattle.strided.specs.Refusals.{layoutRefused}
+use Rattle.strided.specs.Refusals.{planningRefused}
 use Rattle.strided.specs.Fuse.{planAxes}
 use Rattle.strided.specs.Plan.{strideTable, cutBlocks, planFrom, planned}
+use Rattle.strided.specs.declared.Machine.{Machine}
 use Rattle.strided.specs.declared.Purpose.{Purpose}
 use Rattle.strided.specs.declared.Answer.{Answer}
 use Rattle.strided.specs.declared.Answer.the-variants.{Served}
@@ -54,18 +55,18 @@ module _ (es sizes : List ℕ) (ss : List ℤ) (u : Purpose) (a : Accepted es si
       })))
 
   -- "Total at most 1,024: .. blocks are the full extents. Otherwise .. cut."
-  pub made-small : leb (total es) 1024 ≡ true → Made es sizes ss u rank E E S
+  pub made-small : (mc : Machine) → leb (total es) 1024 ≡ true → Made mc es sizes ss u rank E E S
   unfolding planFrom
-  made-small h =
+  made-small mc h =
       record { is = (λ i. record { rank = count i; operands = length sizes; extents = wide i; blocks = wide i; strides = long i }) ∙ rw h }
 
-  pub made-cut : leb (total es) 1024 ≡ false → (B : List ℕ) → B ≡ cutBlocks sizes E S rank u → Made es sizes ss u rank E B S
+  pub made-cut : (mc : Machine) → leb (total es) 1024 ≡ false → (B : List ℕ) → B ≡ cutBlocks mc sizes E S rank u → Made mc es sizes ss u rank E B S
   unfolding planFrom
-  made-cut h B e =
+  made-cut mc h B e =
       record {
         is =
             (λ i. record { rank = rank; operands = length sizes; extents = E; blocks = e i; strides = S })
-            ∙ (λ i. record { rank = count i; operands = length sizes; extents = wide i; blocks = cutBlocks sizes (wide i) (long i) (count i) u; strides = long i })
+            ∙ (λ i. record { rank = count i; operands = length sizes; extents = wide i; blocks = cutBlocks mc sizes (wide i) (long i) (count i) u; strides = long i })
             ∙ rw h;
       }
 
@@ -74,11 +75,11 @@ module _ {es sizes : List ℕ} {ss : List ℤ} {u v : Purpose} (e : u ≡ v) whe
   pub accepted-as : Accepted es sizes ss u → Accepted es sizes ss v
   accepted-as a = subst (λ (w : Purpose). Accepted es sizes ss w) e a
 
-  pub made-as : {rank : ℕ} {E B : List ℕ} {S : List ℤ} → Made es sizes ss u rank E B S → Made es sizes ss v rank E B S
-  made-as {rank} {E} {B} {S} m = subst (λ (w : Purpose). Made es sizes ss w rank E B S) e m
+  pub made-as : {mc : Machine} {rank : ℕ} {E B : List ℕ} {S : List ℤ} → Made mc es sizes ss u rank E B S → Made mc es sizes ss v rank E B S
+  made-as {mc} {rank} {E} {B} {S} m = subst (λ (w : Purpose). Made mc es sizes ss w rank E B S) e m
 
 -- what is made is handed out
-pub serves : (es sizes : List ℕ) (ss : List ℤ) (u : Purpose) → layoutRefused es sizes ss u ≡ none
-    → (rank : ℕ) (E B : List ℕ) (S : List ℤ) → Made es sizes ss u rank E B S → (a : Answer) → a ≡ Served
-    → _≡_ {A = Planned} (record { answer = a; plan = record { rank = rank; operands = length sizes; extents = E; blocks = B; strides = S } }) (planned es sizes ss u)
-serves es sizes ss u h rank E B S m a s = (λ i. record { answer = s i; plan = m .is i }) ∙ sym (planned-served es sizes ss u h)
+pub serves : (mc : Machine) (es sizes : List ℕ) (ss : List ℤ) (u : Purpose) → planningRefused mc es sizes ss u ≡ none
+    → (rank : ℕ) (E B : List ℕ) (S : List ℤ) → Made mc es sizes ss u rank E B S → (a : Answer) → a ≡ Served
+    → _≡_ {A = Planned} (record { answer = a; plan = record { rank = rank; operands = length sizes; extents = E; blocks = B; strides = S } }) (planned mc es sizes ss u)
+serves mc es sizes ss u h rank E B S m a s = (λ i. record { answer = s i; plan = m .is i }) ∙ sym (planned-served mc es sizes ss u h)

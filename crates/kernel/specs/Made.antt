@@ -9,6 +9,7 @@ use Rattle.strided.specs.Plan.{planFrom}
 use Rattle.strided.specs.declared.Purpose.{Purpose}
 use Rattle.strided.specs.declared.Purpose.the-variants.{Pointwise, PointwiseInto, Fold}
 use Rattle.strided.specs.declared.Plan.{Plan}
+use Rattle.strided.specs.declared.Machine.{Machine}
 use Rattle.kernel.specs.declared.Destination.{Destination}
 use Rattle.kernel.specs.declared.Destination.the-variants.{Unchosen, Chosen}
 
@@ -25,9 +26,9 @@ pub record Zeros (E : List ℕ) (S : List ℤ) : Type 0 where
   pub strides : S ≡ replicate 512 (pos 0)
 
 -- the plan of the layout for the purpose has this rank, and its extents, blocks and strides are in the arrays E, B and S
-pub record Made (es sizes : List ℕ) (ss : List ℤ) (u : Purpose) (rank : ℕ) (E B : List ℕ) (S : List ℤ) : Type 0 where
+pub record Made (mc : Machine) (es sizes : List ℕ) (ss : List ℤ) (u : Purpose) (rank : ℕ) (E B : List ℕ) (S : List ℤ) : Type 0 where
   pub is : _≡_ {A = Plan} (record { rank = rank; operands = length sizes; extents = E; blocks = B; strides = S })
-      (planFrom es sizes (planAxes es (length sizes) ss u) u)
+      (planFrom mc es sizes (planAxes es (length sizes) ss u) u)
 
 -- a plan in lent memory, as a C function has it: its two numbers in arrays of one place, and its arrays
 pub record PlanMemory : Type 0 where

@@ -3,7 +3,7 @@
 use auxiliary::index_order_into;
 use fuse::compute_costs;
 use fuse::plan_axes;
-use layout::check_layout;
+use layout::check_planning;
 use layout::total_at_most;
 use model::byte_table_into;
 use model::cut_blocks;
@@ -12,6 +12,7 @@ use model::keeps_order;
 use order::SMALL_TENSOR_THRESHOLD;
 use order::fusing_order;
 use strided::Answer;
+use strided::Machine;
 use strided::Plan;
 use strided::Planned;
 use strided::Purpose;
@@ -24,6 +25,7 @@ ghost use lib.ListN.{length, replicate};
 ghost use Rattle.strided.specs.Base.{padded};
 ghost use Rattle.strided.specs.Layout.{extents as extentsOf};
 ghost use Rattle.strided.specs.Ranks.{ranks};
+ghost use Rattle.strided.specs.Machine.{Allowed};
 ghost use Rattle.strided.specs.Fuse.{planAxes};
 ghost use Rattle.strided.specs.Cut.{planRanks};
 ghost use Rattle.strided.specs.Plan.{strideTable, cutBlocks, planned};
@@ -107,6 +109,7 @@ fn plan_ranks_into(sizes: &[u64], strides: &[i64], rank: usize, table: &mut [[u6
 
 // The blocks of a plan whose total is above 1,024, from its arrays. The tests that keep every axis whole come before what they can spare.
 fn block_sizes<'a>(
+    machine: Machine,
     sizes: &'a [u64],
     es: &'a [u64; 64],
     table: &'a [i64; 512],
@@ -114,8 +117,9 @@ fn block_sizes<'a>(
     purpose: Purpose,
     blocks: &mut [u64; 64],
 )
+    requires { ⌜ Allowed machine ⌝ }
     requires { ⌜ Plannable (now sizes) (now es) (now table) rank purpose ⌝ }
-    ensures { λ _. ⌜ now (blocks .exit) ≡ cutBlocks (now (sizes .entry)) (now (es .entry)) (now (table .entry)) rank purpose ⌝ }
+    ensures { λ _. ⌜ now (blocks .exit) ≡ cutBlocks machine (now (sizes .entry)) (now (es .entry)) (now (table .entry)) rank purpose ⌝ }
 {
     if keeps_order(sizes, table, rank) {
         *blocks = *es;
@@ -123,7 +127,7 @@ fn block_sizes<'a>(
     }
     let mut bytes = [0u64; 512];
     byte_table_into(sizes, table, rank, &mut bytes);
-    if fits_whole(es, &bytes, sizes.len(), rank) {
+    if fits_whole(machine, es, &bytes, sizes.len(), rank) {
         *blocks = *es;
         return;
     }
@@ -131,6 +135,7 @@ fn block_sizes<'a>(
     let mut ranks = [[0u64; 64]; 8];
     plan_ranks_into(sizes, table, rank, &mut ranks);
     cut_blocks(
+        machine,
         es,
         &bytes,
         sizes,
@@ -146,6 +151,7 @@ fn block_sizes<'a>(
 // The plan of a layout that is not refused, made in arrays of zeros: its axes are fused, and cut if there are more than 1,024 cells. So few
 // lie in the cache anyway, and cutting them gains nothing.
 fn plan_fused<'a>(
+    machine: Machine,
     extents: &'a [u64],
     sizes: &'a [u64],
     strides: &'a [i64],
@@ -154,9 +160,10 @@ fn plan_fused<'a>(
     blocks: &mut [u64; 64],
     table: &mut [i64; 512],
 ) -> usize
+    requires { ⌜ Allowed machine ⌝ }
     requires { ⌜ Accepted (now extents) (now sizes) (now strides) purpose ⌝ }
     requires { ⌜ Zeros (now es) (now table) ⌝ }
-    ensures { λ r. ⌜ Made (now (extents .entry)) (now (sizes .entry)) (now (strides .entry)) purpose r (now (es .exit)) (now (blocks .exit)) (now (table .exit)) ⌝ }
+    ensures { λ r. ⌜ Made machine (now (extents .entry)) (now (sizes .entry)) (now (strides .entry)) purpose r (now (es .exit)) (now (blocks .exit)) (now (table .exit)) ⌝ }
 {
     let rank = axes_into(
         extents,
@@ -170,12 +177,13 @@ fn plan_fused<'a>(
         *blocks = *es;
         return rank;
     }
-    block_sizes(sizes, es, table, rank, purpose, blocks);
+    block_sizes(machine, sizes, es, table, rank, purpose, blocks);
     rank
 }
 
 // The plan of a pointwise operation. With a destination the axes are ordered for it, and blocks may be fitted to it.
 fn pointwise_plan<'a>(
+    machine: Machine,
     extents: &'a [u64],
     sizes: &'a [u64],
     strides: &'a [i64],
@@ -184,12 +192,14 @@ fn pointwise_plan<'a>(
     blocks: &mut [u64; 64],
     table: &mut [i64; 512],
 ) -> usize
+    requires { ⌜ Allowed machine ⌝ }
     requires { ⌜ Accepted (now extents) (now sizes) (now strides) (pointwiseFor destination) ⌝ }
     requires { ⌜ Zeros (now es) (now table) ⌝ }
-    ensures { λ r. ⌜ Made (now (extents .entry)) (now (sizes .entry)) (now (strides .entry)) (pointwiseFor destination) r (now (es .exit)) (now (blocks .exit)) (now (table .exit)) ⌝ }
+    ensures { λ r. ⌜ Made machine (now (extents .entry)) (now (sizes .entry)) (now (strides .entry)) (pointwiseFor destination) r (now (es .exit)) (now (blocks .exit)) (now (table .exit)) ⌝ }
 {
     match destination {
         Destination::Unchosen => plan_fused(
+            machine,
             extents,
             sizes,
             strides,
@@ -199,6 +209,7 @@ fn pointwise_plan<'a>(
             table,
         ),
         Destination::Chosen(k) => plan_fused(
+            machine,
             extents,
             sizes,
             strides,
@@ -213,6 +224,7 @@ fn pointwise_plan<'a>(
 // The plan of a fold into one number, ordered as if the chosen operand were a destination. Its blocks order the sum, so they are never
 // fitted to a cache.
 fn fold_plan<'a>(
+    machine: Machine,
     extents: &'a [u64],
     sizes: &'a [u64],
     strides: &'a [i64],
@@ -221,11 +233,13 @@ fn fold_plan<'a>(
     blocks: &mut [u64; 64],
     table: &mut [i64; 512],
 ) -> usize
+    requires { ⌜ Allowed machine ⌝ }
     requires { ⌜ Accepted (now extents) (now sizes) (now strides) (foldBy chosen) ⌝ }
     requires { ⌜ Zeros (now es) (now table) ⌝ }
-    ensures { λ r. ⌜ Made (now (extents .entry)) (now (sizes .entry)) (now (strides .entry)) (foldBy chosen) r (now (es .exit)) (now (blocks .exit)) (now (table .exit)) ⌝ }
+    ensures { λ r. ⌜ Made machine (now (extents .entry)) (now (sizes .entry)) (now (strides .entry)) (foldBy chosen) r (now (es .exit)) (now (blocks .exit)) (now (table .exit)) ⌝ }
 {
     plan_fused(
+        machine,
         extents,
         sizes,
         strides,
@@ -238,6 +252,7 @@ fn fold_plan<'a>(
 
 // The plan of a layout that is not refused, for any purpose, made in arrays of zeros: for whoever has checked the layout, as the text entry has.
 pub fn plan_into<'a>(
+    machine: Machine,
     extents: &'a [u64],
     sizes: &'a [u64],
     strides: &'a [i64],
@@ -246,12 +261,14 @@ pub fn plan_into<'a>(
     blocks: &mut [u64; 64],
     table: &mut [i64; 512],
 ) -> usize
+    requires { ⌜ Allowed machine ⌝ }
     requires { ⌜ Accepted (now extents) (now sizes) (now strides) purpose ⌝ }
     requires { ⌜ Zeros (now es) (now table) ⌝ }
-    ensures { λ r. ⌜ Made (now (extents .entry)) (now (sizes .entry)) (now (strides .entry)) purpose r (now (es .exit)) (now (blocks .exit)) (now (table .exit)) ⌝ }
+    ensures { λ r. ⌜ Made machine (now (extents .entry)) (now (sizes .entry)) (now (strides .entry)) purpose r (now (es .exit)) (now (blocks .exit)) (now (table .exit)) ⌝ }
 {
     match purpose {
         Purpose::Pointwise => pointwise_plan(
+            machine,
             extents,
             sizes,
             strides,
@@ -261,6 +278,7 @@ pub fn plan_into<'a>(
             table,
         ),
         Purpose::PointwiseInto(k) => pointwise_plan(
+            machine,
             extents,
             sizes,
             strides,
@@ -269,26 +287,28 @@ pub fn plan_into<'a>(
             blocks,
             table,
         ),
-        Purpose::Fold(k) => fold_plan(extents, sizes, strides, k, es, blocks, table),
+        Purpose::Fold(k) => fold_plan(machine, extents, sizes, strides, k, es, blocks, table),
     }
 }
 
-// THE PLAN of a layout for a purpose: rows 1 to 7, then the plan. A refusal has a plan of zeros beside it.
+// THE PLAN of a layout for a purpose on a machine: rows 1 to 4, 24, 5 to 7, then the plan. A refusal has a plan of zeros beside it.
 pub fn plan<'a>(
     extents: &'a [u64],
     sizes: &'a [u64],
     strides: &'a [i64],
     purpose: Purpose,
+    machine: Machine,
 ) -> Planned
-    ensures { λ r. ⌜ r ≡ planned (now (extents .entry)) (now (sizes .entry)) (now (strides .entry)) purpose ⌝ }
+    ensures { λ r. ⌜ r ≡ planned machine (now (extents .entry)) (now (sizes .entry)) (now (strides .entry)) purpose ⌝ }
 {
     let mut es = [0u64; 64];
     let mut blocks = [0u64; 64];
     let mut table = [0i64; 512];
-    let answer = check_layout(extents, sizes, strides, purpose);
+    let answer = check_planning(extents, sizes, strides, purpose, machine);
     match answer {
         Answer::Served => {
             let rank = plan_into(
+                machine,
                 extents,
                 sizes,
                 strides,

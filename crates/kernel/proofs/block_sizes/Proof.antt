@@ -23,13 +23,13 @@ returns : tie.Need-returns
 returns c =
     let k = c .before .before in
     let a = k .before .before .args in
-    sym (whole-in-order (a .sizes .now) (a .es .now) (a .table .now) (a .rank) (a .purpose) (sym (k .keeps-order .ensures) ∙ c .before .if1 .taken))
+    sym (whole-in-order (a .machine) (a .sizes .now) (a .es .now) (a .table .now) (a .rank) (a .purpose) (sym (k .keeps-order .ensures) ∙ c .before .if1 .taken))
 
 byte-table-into-requires : tie.Need-byte-table-into-requires
 byte-table-into-requires c κs =
     let s = c .before .before .before .before in
     let a = s .args in
-    let p = s .pre in
+    let p = s .pre .1 in
     (((p .few, p .axes), products (a .sizes .now) (a .es .now) (a .table .now) (a .rank) (a .purpose) p), refl)
 
 fits-whole-requires : tie.Need-fits-whole-requires
@@ -40,7 +40,7 @@ bytes-are : (c : tie.After-byte-table-into) → let a = c .before .before .befor
 bytes-are c =
     let s = c .before .before .before .before .before in
     let a = s .args in
-    rows-read (a .sizes .now) (a .table .now) (a .rank) (length (a .sizes .now)) _ refl (s .pre .few) (s .pre .axes) (c .byte-table-into .ensures)
+    rows-read (a .sizes .now) (a .table .now) (a .rank) (length (a .sizes .now)) _ refl (s .pre .1 .few) (s .pre .1 .axes) (c .byte-table-into .ensures)
 
 returns-2 : tie.Need-returns-2
 returns-2 c =
@@ -50,8 +50,8 @@ returns-2 c =
     let a = s .args in
     let es = a .es .now in
     let t = b .byte-table-into .last .1 .1 .1 .0 in
-    sym (whole-exits (a .sizes .now) es (a .table .now) (a .rank) (a .purpose) t (same-bytes (a .sizes .now) (a .table .now) (a .rank) t (s .pre .axes) (bytes-are b))
-    (exits-fits t (a .sizes .now) es (a .table .now) (a .rank) (sym (f .fits-whole .ensures) ∙ c .before .if2 .taken)))
+    sym (whole-exits (a .machine) (a .sizes .now) es (a .table .now) (a .rank) (a .purpose) t (same-bytes (a .sizes .now) (a .table .now) (a .rank) t (s .pre .1 .axes) (bytes-are b))
+    (exits-fits (a .machine) t (a .sizes .now) es (a .table .now) (a .rank) (sym (f .fits-whole .ensures) ∙ c .before .if2 .taken)))
 
 compute-costs-requires : tie.Need-compute-costs-requires
 compute-costs-requires c κs = search needs
@@ -68,15 +68,18 @@ cut-blocks-requires c κs =
     let o = b .before .before .before in
     let s = o .before .before in
     let a = s .args in
-    let n = s .pre in (
-      n,
+    let n = s .pre .1 in (
+      s .pre .0,
       (
-        record {
-          bytes = bytes-are b;
-          costs = λ i h. ap (λ (l : List ℕ). getD l i 0) (k .compute-costs .ensures) ∙ getD-padded 0 64 (costs (a .table .now) (length (a .sizes .now)) (a .rank)) i (omega (arith, n .axes));
-          ranks = ranks-same (a .sizes .now) (a .table .now) (a .rank) (replicate 64 0) (n .few) (n .axes) _ (p .plan-ranks-into .ensures);
-        },
-        exits-not _ (a .sizes .now) (a .es .now) (a .table .now) (a .rank) (sym (o .keeps-order .ensures) ∙ b .before .before .if1 .left) (sym (f .fits-whole .ensures) ∙ k .before .if2 .left),
+        n,
+        (
+          record {
+            bytes = bytes-are b;
+            costs = λ i h. ap (λ (l : List ℕ). getD l i 0) (k .compute-costs .ensures) ∙ getD-padded 0 64 (costs (a .table .now) (length (a .sizes .now)) (a .rank)) i (omega (arith, n .axes));
+            ranks = ranks-same (a .sizes .now) (a .table .now) (a .rank) (replicate 64 0) (n .few) (n .axes) _ (p .plan-ranks-into .ensures);
+          },
+          exits-not (a .machine) _ (a .sizes .now) (a .es .now) (a .table .now) (a .rank) (sym (o .keeps-order .ensures) ∙ b .before .before .if1 .left) (sym (f .fits-whole .ensures) ∙ k .before .if2 .left),
+        ),
       ),
     )
 

@@ -20,7 +20,7 @@ returns c =
     let s = x .before .before .before .before .before in
     let a = s .args in
     let e = x .axes-into .ensures in
-    made-small (a .extents .now) (a .sizes .now) (a .strides .now) (a .purpose) (s .pre .0) (x .axes-into .result) _ _ (e .0) (e .1 .0) (e .1 .1)
+    made-small (a .extents .now) (a .sizes .now) (a .strides .now) (a .purpose) (s .pre .1 .0) (x .axes-into .result) _ _ (e .0) (e .1 .0) (e .1 .1) (a .machine)
     (sym (t .total-at-most .ensures) ∙ c .before .if1 .taken)
 
 block-sizes-requires : tie.Need-block-sizes-requires
@@ -30,9 +30,11 @@ block-sizes-requires c κs =
     let x = t .before in
     let s = x .before .before .before .before .before in
     let a = s .args in
-    let e = x .axes-into .ensures in
-    plannable (a .extents .now) (a .sizes .now) (a .strides .now) (a .purpose) (s .pre .0) (x .axes-into .result) _ _ (e .0) (e .1 .0) (e .1 .1)
-    (leb-false (total (a .extents .now)) 1024 (sym (t .total-at-most .ensures) ∙ on .if1 .left))
+    let e = x .axes-into .ensures in (
+      s .pre .0,
+      plannable (a .extents .now) (a .sizes .now) (a .strides .now) (a .purpose) (s .pre .1 .0) (x .axes-into .result) _ _ (e .0) (e .1 .0) (e .1 .1)
+          (leb-false (total (a .extents .now)) 1024 (sym (t .total-at-most .ensures) ∙ on .if1 .left)),
+    )
 
 returns-2 : tie.Need-returns-2
 returns-2 c =
@@ -42,7 +44,7 @@ returns-2 c =
     let s = x .before .before .before .before .before in
     let a = s .args in
     let e = x .axes-into .ensures in
-    made-cut (a .extents .now) (a .sizes .now) (a .strides .now) (a .purpose) (s .pre .0) (x .axes-into .result) _ _ (e .0) (e .1 .0) (e .1 .1)
+    made-cut (a .extents .now) (a .sizes .now) (a .strides .now) (a .purpose) (s .pre .1 .0) (x .axes-into .result) _ _ (e .0) (e .1 .0) (e .1 .1) (a .machine)
     (sym (t .total-at-most .ensures) ∙ on .if1 .left) _ (c .block-sizes .ensures)
 
 pub plan-fused-spec : {M : Type 1} → statement M

@@ -11,7 +11,10 @@ enum-told : tie.Need-enum-told
 enum-told c = search needs
 
 pointwise-plan-requires : tie.Need-pointwise-plan-requires
-pointwise-plan-requires c κs = search needs
+pointwise-plan-requires c κs =
+    let d = c .before .before .before in
+    let s = d .before .before .before .before in
+    (s .pre .0, (accepted-as (d .enum-told .given .1) (s .pre .1 .0), s .pre .1 .1))
 
 enum-known-purpose : tie.Need-enum-known-purpose
 enum-known-purpose c = search needs
@@ -30,13 +33,13 @@ pointwise-plan-requires-2 : tie.Need-pointwise-plan-requires-2
 pointwise-plan-requires-2 c κs =
     let d = c .before .before .before in
     let s = d .before .before .before .before .before in
-    (accepted-as (into d) (s .pre .0), s .pre .1)
+    (s .pre .0, (accepted-as (into d) (s .pre .1 .0), s .pre .1 .1))
 
 fold-plan-requires : tie.Need-fold-plan-requires
 fold-plan-requires c κs =
     let d = c .before .before .before in
     let s = d .before .before .before .before .before in
-    (accepted-as (fold d) (s .pre .0), s .pre .1)
+    (s .pre .0, (accepted-as (fold d) (s .pre .1 .0), s .pre .1 .1))
 
 returns : tie.Need-returns
 returns c = made-as (sym (c .before .before .before .before .enum-told .given .1)) (c .pointwise-plan .ensures)

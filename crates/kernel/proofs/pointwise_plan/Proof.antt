@@ -11,7 +11,10 @@ enum-told : tie.Need-enum-told
 enum-told c = search needs
 
 plan-fused-requires : tie.Need-plan-fused-requires
-plan-fused-requires c κs = search needs
+plan-fused-requires c κs =
+    let d = c .before .before .before in
+    let s = d .before .before .before .before in
+    (s .pre .0, (accepted-as (ap pointwiseFor (d .enum-told .given .1)) (s .pre .1 .0), s .pre .1 .1))
 
 enum-known-destination : tie.Need-enum-known-destination
 enum-known-destination c = search needs
@@ -24,7 +27,7 @@ plan-fused-requires-2 : tie.Need-plan-fused-requires-2
 plan-fused-requires-2 c κs =
     let d = c .before .before .before in
     let s = d .before .before .before .before .before in
-    (accepted-as (ap pointwiseFor (chosen d)) (s .pre .0), s .pre .1)
+    (s .pre .0, (accepted-as (ap pointwiseFor (chosen d)) (s .pre .1 .0), s .pre .1 .1))
 
 returns : tie.Need-returns
 returns c = made-as (sym (ap pointwiseFor (c .before .before .before .before .enum-told .given .1))) (c .plan-fused .ensures)
