@@ -9,7 +9,7 @@ ghost use mathlib.Core.Bool.{_&&_};
 ghost use Prim.Native.Nat.{_+_, _*_, _<_, _≤_, min};
 ghost use lib.Dec.{ltb};
 ghost use lib.ListN.{length, set};
-ghost use Rattle.strided.specs.Machine.{Allowed, fixedFour};
+ghost use Rattle.strided.specs.Machine.{Allowed};
 ghost use Rattle.strided.specs.Region.{byteAt};
 ghost use Rattle.strided.specs.Fit.{reuse, aliases, fitted};
 ghost use Rattle.laws.specs.Cut.Saturate.{cap};
@@ -22,7 +22,7 @@ pub struct L1Sets {
 }
 
 impl L1Sets {
-    // The four numbers that document 01 fixes, and the record of them: the text keeps it.
+    // The four numbers that document 01 fixes: the text's record is made of them.
     pub const LINE: u64 = 64;
 
     pub const CACHE: u64 = 32768;
@@ -31,17 +31,6 @@ impl L1Sets {
 
     // The lines of a set that may be live: its eight less a quarter, which replacement and prefetching take.
     pub const LIVE: u64 = 6;
-
-    pub fn fixed() -> Machine
-        ensures { λ r. ⌜ r ≡ fixedFour ⌝ }
-    {
-        Machine {
-            line: Self::LINE,
-            cache: Self::CACHE,
-            way: Self::WAY,
-            live: Self::LIVE,
-        }
-    }
 
     // Operand k's first axis with a byte stride below a line; the rank where there is none.
     fn reuse_axis(machine: Machine, bytes: &[u64; 512], rank: usize, k: usize) -> usize

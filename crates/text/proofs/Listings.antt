@@ -13,7 +13,8 @@ use lib.ListN.{length, take}
 use borrow.Author.Tests.{ltb-false, leb-true, leb-false, lt-ltb, le-ltb}
 use Rattle.strided.specs.Base.{first}
 use Rattle.strided.specs.Layout.{total}
-use Rattle.strided.specs.Refusals.{refusedBy, row1, row2, layoutRefused}
+use Rattle.strided.specs.Refusals.{refusedBy, row1, row2, layoutRefused, planningRefused}
+use Rattle.strided.specs.Machine.{fixedFour}
 use Rattle.strided.specs.Fuse.{planAxes}
 use Rattle.strided.specs.Plan.{planned}
 use Rattle.strided.specs.Begin.{beginRefused}
@@ -26,6 +27,7 @@ use Rattle.strided.specs.declared.Refusal.the-variants.{Rank, Operands, TextTot
 use Rattle.laws.specs.Base.Tests.{or-none}
 use Rattle.laws.specs.Plan.Answers.{planned-served}
 use Rattle.laws.specs.Plan.Places.{plan-extents, plan-blocks, plan-strides}
+use Rattle.laws.specs.Refusals.Record.{planning-fixed}
 use Rattle.laws.specs.Text.Begins.{planned-begins}
 use Rattle.laws.specs.Text.Planning.{as-planning}
 use Rattle.advance.specs.Plans.{Sized}
@@ -45,22 +47,26 @@ answering {room = room} e h = (λ i. record { answer = e i; room = room }) ∙ h
 -- ---- a layout that rows 1 to 7 let through
 
 module _ (es sizes : List ℕ) (ss : List ℤ) (u : Purpose) (h : layoutRefused es sizes ss u ≡ none) where
-  plan-is : (rank : ℕ) (E B : List ℕ) (S : List ℤ) → Made es sizes ss u rank E B S → planOf rank (length sizes) E B S ≡ planned es sizes ss u .plan
-  plan-is rank E B S m = m .is ∙ sym (ap (λ (r : Planned). r .plan) (planned-served es sizes ss u h))
+  -- planning with the fixed four lets it through too
+  passed : planningRefused fixedFour es sizes ss u ≡ none
+  passed = planning-fixed es sizes ss u ∙ h
+
+  plan-is : (rank : ℕ) (E B : List ℕ) (S : List ℤ) → Made fixedFour es sizes ss u rank E B S → planOf rank (length sizes) E B S ≡ planned fixedFour es sizes ss u .plan
+  plan-is rank E B S m = m .is ∙ sym (ap (λ (r : Planned). r .plan) (planned-served fixedFour es sizes ss u passed))
 
   -- the plan made is one that is written
-  pub made-printable : (rank : ℕ) (E B : List ℕ) (S : List ℤ) → Made es sizes ss u rank E B S → Printable (planOf rank (length sizes) E B S)
+  pub made-printable : (rank : ℕ) (E B : List ℕ) (S : List ℤ) → Made fixedFour es sizes ss u rank E B S → Printable (planOf rank (length sizes) E B S)
   made-printable rank E B S m =
       let axs = planAxes es (length sizes) ss u in
       record {
         sized =
             subst Sized (sym (m .is))
-            (record { extents-all = plan-extents es sizes axs u; blocks-all = plan-blocks es sizes axs u; strides-all = plan-strides es sizes axs u });
-        begins = subst (λ (p : Plan). beginRefused p (zeroStarts p) ≡ none) (sym (plan-is rank E B S m)) (planned-begins es sizes ss u h);
+            (record { extents-all = plan-extents fixedFour es sizes axs u; blocks-all = plan-blocks fixedFour es sizes axs u; strides-all = plan-strides fixedFour es sizes axs u });
+        begins = subst (λ (p : Plan). beginRefused p (zeroStarts p) ≡ none) (sym (plan-is rank E B S m)) (planned-begins fixedFour es sizes ss u passed);
       }
 
   -- and its listing is the layout's
-  pub made-listed : (rank : ℕ) (E B : List ℕ) (S : List ℤ) → Made es sizes ss u rank E B S → (room : List ℕ) {z : ℤ} {new : List ℕ}
+  pub made-listed : (rank : ℕ) (E B : List ℕ) (S : List ℤ) → Made fixedFour es sizes ss u rank E B S → (room : List ℕ) {z : ℤ} {new : List ℕ}
       → z ≡ listedIn (planOf rank (length sizes) E B S) room .answer → new ≡ listedIn (planOf rank (length sizes) E B S) room .room
       → record { answer = z; room = new } ≡ listedServed es sizes ss u room
   made-listed rank E B S m room e f = (λ i. record { answer = e i; room = f i }) ∙ ap (λ (p : Plan). listedIn p room) (plan-is rank E B S m)

@@ -8,15 +8,16 @@ use lib.IntN.{ℤ}
 use lib.ListN.{length, take}
 use Rattle.strided.specs.Base.{first}
 use Rattle.strided.specs.Refusals.{refusedBy, row1, row2, layoutRefused}
+use Rattle.strided.specs.Machine.{fixedFour}
 use Rattle.strided.specs.Plan.{planned}
 use Rattle.strided.specs.Text.{Listing, printed, row13, row14, refusing, listingOr}
 use Rattle.strided.specs.declared.Purpose.{Purpose}
 use Rattle.strided.specs.declared.Refusal.{Refusal}
 use Rattle.writing.specs.Plan.{listedIn}
 
--- a layout that rows 1 to 7 and 13 let through: the plan's output, if there is room
+-- a layout that rows 1 to 7 and 13 let through: the output of its plan for the fixed four, if there is room
 abbrev pub listedServed : List ℕ → List ℕ → List ℤ → Purpose → List ℕ → Listing
-listedServed es sizes ss u room = listedIn (planned es sizes ss u .plan) room
+listedServed es sizes ss u room = listedIn (planned fixedFour es sizes ss u .plan) room
 
 -- rows 1 to 7, then 13, then 14
 unfoldable pub listedLayout : List ℕ → List ℕ → List ℤ → Purpose → List ℕ → Listing

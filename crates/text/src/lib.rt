@@ -6,6 +6,7 @@ ghost use Rattle.strided.specs.Refusals.{layoutRefused};
 ghost use Rattle.strided.specs.Text.{Lists};
 ghost use Rattle.text.specs.Listed.{Places, listedServed, listedLayout, listedNumbers};
 use kernel::plan_into;
+use l1::L1Sets;
 use layout::check_layout;
 use layout::negated;
 use layout::operands_wrong;
@@ -14,6 +15,7 @@ use layout::total_at_most;
 use reading::Said;
 use reading::read_text;
 use strided::Answer;
+use strided::Machine;
 use strided::Purpose;
 use strided::Refusal;
 use writing::list;
@@ -21,7 +23,7 @@ use writing::list;
 // "total above 1,048,576 in text": so many cells at most.
 pub const MAX_TOTAL: u64 = 1048576;
 
-// Lists a layout that planning does not refuse.
+// Lists a layout that planning does not refuse, for the fixed four.
 fn list_served<'a>(
     extents: &'a [u64],
     sizes: &'a [u64],
@@ -35,7 +37,14 @@ fn list_served<'a>(
     let mut es = [0u64; 64];
     let mut blocks = [0u64; 64];
     let mut table = [0i64; 512];
+    let machine = Machine {
+        line: L1Sets::LINE,
+        cache: L1Sets::CACHE,
+        way: L1Sets::WAY,
+        live: L1Sets::LIVE,
+    };
     let rank = plan_into(
+        machine,
         extents,
         sizes,
         strides,

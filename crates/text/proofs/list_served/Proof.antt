@@ -2,6 +2,7 @@
 use mathlib.Core.Path.{refl, _∙_}
 use mir.Facts.{toZ-ofZ}
 use Rattle.laws.specs.Refusals.Accepted.{accepted}
+use Rattle.laws.specs.Refusals.Record.{fixed-allowed}
 use Rattle.text.proofs.Listings.{made-printable, made-listed}
 use borrow.Author.Needs.{needs}
 use Rattle.text.proofs.list_served.Statement.{statement}
@@ -11,7 +12,7 @@ plan-into-requires : tie.Need-plan-into-requires
 plan-into-requires c κs =
     let s = c .before .before .before .before .before .before in
     let a = s .args in
-    (accepted (a .extents .now) (a .sizes .now) (a .strides .now) (a .purpose) (s .pre), record { extents = refl; strides = refl })
+    (fixed-allowed, (accepted (a .extents .now) (a .sizes .now) (a .strides .now) (a .purpose) (s .pre), record { extents = refl; strides = refl }))
 
 list-requires : tie.Need-list-requires
 list-requires c κs =
