@@ -25,7 +25,7 @@ use Rattle.strided.specs.declared.Outcome.the-variants.{Block, Ended, Re
 use Rattle.strided.specs.declared.Stepped.{Stepped}
 use Rattle.strided.specs.Base.{padded, unless, until, sum, product, least, every, some-of, seek, greatest}
 use Rattle.strided.specs.Refusals.{number, layoutRefused, planningRefused}
-use Rattle.strided.specs.Machine.{allowed, fixedFour}
+use Rattle.strided.specs.Machine.{allowed, machineOf, fixedFour}
 use Rattle.strided.specs.Ranks.{smaller, rankOf, ranks, rankTable}
 use Rattle.strided.specs.Weights.{packingWidth, shiftOf, termOf, sizeAt, rankIn, addend, weightAt, termFits, sumFits, axisFits, try, capTries, widthTries, weights}
 use Rattle.strided.specs.Order.{loopOrder, fusingOrder}
@@ -75,10 +75,6 @@ pub data Figure : Type 0 where
 -- strides that are not negative
 abbrev pub whole : List ℕ → List ℤ
 whole ns = map pos ns
-
--- a machine record: line, cache, way, live
-abbrev pub machine : ℕ → ℕ → ℕ → ℕ → Machine
-machine l c w n = record { line = l; cache = c; way = w; live = n }
 
 -- a plan of one operand
 unfoldable pub planOf : List ℕ → List ℕ → List ℤ → Plan
@@ -204,19 +200,19 @@ figures =
     ∷ callsAre (planned fixedFour (2 ∷ 3 ∷ []) (8 ∷ 8 ∷ []) (whole (1 ∷ 2 ∷ 3 ∷ 1 ∷ [])) Pointwise .plan) (whole (0 ∷ 0 ∷ [])) (2 ∷ 2 ∷ []) (2 ∷ 1 ∷ [])
     (2 ∷ 2 ∷ 2 ∷ 9 ∷ []) (whole (0 ∷ 0 ∷ 2 ∷ 1 ∷ 4 ∷ 2 ∷ 9 ∷ 9 ∷ []))
     -- 43 to 45: row 8 with other records: each of the four is read; in a cache that holds it all nothing is cut
-    ∷ planOn (machine 32 4096 4096 6) (64 ∷ 64 ∷ []) (8 ∷ 8 ∷ []) (whole (1 ∷ 64 ∷ 512 ∷ 1 ∷ [])) (PointwiseInto 0) (64 ∷ 64 ∷ []) (6 ∷ 16 ∷ []) (whole (1 ∷ 64 ∷ []))
-    ∷ planOn (machine 32 16384 32 1) (64 ∷ 64 ∷ []) (8 ∷ 8 ∷ []) (whole (1 ∷ 64 ∷ 64 ∷ 1 ∷ [])) (PointwiseInto 0) (64 ∷ 64 ∷ []) (1 ∷ 32 ∷ []) (whole (1 ∷ 64 ∷ []))
-    ∷ planOn (machine 256 1048576 65536 16) (64 ∷ 64 ∷ []) (8 ∷ 8 ∷ []) (whole (1 ∷ 64 ∷ 512 ∷ 1 ∷ [])) (PointwiseInto 0) (64 ∷ 64 ∷ []) (64 ∷ 64 ∷ []) (whole (1 ∷ 64 ∷ []))
+    ∷ planOn (machineOf 32 4096 4096 6) (64 ∷ 64 ∷ []) (8 ∷ 8 ∷ []) (whole (1 ∷ 64 ∷ 512 ∷ 1 ∷ [])) (PointwiseInto 0) (64 ∷ 64 ∷ []) (6 ∷ 16 ∷ []) (whole (1 ∷ 64 ∷ []))
+    ∷ planOn (machineOf 32 16384 32 1) (64 ∷ 64 ∷ []) (8 ∷ 8 ∷ []) (whole (1 ∷ 64 ∷ 64 ∷ 1 ∷ [])) (PointwiseInto 0) (64 ∷ 64 ∷ []) (1 ∷ 32 ∷ []) (whole (1 ∷ 64 ∷ []))
+    ∷ planOn (machineOf 256 1048576 65536 16) (64 ∷ 64 ∷ []) (8 ∷ 8 ∷ []) (whole (1 ∷ 64 ∷ 512 ∷ 1 ∷ [])) (PointwiseInto 0) (64 ∷ 64 ∷ []) (64 ∷ 64 ∷ []) (whole (1 ∷ 64 ∷ []))
     -- 46: row 18 in half the cache: halving stops below twice the record's
-    ∷ planOn (machine 64 16384 4096 6) (33 ∷ 8 ∷ 8 ∷ []) (1 ∷ 16 ∷ []) (whole (3 ∷ 5 ∷ 128 ∷ 100 ∷ 32 ∷ 5 ∷ [])) Pointwise
+    ∷ planOn (machineOf 64 16384 4096 6) (33 ∷ 8 ∷ 8 ∷ []) (1 ∷ 16 ∷ []) (whole (3 ∷ 5 ∷ 128 ∷ 100 ∷ 32 ∷ 5 ∷ [])) Pointwise
     (33 ∷ 8 ∷ 8 ∷ []) (9 ∷ 7 ∷ 4 ∷ []) (whole (3 ∷ 5 ∷ 128 ∷ []))
     -- 47 to 52: records outside the bounds, at a zero extent too; 24 after 4 and before 5
-    ∷ refusedOn (machine 48 32768 4080 6) (2 ∷ []) (8 ∷ []) (whole (1 ∷ [])) Pointwise 24
-    ∷ refusedOn (machine 64 4095 64 6) (0 ∷ []) (8 ∷ []) (whole (1 ∷ [])) Pointwise 24
-    ∷ refusedOn (machine 64 32768 96 6) (2 ∷ []) (8 ∷ []) (whole (1 ∷ [])) Pointwise 24
-    ∷ refusedOn (machine 64 32768 4096 17) (2 ∷ []) (8 ∷ []) (whole (1 ∷ [])) Pointwise 24
-    ∷ refusedOn (machine 64 32768 4096 0) (2 ∷ []) (8 ∷ []) (whole (1 ∷ [])) (Fold 1) 4
-    ∷ refusedOn (machine 64 32768 4096 0) (2 ^ 32 ∷ 2 ^ 32 ∷ []) (1 ∷ []) (whole (0 ∷ 0 ∷ [])) Pointwise 24
+    ∷ refusedOn (machineOf 48 32768 4080 6) (2 ∷ []) (8 ∷ []) (whole (1 ∷ [])) Pointwise 24
+    ∷ refusedOn (machineOf 64 4095 64 6) (0 ∷ []) (8 ∷ []) (whole (1 ∷ [])) Pointwise 24
+    ∷ refusedOn (machineOf 64 32768 96 6) (2 ∷ []) (8 ∷ []) (whole (1 ∷ [])) Pointwise 24
+    ∷ refusedOn (machineOf 64 32768 4096 17) (2 ∷ []) (8 ∷ []) (whole (1 ∷ [])) Pointwise 24
+    ∷ refusedOn (machineOf 64 32768 4096 0) (2 ∷ []) (8 ∷ []) (whole (1 ∷ [])) (Fold 1) 4
+    ∷ refusedOn (machineOf 64 32768 4096 0) (2 ^ 32 ∷ 2 ^ 32 ∷ []) (1 ∷ []) (whole (0 ∷ 0 ∷ [])) Pointwise 24
     ∷ []
 
 -- ---- what the definitions give

@@ -35,6 +35,10 @@ allowed mc =
     && ((eqb (mc .way % mc .line) 0 && (leb (mc .line) (mc .way) && leb (mc .way) (mc .cache)))
     && (leb 1 (mc .live) && leb (mc .live) 16)))
 
+-- the record of four numbers, as entries take it that have no records
+abbrev pub machineOf : ℕ → ℕ → ℕ → ℕ → Machine
+machineOf l c w n = record { line = l; cache = c; way = w; live = n }
+
 -- "The plan section's fixed 64, 32,768, 4,096 and 6"; "the walklist text keeps the fixed four"
 abbrev pub fixedFour : Machine
-fixedFour = record { line = 64; cache = 32768; way = 4096; live = 6 }
+fixedFour = machineOf 64 32768 4096 6
