@@ -1,13 +1,15 @@
-// Planning from C: rows 1 to 7, then the plan, made where the caller wants it.
+// Planning from C: rows 1 to 7 and 24, then the plan, made where the caller wants it.
+ghost use Rattle.strided.specs.Machine.{machineOf};
 ghost use Rattle.strided.specs.Plan.{planned};
 ghost use Rattle.gougelily.specs.Handed.{purposeOf, Plans};
 use crate::purpose_of;
 use kernel::plan_into;
-use layout::check_layout;
+use layout::check_planning;
 use layout::negated;
 use strided::Answer;
+use strided::Machine;
 
-// The plan of a layout for a purpose.
+// The plan of a layout for a purpose, on a machine of these four numbers.
 #[no_mangle]
 pub extern "C" fn gougelily_plan<'a>(
     extents: &'a [u64],
@@ -15,22 +17,33 @@ pub extern "C" fn gougelily_plan<'a>(
     strides: &'a [i64],
     purpose: u64,
     chosen: u64,
+    line: u64,
+    cache: u64,
+    way: u64,
+    live: u64,
     rank: &mut [usize; 1],
     operands: &mut [usize; 1],
     plan_extents: &mut [u64; 64],
     blocks: &mut [u64; 64],
     plan_strides: &mut [i64; 512],
 ) -> i64
-    ensures { λ r. ⌜ Plans (planned (now (extents .entry)) (now (sizes .entry)) (now (strides .entry)) (purposeOf purpose chosen)) (record { rank = now (rank .entry); operands = now (operands .entry); extents = now («plan_extents» .entry); blocks = now (blocks .entry); strides = now («plan_strides» .entry) }) (record { rank = now (rank .exit); operands = now (operands .exit); extents = now («plan_extents» .exit); blocks = now (blocks .exit); strides = now («plan_strides» .exit) }) r ⌝ }
+    ensures { λ r. ⌜ Plans (planned (machineOf line cache way live) (now (extents .entry)) (now (sizes .entry)) (now (strides .entry)) (purposeOf purpose chosen)) (record { rank = now (rank .entry); operands = now (operands .entry); extents = now («plan_extents» .entry); blocks = now (blocks .entry); strides = now («plan_strides» .entry) }) (record { rank = now (rank .exit); operands = now (operands .exit); extents = now («plan_extents» .exit); blocks = now (blocks .exit); strides = now («plan_strides» .exit) }) r ⌝ }
 {
     let wanted = purpose_of(purpose, chosen);
-    let answer = check_layout(extents, sizes, strides, wanted);
+    let machine = Machine {
+        line,
+        cache,
+        way,
+        live,
+    };
+    let answer = check_planning(extents, sizes, strides, wanted, machine);
     match answer {
         Answer::Refused(refusal) => negated(refusal),
         Answer::Served => {
             *plan_extents = [0u64; 64];
             *plan_strides = [0i64; 512];
             let axes = plan_into(
+                machine,
                 extents,
                 sizes,
                 strides,
