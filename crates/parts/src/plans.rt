@@ -1,5 +1,6 @@
 // Planning by the public entry that returns a plan by value. The plan, 5 KB, is then copied into the lent arrays.
-ghost use Rattle.strided.specs.Refusals.{layoutRefused};
+ghost use Rattle.strided.specs.Machine.{machineOf};
+ghost use Rattle.strided.specs.Refusals.{planningRefused};
 ghost use Rattle.strided.specs.Plan.{planned};
 ghost use Rattle.kernel.specs.Made.{planMemory};
 ghost use Rattle.parts.specs.Answers.{purposeOf, Part};
@@ -7,8 +8,9 @@ use crate::purpose_of;
 use kernel::plan;
 use layout::number;
 use strided::Answer;
+use strided::Machine;
 
-// The plan of a layout, refused by rows 1 to 7.
+// The plan of a layout, refused by rows 1 to 7 and 24.
 #[no_mangle]
 pub extern "C" fn parts_plan<'a>(
     extents: &'a [u64],
@@ -16,15 +18,25 @@ pub extern "C" fn parts_plan<'a>(
     strides: &'a [i64],
     kind: u64,
     chosen: u64,
+    line: u64,
+    cache: u64,
+    way: u64,
+    live: u64,
     rank: &mut [usize; 1],
     operands: &mut [usize; 1],
     plan_extents: &mut [u64; 64],
     blocks: &mut [u64; 64],
     plan_strides: &mut [i64; 512],
 ) -> u64
-    ensures { λ r. ⌜ Part (layoutRefused (now (extents .entry)) (now (sizes .entry)) (now (strides .entry)) (purposeOf kind chosen)) (planMemory (planned (now (extents .entry)) (now (sizes .entry)) (now (strides .entry)) (purposeOf kind chosen) .plan)) (record { rank = now (rank .entry); operands = now (operands .entry); extents = now («plan_extents» .entry); blocks = now (blocks .entry); strides = now («plan_strides» .entry) }) (record { rank = now (rank .exit); operands = now (operands .exit); extents = now («plan_extents» .exit); blocks = now (blocks .exit); strides = now («plan_strides» .exit) }) r ⌝ }
+    ensures { λ r. ⌜ Part (planningRefused (machineOf line cache way live) (now (extents .entry)) (now (sizes .entry)) (now (strides .entry)) (purposeOf kind chosen)) (planMemory (planned (machineOf line cache way live) (now (extents .entry)) (now (sizes .entry)) (now (strides .entry)) (purposeOf kind chosen) .plan)) (record { rank = now (rank .entry); operands = now (operands .entry); extents = now («plan_extents» .entry); blocks = now (blocks .entry); strides = now («plan_strides» .entry) }) (record { rank = now (rank .exit); operands = now (operands .exit); extents = now («plan_extents» .exit); blocks = now (blocks .exit); strides = now («plan_strides» .exit) }) r ⌝ }
 {
-    let planned = plan(extents, sizes, strides, purpose_of(kind, chosen));
+    let machine = Machine {
+        line,
+        cache,
+        way,
+        live,
+    };
+    let planned = plan(extents, sizes, strides, purpose_of(kind, chosen), machine);
     let answer = planned.answer;
     match answer {
         Answer::Refused(refusal) => number(refusal),

@@ -1,8 +1,9 @@
 -- `parts::plans::parts_plan` meets its contract. Assumes nothing.
 use borrow.Author.Needs.{needs}
 use mathlib.Core.Path.{_≡_, sym, ap, _∙_}
+use Rattle.strided.specs.Machine.{machineOf}
 use Rattle.strided.specs.Plan.{planned}
-use Rattle.strided.specs.Refusals.{answered, layoutRefused}
+use Rattle.strided.specs.Refusals.{answered, planningRefused}
 use Rattle.strided.specs.declared.Answer.{Answer}
 use Rattle.strided.specs.declared.Planned.{Planned}
 use Rattle.laws.specs.Plan.Answers.{planned-answer}
@@ -14,17 +15,17 @@ use Rattle.parts.proofs.plans.parts_plan.Tie as tie
 
 -- what was returned
 made : (c : tie.After-plan) → let a = c .before .before .before .before .args in
-    c .plan .result ≡ planned (a .extents .now) (a .sizes .now) (a .strides .now) (purposeOf (a .kind) (a .chosen))
+    c .plan .result ≡ planned (machineOf (a .line) (a .cache) (a .way) (a .live)) (a .extents .now) (a .sizes .now) (a .strides .now) (purposeOf (a .kind) (a .chosen))
 made c =
     let a = c .before .before .before .before .args in
-    c .plan .ensures ∙ ap (planned (a .extents .now) (a .sizes .now) (a .strides .now)) (c .before .purpose-of .ensures)
+    c .plan .ensures ∙ ap (planned (machineOf (a .line) (a .cache) (a .way) (a .live)) (a .extents .now) (a .sizes .now) (a .strides .now)) (c .before .purpose-of .ensures)
 
 -- what it tells
 tells : (c : tie.After-plan) {t : Answer} → let a = c .before .before .before .before .args in
-    c .plan .result .answer ≡ t → answered (layoutRefused (a .extents .now) (a .sizes .now) (a .strides .now) (purposeOf (a .kind) (a .chosen))) ≡ t
+    c .plan .result .answer ≡ t → answered (planningRefused (machineOf (a .line) (a .cache) (a .way) (a .live)) (a .extents .now) (a .sizes .now) (a .strides .now) (purposeOf (a .kind) (a .chosen))) ≡ t
 tells c h =
     let a = c .before .before .before .before .args in
-    sym (planned-answer (a .extents .now) (a .sizes .now) (a .strides .now) (purposeOf (a .kind) (a .chosen))) ∙ sym (ap (λ (p : Planned). p .answer) (made c)) ∙ h
+    sym (planned-answer (machineOf (a .line) (a .cache) (a .way) (a .live)) (a .extents .now) (a .sizes .now) (a .strides .now) (purposeOf (a .kind) (a .chosen))) ∙ sym (ap (λ (p : Planned). p .answer) (made c)) ∙ h
 
 purpose-of-requires : tie.Need-purpose-of-requires
 purpose-of-requires c κs = search needs
