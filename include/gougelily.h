@@ -41,7 +41,7 @@ extern "C" {
 
 /*
  * Why a call is refused. Of several reasons the least number is answered, but
- * that of a text 12 comes first and 13 follows 7. Total is the product of the
+ * that of a text 12 comes first and 13 follows 7, and that 24 follows 4. Total is the product of the
  * extents, reach the sum over the axes of (extent - 1) * size of the stride.
  * If an extent is 0, the rows 6, 7 and 9 pass.
  */
@@ -59,7 +59,8 @@ typedef enum gougelily_refusal_t {
     GOUGELILY_INDEX = 11,       /* counters or index wrong in number or range */
     GOUGELILY_FORM = 12,        /* text not in the form */
     GOUGELILY_TEXT_TOTAL = 13,  /* total above 1,048,576 in text */
-    GOUGELILY_ROOM = 14         /* output longer than the lent buffer */
+    GOUGELILY_ROOM = 14,        /* output longer than the lent buffer */
+    GOUGELILY_RECORD = 24       /* a machine record outside its bounds */
 } gougelily_refusal_t;
 
 /* What a plan is for. Any number but 0 and 1 is a fold. */
@@ -69,23 +70,36 @@ typedef enum gougelily_purpose_t {
     GOUGELILY_FOLD = 2            /* a fold, ordered by the chosen operand */
 } gougelily_purpose_t;
 
+/*
+ * The machine that a plan is made for: the bytes of a cache line (32, 64, 128 or
+ * 256) and of the cache (4,096 to 1,048,576), the bytes of a way of the L1 cache
+ * (a multiple of the line, from the line up to the cache), and the lines of a
+ * set that may be live (1 to 16).
+ */
+typedef struct gougelily_machine_t {
+    uint64_t line, cache, way, live;
+} gougelily_machine_t;
+
+/* The machine of the text. */
+#define GOUGELILY_FIXED_MACHINE { 64, 32768, 4096, 6 }
+
 /* ------------------------------------------------------------ the functions */
 
 /*
- * The plan of a layout for a purpose. Layout and purpose alone fix it.
+ * The plan of a layout for a purpose on a machine. These alone fix it.
  *
  * Takes the extents, axis 0 first; the element sizes, one per operand; the
  * strides, operand by operand, each with one per axis; the purpose, and the
- * chosen operand.
+ * chosen operand; and the machine's four numbers.
  * Answers 0, and the plan: its rank, at most that of the layout, and its
  * operands; for each of its axes, the innermost first, the extent and the block
  * size; and for each operand k and axis i the stride, at k * 64 + i.
- * Refuses 1, 2, 3, 4, 5, 6, 7.
+ * Refuses 1, 2, 3, 4, 24, 5, 6, 7, in this order.
  */
 int64_t gougelily_plan(const uint64_t *extents, size_t extent_count, const uint64_t *sizes, size_t size_count,
-                       const int64_t *strides, size_t stride_count, uint64_t purpose, uint64_t chosen,
-                       size_t rank[1], size_t operands[1], uint64_t plan_extents[GOUGELILY_MAX_RANK],
-                       uint64_t blocks[GOUGELILY_MAX_RANK], int64_t plan_strides[GOUGELILY_PLAN_STRIDES]);
+                       const int64_t *strides, size_t stride_count, uint64_t purpose, uint64_t chosen, uint64_t line,
+                       uint64_t cache, uint64_t way, uint64_t live, size_t rank[1], size_t operands[1],
+                       uint64_t plan_extents[GOUGELILY_MAX_RANK], uint64_t blocks[GOUGELILY_MAX_RANK], int64_t plan_strides[GOUGELILY_PLAN_STRIDES]);
 
 /*
  * The original index of a plan index: which cell of the layout a walk is at.
@@ -240,11 +254,13 @@ typedef struct gougelily_block_t {
 } gougelily_block_t;
 
 /* gougelily_plan */
-static inline int64_t gougelily_plan_layout(const gougelily_layout_t *layout, gougelily_plan_t *plan)
+static inline int64_t gougelily_plan_layout(const gougelily_layout_t *layout, const gougelily_machine_t *machine,
+                                            gougelily_plan_t *plan)
 {
     return gougelily_plan(layout->extents, layout->rank, layout->sizes, layout->operands, layout->strides,
-                          layout->stride_count, layout->purpose, layout->chosen, &plan->rank, &plan->operands,
-                          plan->extents, plan->blocks, plan->strides);
+                          layout->stride_count, layout->purpose, layout->chosen, machine->line, machine->cache,
+                          machine->way, machine->live, &plan->rank, &plan->operands, plan->extents, plan->blocks,
+                          plan->strides);
 }
 
 /* gougelily_original_index */

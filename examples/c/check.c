@@ -98,21 +98,25 @@ static gougelily_layout_t view(const struct layout *l)
     return v;
 }
 
-static int64_t plan_of(const struct layout *l, gougelily_plan_t *p)
+static const gougelily_machine_t fixed = GOUGELILY_FIXED_MACHINE;
+
+static int64_t plan_on(const struct layout *l, gougelily_machine_t m, gougelily_plan_t *p)
 {
     const uint64_t *e = lend(l->extents, l->rank * 8), *z = lend(l->sizes, l->operands * 8);
     const int64_t *s = lend(l->strides, l->stride_count * 8);
     size_t *rank = LEND(p->rank), *operands = LEND(p->operands);
     uint64_t *extents = LEND(p->extents), *blocks = LEND(p->blocks);
     int64_t *strides = LEND(p->strides);
-    int64_t answer = gougelily_plan(e, l->rank, z, l->operands, s, l->stride_count, l->purpose, l->chosen, rank,
-                                    operands, extents, blocks, strides);
+    int64_t answer = gougelily_plan(e, l->rank, z, l->operands, s, l->stride_count, l->purpose, l->chosen, m.line,
+                                    m.cache, m.way, m.live, rank, operands, extents, blocks, strides);
     TAKE(p->rank, rank), TAKE(p->operands, operands), TAKE(p->extents, extents), TAKE(p->blocks, blocks);
     TAKE(p->strides, strides);
-    CHECK(answer <= 0 && answer >= -7);
+    CHECK(answer <= 0 && (answer >= -7 || answer == -24));
     settle(3, answer == 0);
     return answer;
 }
+
+static int64_t plan_of(const struct layout *l, gougelily_plan_t *p) { return plan_on(l, fixed, p); }
 
 static int64_t index_of(const struct layout *l, int original, const uint64_t *counters, size_t count,
                         gougelily_index_t *x)
@@ -231,12 +235,15 @@ static void known_plans(void)
     CHECK(plan_of(&l, &p) == 0 && p.rank == 2 && p.operands == 2 && p.blocks[0] == 64 && p.blocks[1] == 32);
     l = two(64, 64, 1, 64, 512, 1, GOUGELILY_POINTWISE_INTO);
     CHECK(plan_of(&l, &p) == 0 && p.blocks[0] == 6 && p.blocks[1] == 32);
+    CHECK(plan_on(&l, (gougelily_machine_t){32, 4096, 4096, 6}, &p) == 0 && p.blocks[0] == 6 && p.blocks[1] == 16);
+    CHECK(plan_on(&l, (gougelily_machine_t){48, 32768, 4080, 6}, &p) == -GOUGELILY_RECORD);
+    CHECK(plan_on(&l, (gougelily_machine_t){64, 32768, 4096, 0}, &p) == -GOUGELILY_RECORD);
     l.purpose = GOUGELILY_FOLD;
     CHECK(plan_of(&l, &p) == 0 && p.blocks[0] == 64 && p.blocks[1] == 32);
     l.rank = 0, l.stride_count = 0;
     CHECK(plan_of(&l, &p) == 0 && p.rank == 0 && p.operands == 2);
-    CHECK(gougelily_plan(NULL, 0, l.sizes, 2, NULL, 0, 0, 0, &p.rank, &p.operands, p.extents, p.blocks, p.strides) ==
-          0);
+    CHECK(gougelily_plan(NULL, 0, l.sizes, 2, NULL, 0, 0, 0, 64, 32768, 4096, 6, &p.rank, &p.operands, p.extents,
+                         p.blocks, p.strides) == 0);
 }
 
 static void known_walk(void)
@@ -501,7 +508,7 @@ static void walk_layout(const struct layout *l)
     make_wild(&w, sizeof w / 8);
     make_wild(&b, sizeof b / 8);
     CHECK(plan_of(l, &p) == 0 && p.rank <= l->rank && p.operands == l->operands && plan_blank(&p));
-    CHECK(gougelily_plan_layout(&v, &again) == 0 && memcmp(&p, &again, sizeof p) == 0);
+    CHECK(gougelily_plan_layout(&v, &fixed, &again) == 0 && memcmp(&p, &again, sizeof p) == 0);
     if (below(2)) /* any block sizes make a walk */
         make_wild(p.blocks, GOUGELILY_MAX_RANK);
     CHECK(begin_of(&p, starts, p.operands, &w) == 0 && w.ended == (total == 0));

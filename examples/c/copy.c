@@ -43,6 +43,7 @@ static int cells_differ(void)
 int main(void)
 {
     const gougelily_layout_t layout = {extents, 3, sizes, 2, strides, 6, GOUGELILY_POINTWISE_INTO, 0};
+    const gougelily_machine_t machine = GOUGELILY_FIXED_MACHINE;
     const int64_t starts[2] = {0, 0};
     gougelily_plan_t plan;
     gougelily_walk_t walk;
@@ -52,7 +53,7 @@ int main(void)
     for (int i = 0; i < PITCH * CHANNELS * SEGMENTS; i++)
         padded[i] = 100 + i;
 
-    answer = gougelily_plan_layout(&layout, &plan);
+    answer = gougelily_plan_layout(&layout, &machine, &plan);
     if (answer < 0)
         return refused("plan", answer);
     for (size_t i = 0; i < plan.rank; i++)

@@ -66,6 +66,7 @@ static void make_layouts(void)
 
 /* ------------------------------------------------------------ the entries */
 
+static const gougelily_machine_t fixed = GOUGELILY_FIXED_MACHINE;
 static gougelily_plan_t plan;
 static gougelily_walk_t walk;
 static gougelily_block_t block;
@@ -76,9 +77,9 @@ static int64_t offsets[512];
 static const int64_t starts[8];
 static const uint64_t zeros[64];
 
-static void plan_deep(void) { answer = gougelily_plan_layout(&deep, &plan); }
-static void plan_transposed(void) { answer = gougelily_plan_layout(&transposed, &plan); }
-static void plan_wide(void) { answer = gougelily_plan_layout(&wide, &plan); }
+static void plan_deep(void) { answer = gougelily_plan_layout(&deep, &fixed, &plan); }
+static void plan_transposed(void) { answer = gougelily_plan_layout(&transposed, &fixed, &plan); }
+static void plan_wide(void) { answer = gougelily_plan_layout(&wide, &fixed, &plan); }
 static void begin(void) { answer = gougelily_begin_walk(&plan, starts, plan.operands, &walk); }
 static void step(void) { answer = gougelily_next_block(&plan, &walk, &block); }
 static void find(void) { answer = gougelily_find_original(&wide, zeros, plan.rank, &told); }
@@ -97,7 +98,7 @@ static void nothing(void) { answer = 0; }
 
 /* Entries that take and return values, by the C functions of crate parts. */
 uint64_t parts_plan(const uint64_t *, size_t, const uint64_t *, size_t, const int64_t *, size_t, uint64_t, uint64_t,
-                    size_t[1], size_t[1], uint64_t[64], uint64_t[64], int64_t[512]);
+                    uint64_t, uint64_t, uint64_t, uint64_t, size_t[1], size_t[1], uint64_t[64], uint64_t[64], int64_t[512]);
 int64_t parts_step(size_t, size_t, const uint64_t[64], const uint64_t[64], const int64_t[512], uint64_t[1],
                    uint64_t[64], int64_t[8], uint64_t[64], uint64_t[1], int64_t[8], int64_t[8]);
 int64_t parts_step_lent(size_t, size_t, const uint64_t[64], const uint64_t[64], const int64_t[512], uint64_t[1],
@@ -106,8 +107,8 @@ int64_t parts_step_lent(size_t, size_t, const uint64_t[64], const uint64_t[64], 
 static void plan_value(void)
 {
     answer = -(int64_t)parts_plan(deep.extents, deep.rank, deep.sizes, deep.operands, deep.strides, deep.stride_count,
-                                  deep.purpose, deep.chosen, &plan.rank, &plan.operands, plan.extents, plan.blocks,
-                                  plan.strides);
+                                  deep.purpose, deep.chosen, fixed.line, fixed.cache, fixed.way, fixed.live, &plan.rank,
+                                  &plan.operands, plan.extents, plan.blocks, plan.strides);
 }
 static void step_value(void)
 {

@@ -17,9 +17,10 @@ pub fn linked() -> Result<(), String> {
 }
 
 /// Declares the functions of the library, with a safe face for each. A slice
-/// passes as its address and its length, an array as its address.
+/// passes as its address and its length, an array as its address. Numbers behind
+/// `for` are handed over as they stand.
 macro_rules! functions {
-    ($($(#[$doc:meta])* $face:ident = $name:ident($($out:ident: &mut $array:ty),*);)*) => {
+    ($($(#[$doc:meta])* $face:ident = $name:ident($($out:ident: &mut $array:ty),*) $(for [$($number:ident = $fixed:literal),*])?;)*) => {
         #[cfg(parts_linked)]
         extern "C" {
             $(fn $name(
@@ -31,6 +32,7 @@ macro_rules! functions {
                 count: usize,
                 kind: u64,
                 chosen: u64,
+                $($($number: u64,)*)?
                 $($out: *mut $array,)*
             ) -> u64;)*
         }
@@ -50,6 +52,7 @@ macro_rules! functions {
                     layout.strides.len(),
                     layout.kind,
                     layout.chosen,
+                    $($($fixed,)*)?
                     $($out,)*
                 )
             }
@@ -79,7 +82,8 @@ functions! {
     /// The costs of the plan's axes.
     costs = parts_costs(out: &mut [u64; 64]);
     /// The plan, by the entry that returns it by value.
-    plan = parts_plan(rank: &mut [usize; 1], operands: &mut [usize; 1], extents: &mut [u64; 64], blocks: &mut [u64; 64], strides: &mut Strides);
+    plan = parts_plan(rank: &mut [usize; 1], operands: &mut [usize; 1], extents: &mut [u64; 64], blocks: &mut [u64; 64], strides: &mut Strides)
+        for [line = 64, cache = 32768, way = 4096, live = 6];
 }
 
 /// Declares the steps, with a safe face for each.
