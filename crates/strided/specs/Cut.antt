@@ -1,4 +1,5 @@
--- "The plan": cutting, for a machine record, whose cache stands for document 01's 32,768. "Cutting looks at a tail of axes, at first all": the n axes from o on.
+-- "The plan": cutting. "Cutting looks at a tail of axes, at first all": the n axes from o on. The record's cache stands for document 01's
+-- 32,768.
 -- Assumes nothing.
 use mathlib.Core.Bool.{Bool, cond}
 use mathlib.Core.List.{List, [], _∷_}

@@ -78,8 +78,8 @@ module _ (es sizes : List ℕ) (ss : List ℤ) (u : Purpose) (p : Plan) (steps :
     -- "In the state that "ended" returns every offset is its start again."
     pub back : (m : ℕ) (s : Stepped) → nth steps m ≡ some s → s .answer ≡ Ended → s .walk .offsets ≡ padded 8 (pos 0) starts
 
--- THE STATEMENT: for every record and every layout without a zero extent that planning does not refuse, either purpose, its plan with each block size left or
--- replaced by any number, every list of starts that the beginning does not refuse, and every number of steps
+-- THE STATEMENT: for every machine record and every layout without a zero extent that planning does not refuse, either purpose, its plan with
+-- each block size left or replaced by any number, every list of starts that the beginning does not refuse, and every number of steps
 abbrev pub Statement : Type 0
 Statement =
     (mc : Machine) (es sizes : List ℕ) (ss : List ℤ) (u : Purpose) → NoZero es → planned mc es sizes ss u .answer ≡ Served

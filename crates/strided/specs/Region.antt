@@ -1,4 +1,5 @@
--- "The plan": byte strides and regions, for a machine record, whose line stands for document 01's 64, over the plan's own arrays: 64 places for the axes, and in a flat table 64 for each operand.
+-- "The plan": byte strides and regions, over the plan's own arrays: 64 places for the axes, and in a flat table 64 for each operand. The
+-- record's line stands for document 01's 64 bytes.
 -- Assumes nothing.
 use mathlib.Core.Bool.{cond}
 use mathlib.Core.List.{List, [], _∷_, _++_, map}

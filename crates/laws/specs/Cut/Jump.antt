@@ -220,7 +220,7 @@ one-loss mc bytes operands costs o n s b i h l hs big =
 unclipped : (mc : Machine) (bytes : List ℕ) (operands : ℕ) (costs : List ℕ) (o n s : ℕ) (b : List ℕ) → mc .cache < region mc bytes operands (clipped s costs o n b) o n → mc .cache < region mc bytes operands b o n
 unclipped mc bytes operands costs o n s b big = lt-of-lt-of-le big (region-mono mc bytes operands (clipped s costs o n b) b o n (clipped-le s costs o n b))
 
--- the jump: where the region of the clipped blocks is still above 32,768, the single steps come by them
+-- the jump: where the region of the clipped blocks is still above the cache, the single steps come by them
 jump-in : (mc : Machine) (bytes : List ℕ) (operands : ℕ) (costs : List ℕ) (o n s steps : ℕ) (b : List ℕ) → cells o n b ≤ steps
     → mc .cache < region mc bytes operands (clipped s costs o n b) o n
     → lessened mc bytes operands costs o n b ≡ lessened mc bytes operands costs o n (clipped s costs o n b)
