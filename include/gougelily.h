@@ -41,9 +41,9 @@ extern "C" {
 
 /*
  * Why a call is refused. Of several reasons the least number is answered, but
- * that of a text 12 comes first and 13 follows 7, and that 24 follows 4. Total is the product of the
- * extents, reach the sum over the axes of (extent - 1) * size of the stride.
- * If an extent is 0, the rows 6, 7 and 9 pass.
+ * that of a text 12 comes first and 13 follows 7, and that 24 follows 4. Total
+ * is the product of the extents, reach the sum over the axes of (extent - 1) *
+ * size of the stride. If an extent is 0, the rows 6, 7 and 9 pass.
  */
 typedef enum gougelily_refusal_t {
     GOUGELILY_RANK = 1,         /* rank above 64 */
@@ -71,16 +71,26 @@ typedef enum gougelily_purpose_t {
 } gougelily_purpose_t;
 
 /*
- * The machine that a plan is made for: the bytes of a cache line (32, 64, 128 or
- * 256) and of the cache (4,096 to 1,048,576), the bytes of a way of the L1 cache
- * (a multiple of the line, from the line up to the cache), and the lines of a
- * set that may be live (1 to 16).
+ * The machine that a plan is made for. On a real processor these are numbers of
+ * its L1 data cache:
+ *   line    the bytes of a cache line: 32, 64, 128 or 256
+ *   cache   the bytes that blocks may take, 4,096 to 1,048,576: the cache's size
+ *   way     the bytes of a way: the cache's size divided by its ways. A multiple
+ *           of the line, from the line up to the cache. Lines whose addresses
+ *           differ by a multiple of it share a set
+ *   live    the lines of one set that may be in use at a time, 1 to 16: its ways
+ *           less a quarter, which replacement and prefetching take
+ * `lscpu -C` prints them, in the row L1d: COHERENCY-SIZE is the line, ONE-SIZE
+ * the cache, and ONE-SIZE divided by WAYS the way. The kernel has the same in
+ * sysfs, in devices/system/cpu/cpu0/cache/index0: coherency_line_size, size,
+ * ways_of_associativity. An Intel L1 of 48 KiB with 12 ways is
+ * { 64, 49152, 4096, 9 }, one of 32 KiB with 8 ways the machine below.
  */
 typedef struct gougelily_machine_t {
     uint64_t line, cache, way, live;
 } gougelily_machine_t;
 
-/* The machine of the text. */
+/* 32 KiB with 8 ways: the machine of the text, and that of the original. */
 #define GOUGELILY_FIXED_MACHINE { 64, 32768, 4096, 6 }
 
 /* ------------------------------------------------------------ the functions */
@@ -97,15 +107,17 @@ typedef struct gougelily_machine_t {
  * Refuses 1, 2, 3, 4, 24, 5, 6, 7, in this order.
  */
 int64_t gougelily_plan(const uint64_t *extents, size_t extent_count, const uint64_t *sizes, size_t size_count,
-                       const int64_t *strides, size_t stride_count, uint64_t purpose, uint64_t chosen, uint64_t line,
-                       uint64_t cache, uint64_t way, uint64_t live, size_t rank[1], size_t operands[1],
-                       uint64_t plan_extents[GOUGELILY_MAX_RANK], uint64_t blocks[GOUGELILY_MAX_RANK], int64_t plan_strides[GOUGELILY_PLAN_STRIDES]);
+                       const int64_t *strides, size_t stride_count, uint64_t purpose, uint64_t chosen,
+                       uint64_t line, uint64_t cache, uint64_t way, uint64_t live, size_t rank[1],
+                       size_t operands[1], uint64_t plan_extents[GOUGELILY_MAX_RANK],
+                       uint64_t blocks[GOUGELILY_MAX_RANK], int64_t plan_strides[GOUGELILY_PLAN_STRIDES]);
 
 /*
  * The original index of a plan index: which cell of the layout a walk is at.
  *
- * Takes a layout and purpose as gougelily_plan does, and a plan index: a
- * block's counters, with k added on axis 0 for the block's cell k.
+ * Takes a layout and purpose as gougelily_plan does (no machine: axes and
+ * indices do not depend on it), and a plan index: a block's counters, with k
+ * added on axis 0 for the block's cell k.
  * Answers 0, and the index with its count, the layout's rank.
  * Refuses 1, 2, 3, 4, 5, 6, 7, 11.
  */

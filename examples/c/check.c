@@ -424,7 +424,37 @@ static struct layout garbage(void)
     return l;
 }
 
-static uint64_t cells_met, blocks_met, refusals_met;
+/* Any record: some allowed, at the bounds, or far outside. */
+static gougelily_machine_t any_machine(void)
+{
+    gougelily_machine_t m = {(uint64_t)16 << below(6), 4096 + below(3) - 1, 0, below(18)};
+    if (below(2))
+        m.cache = 4096 + below(1044481);
+    m.way = m.line * (1 + below(m.cache / m.line));
+    switch (below(8)) {
+    case 0:
+        m.line = wild();
+        break;
+    case 1:
+        m.cache = wild();
+        break;
+    case 2:
+        m.way = wild();
+        break;
+    case 3:
+        m.live = wild();
+        break;
+    }
+    return m;
+}
+
+static int machine_allowed(gougelily_machine_t m)
+{
+    return (m.line == 32 || m.line == 64 || m.line == 128 || m.line == 256) && m.cache >= 4096 && m.cache <= 1048576 &&
+           m.way % m.line == 0 && m.way >= m.line && m.way <= m.cache && m.live >= 1 && m.live <= 16;
+}
+
+static uint64_t cells_met, blocks_met, refusals_met, records_refused;
 
 /* "array places behind the counts are 0" */
 static int blank(const void *array, size_t from, size_t to)
@@ -493,6 +523,7 @@ static int64_t call_many(const gougelily_plan_t *p, gougelily_walk_t *w)
 static void walk_layout(const struct layout *l)
 {
     const gougelily_layout_t v = view(l);
+    gougelily_machine_t m = any_machine();
     gougelily_plan_t p = {0}, again = {0};
     gougelily_walk_t w = {0};
     gougelily_block_t b = {0};
@@ -507,8 +538,14 @@ static void walk_layout(const struct layout *l)
     make_wild(&p, sizeof p / 8);
     make_wild(&w, sizeof w / 8);
     make_wild(&b, sizeof b / 8);
-    CHECK(plan_of(l, &p) == 0 && p.rank <= l->rank && p.operands == l->operands && plan_blank(&p));
-    CHECK(gougelily_plan_layout(&v, &fixed, &again) == 0 && memcmp(&p, &again, sizeof p) == 0);
+    CHECK(plan_on(l, m, &p) == (machine_allowed(m) ? 0 : -GOUGELILY_RECORD));
+    if (!machine_allowed(m)) {
+        records_refused++;
+        m = fixed;
+        CHECK(plan_of(l, &p) == 0);
+    }
+    CHECK(p.rank <= l->rank && p.operands == l->operands && plan_blank(&p));
+    CHECK(gougelily_plan_layout(&v, &m, &again) == 0 && memcmp(&p, &again, sizeof p) == 0);
     if (below(2)) /* any block sizes make a walk */
         make_wild(p.blocks, GOUGELILY_MAX_RANK);
     CHECK(begin_of(&p, starts, p.operands, &w) == 0 && w.ended == (total == 0));
@@ -626,14 +663,14 @@ int main(int argc, char **argv)
         walk_layout(&l);
         one_number_changed(&l);
         garbage_plan();
-        refusals_met += plan_of(&g, &p) < 0;
+        refusals_met += plan_on(&g, any_machine(), &p) < 0;
         make_wild(counters, 4);
         size_t count = below(5);
         refusals_met += index_of(&g, (int)below(2), counters, count, &x) < 0;
         if (l.rank > 0)
             mark_of(&l, below(l.operands));
     }
-    printf("%llu rounds: %" PRIu64 " blocks, %" PRIu64 " cells, %" PRIu64 " refusals\n", rounds, blocks_met, cells_met,
-           refusals_met);
+    printf("%llu rounds: %" PRIu64 " blocks, %" PRIu64 " cells, %" PRIu64 " refusals, %" PRIu64 " of them of records\n",
+           rounds, blocks_met, cells_met, refusals_met + records_refused, records_refused);
     return 0;
 }

@@ -98,7 +98,8 @@ static void nothing(void) { answer = 0; }
 
 /* Entries that take and return values, by the C functions of crate parts. */
 uint64_t parts_plan(const uint64_t *, size_t, const uint64_t *, size_t, const int64_t *, size_t, uint64_t, uint64_t,
-                    uint64_t, uint64_t, uint64_t, uint64_t, size_t[1], size_t[1], uint64_t[64], uint64_t[64], int64_t[512]);
+                    uint64_t, uint64_t, uint64_t, uint64_t, size_t[1], size_t[1],
+                    uint64_t[64], uint64_t[64], int64_t[512]);
 int64_t parts_step(size_t, size_t, const uint64_t[64], const uint64_t[64], const int64_t[512], uint64_t[1],
                    uint64_t[64], int64_t[8], uint64_t[64], uint64_t[1], int64_t[8], int64_t[8]);
 int64_t parts_step_lent(size_t, size_t, const uint64_t[64], const uint64_t[64], const int64_t[512], uint64_t[1],
