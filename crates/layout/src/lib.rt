@@ -1,5 +1,5 @@
-// What a layout is refused for: rows 1 to 7 of the refusal table, with 24 among them where it is to be planned. Beside it what all later crates read off a layout: the size of a
-// stride, the total, the reach, the lead, and the number of a refusal.
+// What a layout is refused for: rows 1 to 7 of the refusal table, with 24 among them where it is to be planned. Beside it what all later
+// crates read off a layout: the size of a stride, the total, the reach, the lead, and the number of a refusal.
 ghost use mathlib.Core.Path.{_≡_};
 ghost use Rattle.strided.specs.Layout.{lead};
 ghost use Rattle.strided.specs.Refusals.{number, negated, refusedBy, answered, countRows, spanRows, layoutRefused, planningRefused};
@@ -71,7 +71,7 @@ pub fn lead(purpose: Purpose) -> u64
 }
 
 // Rows 1 to 4, the least number first. Row 3 multiplies counts that rows 1 and 2 let through.
-fn check_counts<'a>(
+pub fn check_counts<'a>(
     extents: &'a [u64],
     sizes: &'a [u64],
     strides: &'a [i64],

@@ -7,13 +7,13 @@ use mathlib.Core.Option.{Option, none, some}
 use Prim.Native.Nat.{ℕ}
 use lib.Dec.{eqb}
 use lib.IntN.{ℤ}
-use lib.ListN.{length, take}
+use lib.ListN.{length}
 use Rattle.strided.specs.Layout.{noAxis, axesOf, extents}
 use Rattle.strided.specs.Order.{pick, fusingOrder}
 use Rattle.strided.specs.Fuse.{fuse, planAxes}
 use Rattle.strided.specs.Costs.{costs}
 use Rattle.strided.specs.Plan.{strideTable}
-use Rattle.strided.specs.Refusals.{Row, number, refusedBy, layoutRows}
+use Rattle.strided.specs.Refusals.{number, refusedBy, countRows}
 use Rattle.strided.specs.declared.Purpose.{Purpose}
 use Rattle.strided.specs.declared.Purpose.the-variants.{Pointwise, PointwiseInto, Fold}
 use Rattle.strided.specs.declared.Refusal.{Refusal}
@@ -23,11 +23,8 @@ abbrev pub purposeOf : ℕ → ℕ → Purpose
 purposeOf kind chosen = cond (eqb kind 0) Pointwise (cond (eqb kind 1) (PointwiseInto chosen) (Fold chosen))
 
 -- the parts are there for every layout whose counts are right: they are refused by rows 1 to 4 alone
-abbrev pub shapeRows : List ℕ → List ℕ → List ℤ → Purpose → List Row
-shapeRows es sizes ss u = take 4 (layoutRows es sizes ss u)
-
-unfoldable pub shapeRefused : List ℕ → List ℕ → List ℤ → Purpose → Option Refusal
-shapeRefused es sizes ss u = refusedBy (shapeRows es sizes ss u)
+abbrev pub countsRefused : List ℕ → List ℕ → List ℤ → Purpose → Option Refusal
+countsRefused es sizes ss u = refusedBy (countRows es sizes ss u)
 
 -- the refusal's number, or 0
 abbrev pub told : Option Refusal → ℕ

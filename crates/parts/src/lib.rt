@@ -8,32 +8,28 @@ ghost use Prim.Native.Nat.{_<_};
 ghost use lib.ListN.{length, replicate};
 ghost use Rattle.strided.specs.Base.{padded};
 ghost use Rattle.strided.specs.Layout.{lead, extents as extentsOf};
-ghost use Rattle.strided.specs.Refusals.{answered, layoutRefused};
+ghost use Rattle.strided.specs.Refusals.{layoutRefused};
 ghost use Rattle.strided.specs.Ranks.{rankTable};
 ghost use Rattle.strided.specs.Weights.{weights};
 ghost use Rattle.strided.specs.Order.{loopOrder};
 ghost use Rattle.strided.specs.Fuse.{planAxes};
 ghost use Rattle.strided.specs.Plan.{strideTable};
 ghost use Rattle.auxiliary.specs.Fitting.{Fitting};
-ghost use Rattle.parts.specs.Answers.{purposeOf, shapeRefused, told, Part, fusedExtents, planCosts};
+ghost use Rattle.parts.specs.Answers.{purposeOf, countsRefused, told, Part, fusedExtents, planCosts};
 use arrange::pick_into;
 use auxiliary::rank_table_into;
 use fuse::compute_costs;
 use fuse::fuse_dims;
 use importance::compute_importance;
 use kernel::axes_into;
+use layout::check_counts;
 use layout::check_layout;
 use layout::lead;
 use layout::number;
-use layout::rows::chosen_missing;
-use layout::rows::operands_wrong;
-use layout::rows::rank_over;
-use layout::rows::strides_wrong;
 use order::compute_order;
 use order::fusing_order;
 use strided::Answer;
 use strided::Purpose;
-use strided::Refusal;
 
 pub mod plans;
 pub mod steps;
@@ -48,32 +44,6 @@ fn purpose_of(kind: u64, chosen: u64) -> Purpose
         return Purpose::PointwiseInto(chosen);
     }
     Purpose::Fold(chosen)
-}
-
-// Rows 1 to 4.
-fn check_shape<'a>(
-    extents: &'a [u64],
-    sizes: &'a [u64],
-    strides: &'a [i64],
-    purpose: Purpose,
-) -> Answer
-    ensures { λ r. ⌜ r ≡ answered (shapeRefused (now (extents .entry)) (now (sizes .entry)) (now (strides .entry)) purpose) ⌝ }
-{
-    let rank = extents.len();
-    let operands = sizes.len();
-    if rank_over(rank) {
-        return Answer::Refused(Refusal::Rank);
-    }
-    if operands_wrong(operands) {
-        return Answer::Refused(Refusal::Operands);
-    }
-    if strides_wrong(rank, operands, strides) {
-        return Answer::Refused(Refusal::StrideCount);
-    }
-    if chosen_missing(operands, purpose) {
-        return Answer::Refused(Refusal::Chosen);
-    }
-    Answer::Served
 }
 
 // Rows 1 to 7.
@@ -104,9 +74,9 @@ pub extern "C" fn parts_ranks<'a>(
     chosen: u64,
     ranks: &mut [[u64; 64]; 8],
 ) -> u64
-    ensures { λ r. ⌜ Part (shapeRefused (now (extents .entry)) (now (sizes .entry)) (now (strides .entry)) (purposeOf kind chosen)) (padded 8 (replicate 64 0) (map (padded 64 0) (rankTable (now (strides .entry)) (length (now (extents .entry))) (length (now (sizes .entry)))))) (now (ranks .entry)) (now (ranks .exit)) r ⌝ }
+    ensures { λ r. ⌜ Part (countsRefused (now (extents .entry)) (now (sizes .entry)) (now (strides .entry)) (purposeOf kind chosen)) (padded 8 (replicate 64 0) (map (padded 64 0) (rankTable (now (strides .entry)) (length (now (extents .entry))) (length (now (sizes .entry)))))) (now (ranks .entry)) (now (ranks .exit)) r ⌝ }
 {
-    let checked = check_shape(extents, sizes, strides, purpose_of(kind, chosen));
+    let checked = check_counts(extents, sizes, strides, purpose_of(kind, chosen));
     match checked {
         Answer::Refused(refusal) => number(refusal),
         Answer::Served => {
@@ -127,10 +97,10 @@ pub extern "C" fn parts_weights<'a>(
     chosen: u64,
     importance: &mut [u64; 64],
 ) -> u64
-    ensures { λ r. ⌜ Part (shapeRefused (now (extents .entry)) (now (sizes .entry)) (now (strides .entry)) (purposeOf kind chosen)) (padded 64 0 (weights (now (extents .entry)) (length (now (sizes .entry))) (now (strides .entry)) (lead (purposeOf kind chosen)))) (now (importance .entry)) (now (importance .exit)) r ⌝ }
+    ensures { λ r. ⌜ Part (countsRefused (now (extents .entry)) (now (sizes .entry)) (now (strides .entry)) (purposeOf kind chosen)) (padded 64 0 (weights (now (extents .entry)) (length (now (sizes .entry))) (now (strides .entry)) (lead (purposeOf kind chosen)))) (now (importance .entry)) (now (importance .exit)) r ⌝ }
 {
     let purpose = purpose_of(kind, chosen);
-    let checked = check_shape(extents, sizes, strides, purpose);
+    let checked = check_counts(extents, sizes, strides, purpose);
     match checked {
         Answer::Refused(refusal) => number(refusal),
         Answer::Served => {
@@ -151,10 +121,10 @@ pub extern "C" fn parts_order<'a>(
     chosen: u64,
     order: &mut [usize; 64],
 ) -> u64
-    ensures { λ r. ⌜ Part (shapeRefused (now (extents .entry)) (now (sizes .entry)) (now (strides .entry)) (purposeOf kind chosen)) (padded 64 0 (loopOrder (now (extents .entry)) (length (now (sizes .entry))) (now (strides .entry)) (purposeOf kind chosen))) (now (order .entry)) (now (order .exit)) r ⌝ }
+    ensures { λ r. ⌜ Part (countsRefused (now (extents .entry)) (now (sizes .entry)) (now (strides .entry)) (purposeOf kind chosen)) (padded 64 0 (loopOrder (now (extents .entry)) (length (now (sizes .entry))) (now (strides .entry)) (purposeOf kind chosen))) (now (order .entry)) (now (order .exit)) r ⌝ }
 {
     let purpose = purpose_of(kind, chosen);
-    let checked = check_shape(extents, sizes, strides, purpose);
+    let checked = check_counts(extents, sizes, strides, purpose);
     match checked {
         Answer::Refused(refusal) => number(refusal),
         Answer::Served => {
@@ -207,10 +177,10 @@ pub extern "C" fn parts_fused<'a>(
     chosen: u64,
     fused: &mut [u64; 64],
 ) -> u64
-    ensures { λ r. ⌜ Part (shapeRefused (now (extents .entry)) (now (sizes .entry)) (now (strides .entry)) (purposeOf kind chosen)) (padded 64 0 (fusedExtents (now (extents .entry)) (length (now (sizes .entry))) (now (strides .entry)) (purposeOf kind chosen))) (now (fused .entry)) (now (fused .exit)) r ⌝ }
+    ensures { λ r. ⌜ Part (countsRefused (now (extents .entry)) (now (sizes .entry)) (now (strides .entry)) (purposeOf kind chosen)) (padded 64 0 (fusedExtents (now (extents .entry)) (length (now (sizes .entry))) (now (strides .entry)) (purposeOf kind chosen))) (now (fused .entry)) (now (fused .exit)) r ⌝ }
 {
     let purpose = purpose_of(kind, chosen);
-    let checked = check_shape(extents, sizes, strides, purpose);
+    let checked = check_counts(extents, sizes, strides, purpose);
     match checked {
         Answer::Refused(refusal) => number(refusal),
         Answer::Served => {
@@ -233,12 +203,12 @@ pub extern "C" fn parts_axes<'a>(
     kept: &mut [u64; 64],
     table: &mut [i64; 512],
 ) -> u64
-    ensures rank { λ r. ⌜ Part (shapeRefused (now (extents .entry)) (now (sizes .entry)) (now (strides .entry)) (purposeOf kind chosen)) (length (planAxes (now (extents .entry)) (length (now (sizes .entry))) (now (strides .entry)) (purposeOf kind chosen)) ∷ []) (now (count .entry)) (now (count .exit)) r ⌝ }
-    ensures extents { λ r. ⌜ Part (shapeRefused (now (extents .entry)) (now (sizes .entry)) (now (strides .entry)) (purposeOf kind chosen)) (padded 64 0 (extentsOf (planAxes (now (extents .entry)) (length (now (sizes .entry))) (now (strides .entry)) (purposeOf kind chosen)))) (now (kept .entry)) (now (kept .exit)) r ⌝ }
-    ensures strides { λ r. ⌜ Part (shapeRefused (now (extents .entry)) (now (sizes .entry)) (now (strides .entry)) (purposeOf kind chosen)) (strideTable (planAxes (now (extents .entry)) (length (now (sizes .entry))) (now (strides .entry)) (purposeOf kind chosen)) (length (now (sizes .entry)))) (now (table .entry)) (now (table .exit)) r ⌝ }
+    ensures rank { λ r. ⌜ Part (countsRefused (now (extents .entry)) (now (sizes .entry)) (now (strides .entry)) (purposeOf kind chosen)) (length (planAxes (now (extents .entry)) (length (now (sizes .entry))) (now (strides .entry)) (purposeOf kind chosen)) ∷ []) (now (count .entry)) (now (count .exit)) r ⌝ }
+    ensures extents { λ r. ⌜ Part (countsRefused (now (extents .entry)) (now (sizes .entry)) (now (strides .entry)) (purposeOf kind chosen)) (padded 64 0 (extentsOf (planAxes (now (extents .entry)) (length (now (sizes .entry))) (now (strides .entry)) (purposeOf kind chosen)))) (now (kept .entry)) (now (kept .exit)) r ⌝ }
+    ensures strides { λ r. ⌜ Part (countsRefused (now (extents .entry)) (now (sizes .entry)) (now (strides .entry)) (purposeOf kind chosen)) (strideTable (planAxes (now (extents .entry)) (length (now (sizes .entry))) (now (strides .entry)) (purposeOf kind chosen)) (length (now (sizes .entry)))) (now (table .entry)) (now (table .exit)) r ⌝ }
 {
     let purpose = purpose_of(kind, chosen);
-    let checked = check_shape(extents, sizes, strides, purpose);
+    let checked = check_counts(extents, sizes, strides, purpose);
     match checked {
         Answer::Refused(refusal) => number(refusal),
         Answer::Served => {
@@ -261,10 +231,10 @@ pub extern "C" fn parts_costs<'a>(
     chosen: u64,
     costs: &mut [u64; 64],
 ) -> u64
-    ensures { λ r. ⌜ Part (shapeRefused (now (extents .entry)) (now (sizes .entry)) (now (strides .entry)) (purposeOf kind chosen)) (padded 64 0 (planCosts (now (extents .entry)) (length (now (sizes .entry))) (now (strides .entry)) (purposeOf kind chosen))) (now (costs .entry)) (now (costs .exit)) r ⌝ }
+    ensures { λ r. ⌜ Part (countsRefused (now (extents .entry)) (now (sizes .entry)) (now (strides .entry)) (purposeOf kind chosen)) (padded 64 0 (planCosts (now (extents .entry)) (length (now (sizes .entry))) (now (strides .entry)) (purposeOf kind chosen))) (now (costs .entry)) (now (costs .exit)) r ⌝ }
 {
     let purpose = purpose_of(kind, chosen);
-    let checked = check_shape(extents, sizes, strides, purpose);
+    let checked = check_counts(extents, sizes, strides, purpose);
     match checked {
         Answer::Refused(refusal) => number(refusal),
         Answer::Served => {

@@ -9,24 +9,24 @@ use Rattle.strided.specs.Fuse.{planAxes}
 use Rattle.strided.specs.Plan.{strideTable}
 use Rattle.strided.specs.Refusals.{answered}
 use Rattle.strided.specs.declared.Answer.the-variants.{Served}
-use Rattle.parts.specs.Answers.{purposeOf, shapeRefused}
-use Rattle.parts.proofs.Laws.{answer-of, part-refused, part-served, shape-fits}
+use Rattle.parts.specs.Answers.{purposeOf, countsRefused}
+use Rattle.parts.proofs.Laws.{answer-of, part-refused, part-served, counts-fit}
 use Rattle.parts.proofs.parts_axes.Statement.{statement}
 use Rattle.parts.proofs.parts_axes.Tie as tie
 
 -- the checks let the layout through
 served : (c : tie.After-enum-told) → let a = c .before .before .before .before .before .before .args in
-    answered (shapeRefused (a .extents .now) (a .sizes .now) (a .strides .now) (purposeOf (a .kind) (a .chosen))) ≡ Served
+    answered (countsRefused (a .extents .now) (a .sizes .now) (a .strides .now) (purposeOf (a .kind) (a .chosen))) ≡ Served
 served c =
     let k = c .before .before in
     let a = k .before .before .before .before .args in
-    answer-of (shapeRefused (a .extents .now) (a .sizes .now) (a .strides .now)) (k .before .purpose-of .ensures) (k .check-shape .ensures) (c .enum-told .given .1)
+    answer-of (countsRefused (a .extents .now) (a .sizes .now) (a .strides .now)) (k .before .purpose-of .ensures) (k .check-counts .ensures) (c .enum-told .given .1)
 
 purpose-of-requires : tie.Need-purpose-of-requires
 purpose-of-requires c κs = search needs
 
-check-shape-requires : tie.Need-check-shape-requires
-check-shape-requires c κs = search needs
+check-counts-requires : tie.Need-check-counts-requires
+check-counts-requires c κs = search needs
 
 enum-known-checked : tie.Need-enum-known-checked
 enum-known-checked c = search needs
@@ -41,14 +41,14 @@ axes-into-requires : tie.Need-axes-into-requires
 axes-into-requires c κs =
     let t = c .before .before .before .before in
     let a = t .before .before .before .before .before .before .args in
-    (shape-fits (a .extents .now) (a .sizes .now) (a .strides .now) (purposeOf (a .kind) (a .chosen)) (served t), record { extents = refl; strides = refl })
+    (counts-fit (a .extents .now) (a .sizes .now) (a .strides .now) (purposeOf (a .kind) (a .chosen)) (served t), record { extents = refl; strides = refl })
 
 returns : tie.Need-returns
 returns c =
     let k = c .before .before .before .before in
     let a = c .before .before .before .before .before .before .before .before .args in
-    let refused = shapeRefused (a .extents .now) (a .sizes .now) (a .strides .now) in
-    let h = answer-of refused (k .before .purpose-of .ensures) (k .check-shape .ensures) (c .before .before .checked .given .1) in
+    let refused = countsRefused (a .extents .now) (a .sizes .now) (a .strides .now) in
+    let h = answer-of refused (k .before .purpose-of .ensures) (k .check-counts .ensures) (c .before .before .checked .given .1) in
     let o = refused (purposeOf (a .kind) (a .chosen)) in
     (part-refused o h (c .number .ensures), (part-refused o h (c .number .ensures), part-refused o h (c .number .ensures)))
 
@@ -60,7 +60,7 @@ returns-2 c =
     let es = a .extents .now in
     let m = length (a .sizes .now) in
     let ss = a .strides .now in
-    let o = shapeRefused es (a .sizes .now) ss (purposeOf (a .kind) (a .chosen)) in
+    let o = countsRefused es (a .sizes .now) ss (purposeOf (a .kind) (a .chosen)) in
     let e = t .before .before .before .purpose-of .ensures in
     let found = f .axes-into .ensures in (
       part-served o (served t) (ap (λ n. n ∷ []) (found .0 ∙ ap (λ u. length (planAxes es m ss u)) e)),
@@ -72,7 +72,7 @@ parts-axes-spec =
     tie.close
     (tie.spec
     purpose-of-requires
-    check-shape-requires
+    check-counts-requires
     enum-known-checked
     number-requires
     enum-told
