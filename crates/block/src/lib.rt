@@ -1,24 +1,27 @@
 // Cutting: block sizes whose region fits the cache, by the axis ranks, the byte strides and the costs of the plan's axes.
+use region::Tail;
 use region::memory_region;
 use shrink::shrink;
 use strided::Machine;
 ghost use mathlib.Core.Path.{_≡_};
-ghost use Prim.Native.Nat.{_-_, _<_, _≤_};
+ghost use Prim.Native.Nat.{_<_};
 ghost use lib.ListN.{getD};
 ghost use Rattle.strided.specs.Base.{least};
 ghost use Rattle.strided.specs.Machine.{Allowed};
 ghost use Rattle.strided.specs.Region.{byteAt};
 ghost use Rattle.strided.specs.Cut.{leastRank, leastByte, keepsFirst, ones, cutting};
 ghost use Rattle.laws.specs.Cut.Steps.{ScoresFit};
+ghost use Rattle.region.specs.Tail.{Within, Nonempty, axes};
 
-// The least rank of a row from offset to rank.
-fn least_in_row(row: &[u64; 64], offset: usize, rank: usize) -> u64
-    requires { ⌜ (offset < rank) × (rank ≤ 64) ⌝ }
-    ensures { λ r. ⌜ r ≡ least (λ i. getD (now (row .entry)) i 0) offset (rank - offset) ⌝ }
+// The least rank of a row in the tail.
+fn least_in_row(tail: Tail, row: &[u64; 64]) -> u64
+    requires { ⌜ Nonempty tail ⌝ }
+    ensures { λ r. ⌜ r ≡ least (λ i. getD (now (row .entry)) i 0) (tail .offset) (axes tail) ⌝ }
 {
-    let mut m = row[offset];
-    let mut i = offset + 1;
-    while i < rank {
+    let first = tail.offset;
+    let mut m = row[first];
+    let mut i = first + 1;
+    while i < tail.rank {
         let x = row[i];
         if x < m {
             m = x;
@@ -28,15 +31,15 @@ fn least_in_row(row: &[u64; 64], offset: usize, rank: usize) -> u64
     m
 }
 
-// The least rank that any operand has from offset to rank.
-fn least_rank(ranks: &[[u64; 64]; 8], operands: usize, offset: usize, rank: usize) -> u64
-    requires { ⌜ ((0 < operands) × (operands ≤ 8)) × ((offset < rank) × (rank ≤ 64)) ⌝ }
-    ensures { λ r. ⌜ r ≡ leastRank (now (ranks .entry)) operands offset (rank - offset) ⌝ }
+// The least rank that any operand has in the tail.
+fn least_rank(tail: Tail, ranks: &[[u64; 64]; 8]) -> u64
+    requires { ⌜ Nonempty tail ⌝ }
+    ensures { λ r. ⌜ r ≡ leastRank (now (ranks .entry)) (tail .operands) (tail .offset) (axes tail) ⌝ }
 {
-    let mut m = least_in_row(&ranks[0], offset, rank);
+    let mut m = least_in_row(tail, &ranks[0]);
     let mut k = 1;
-    while k < operands {
-        let x = least_in_row(&ranks[k], offset, rank);
+    while k < tail.operands {
+        let x = least_in_row(tail, &ranks[k]);
         if x < m {
             m = x;
         }
@@ -46,14 +49,15 @@ fn least_rank(ranks: &[[u64; 64]; 8], operands: usize, offset: usize, rank: usiz
 }
 
 // Whether every operand's first rank is the least rank of the tail.
-fn keeps_first(ranks: &[[u64; 64]; 8], operands: usize, offset: usize, rank: usize) -> bool
-    requires { ⌜ ((0 < operands) × (operands ≤ 8)) × ((offset < rank) × (rank ≤ 64)) ⌝ }
-    ensures { λ r. ⌜ r ≡ keepsFirst (now (ranks .entry)) operands offset (rank - offset) ⌝ }
+fn keeps_first(tail: Tail, ranks: &[[u64; 64]; 8]) -> bool
+    requires { ⌜ Nonempty tail ⌝ }
+    ensures { λ r. ⌜ r ≡ keepsFirst (now (ranks .entry)) (tail .operands) (tail .offset) (axes tail) ⌝ }
 {
-    let m = least_rank(ranks, operands, offset, rank);
+    let m = least_rank(tail, ranks);
+    let first = tail.offset;
     let mut k = 0;
-    while k < operands {
-        if ranks[k][offset] != m {
+    while k < tail.operands {
+        if ranks[k][first] != m {
             return false;
         }
         k += 1;
@@ -61,14 +65,15 @@ fn keeps_first(ranks: &[[u64; 64]; 8], operands: usize, offset: usize, rank: usi
     true
 }
 
-// The least byte stride of operand k from offset to rank.
-fn least_byte_of(bytes: &[u64; 512], k: usize, offset: usize, rank: usize) -> u64
-    requires { ⌜ (k < 8) × ((offset < rank) × (rank ≤ 64)) ⌝ }
-    ensures { λ r. ⌜ r ≡ least (byteAt (now (bytes .entry)) k) offset (rank - offset) ⌝ }
+// The least byte stride of operand k in the tail.
+fn least_byte_of(tail: Tail, bytes: &[u64; 512], k: usize) -> u64
+    requires { ⌜ Nonempty tail × (k < 8) ⌝ }
+    ensures { λ r. ⌜ r ≡ least (byteAt (now (bytes .entry)) k) (tail .offset) (axes tail) ⌝ }
 {
-    let mut m = bytes[k * 64 + offset];
-    let mut i = offset + 1;
-    while i < rank {
+    let first = tail.offset;
+    let mut m = bytes[k * 64 + first];
+    let mut i = first + 1;
+    while i < tail.rank {
         let x = bytes[k * 64 + i];
         if x < m {
             m = x;
@@ -78,15 +83,15 @@ fn least_byte_of(bytes: &[u64; 512], k: usize, offset: usize, rank: usize) -> u6
     m
 }
 
-// The least byte stride that any operand has from offset to rank.
-fn least_byte(bytes: &[u64; 512], operands: usize, offset: usize, rank: usize) -> u64
-    requires { ⌜ ((0 < operands) × (operands ≤ 8)) × ((offset < rank) × (rank ≤ 64)) ⌝ }
-    ensures { λ r. ⌜ r ≡ leastByte (now (bytes .entry)) operands offset (rank - offset) ⌝ }
+// The least byte stride that any operand has in the tail.
+fn least_byte(tail: Tail, bytes: &[u64; 512]) -> u64
+    requires { ⌜ Nonempty tail ⌝ }
+    ensures { λ r. ⌜ r ≡ leastByte (now (bytes .entry)) (tail .operands) (tail .offset) (axes tail) ⌝ }
 {
-    let mut m = least_byte_of(bytes, 0, offset, rank);
+    let mut m = least_byte_of(tail, bytes, 0);
     let mut k = 1;
-    while k < operands {
-        let x = least_byte_of(bytes, k, offset, rank);
+    while k < tail.operands {
+        let x = least_byte_of(tail, bytes, k);
         if x < m {
             m = x;
         }
@@ -95,56 +100,51 @@ fn least_byte(bytes: &[u64; 512], operands: usize, offset: usize, rank: usize) -
     m
 }
 
-// The blocks from offset to rank become 1.
-fn set_ones(blocks: &mut [u64; 64], offset: usize, rank: usize)
-    requires { ⌜ (offset ≤ rank) × (rank ≤ 64) ⌝ }
-    ensures { λ _. ⌜ now (blocks .exit) ≡ ones offset (rank - offset) (now (blocks .entry)) ⌝ }
+// The blocks of the tail become 1.
+fn set_ones(tail: Tail, blocks: &mut [u64; 64])
+    requires { ⌜ Within tail ⌝ }
+    ensures { λ _. ⌜ now (blocks .exit) ≡ ones (tail .offset) (axes tail) (now (blocks .entry)) ⌝ }
 {
-    let mut i = offset;
-    while i < rank {
+    let mut i = tail.offset;
+    while i < tail.rank {
         blocks[i] = 1;
         i += 1;
     }
 }
 
-// Cutting, on the axes from offset to rank: a first axis that is innermost for every operand is kept whole, and the rule starts over on
-// the next tail. The ranks are those of all the plan's axes on every level.
+// Cutting, on a tail: a first axis that is innermost for every operand is kept whole, and the rule starts over on the next tail. The
+// ranks are those of all the plan's axes on every level.
 pub fn compute_blocks_at<'a>(
     machine: Machine,
+    tail: Tail,
     blocks: &mut [u64; 64],
     bytes: &'a [u64; 512],
     costs: &'a [u64; 64],
     ranks: &'a [[u64; 64]; 8],
-    operands: usize,
-    offset: usize,
-    rank: usize,
 )
     requires { ⌜ Allowed machine ⌝ }
-    requires { ⌜ (((0 < operands) × (operands ≤ 8)) × ((offset ≤ rank) × (rank ≤ 64))) × ScoresFit rank (now costs) (now blocks) ⌝ }
-    ensures { λ _. ⌜ now (blocks .exit) ≡ cutting machine (now (bytes .entry)) operands (now (costs .entry)) (now (ranks .entry)) offset (rank - offset) (now (blocks .entry)) ⌝ }
+    requires { ⌜ ((0 < tail .operands) × Within tail) × ScoresFit (tail .rank) (now costs) (now blocks) ⌝ }
+    ensures { λ _. ⌜ now (blocks .exit) ≡ cutting machine (now (bytes .entry)) (tail .operands) (now (costs .entry)) (now (ranks .entry)) (tail .offset) (axes tail) (now (blocks .entry)) ⌝ }
 {
-    if offset == rank {
+    if tail.offset == tail.rank {
         return;
     }
-    if memory_region(machine, blocks, bytes, operands, offset, rank) <= machine.cache {
+    if memory_region(machine, tail, blocks, bytes) <= machine.cache {
         return;
     }
-    if keeps_first(ranks, operands, offset, rank) {
-        compute_blocks_at(
-            machine,
-            blocks,
-            bytes,
-            costs,
-            ranks,
-            operands,
-            offset + 1,
-            rank,
-        );
+    if keeps_first(tail, ranks) {
+        let offset = tail.offset + 1;
+        let rest = Tail {
+            operands: tail.operands,
+            offset,
+            rank: tail.rank,
+        };
+        compute_blocks_at(machine, rest, blocks, bytes, costs, ranks);
         return;
     }
-    if machine.cache < least_byte(bytes, operands, offset, rank) {
-        set_ones(blocks, offset, rank);
+    if machine.cache < least_byte(tail, bytes) {
+        set_ones(tail, blocks);
         return;
     }
-    shrink(machine, blocks, bytes, costs, operands, offset, rank);
+    shrink(machine, tail, blocks, bytes, costs);
 }

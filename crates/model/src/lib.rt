@@ -4,6 +4,7 @@ use block::compute_blocks_at;
 use decline::declines_tiles;
 use l1::L1Sets;
 use layout::sizes::magnitude;
+use region::Tail;
 use region::memory_region;
 use strided::Machine;
 use strided::Purpose;
@@ -129,7 +130,12 @@ pub fn fits_whole<'a>(
     requires { ⌜ (operands ≤ 8) × (rank ≤ 64) ⌝ }
     ensures { λ r. ⌜ r ≡ leb (region machine (now (bytes .entry)) operands (now (extents .entry)) 0 rank) (machine .cache) ⌝ }
 {
-    memory_region(machine, extents, bytes, operands, 0, rank) <= machine.cache
+    let all = Tail {
+        operands,
+        offset: 0,
+        rank,
+    };
+    memory_region(machine, all, extents, bytes) <= machine.cache
 }
 
 // A copy into the chosen operand is fitted to the L1 sets. A fold keeps the model's blocks, which order its sum; walks with more operands
@@ -179,7 +185,12 @@ pub fn cut_blocks<'a>(
     ensures { λ _. ⌜ now (blocks .exit) ≡ cutBlocks machine (now (sizes .entry)) (now (extents .entry)) (now (strides .entry)) rank purpose ⌝ }
 {
     *blocks = *extents;
-    compute_blocks_at(machine, blocks, bytes, costs, &ranks, sizes.len(), 0, rank);
+    let all = Tail {
+        operands: sizes.len(),
+        offset: 0,
+        rank,
+    };
+    compute_blocks_at(machine, all, blocks, bytes, costs, &ranks);
     if declines_tiles(machine, sizes, strides, extents, blocks, rank) {
         *blocks = *extents;
         return;

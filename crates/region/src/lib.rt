@@ -3,10 +3,18 @@
 // against is greater.
 use strided::Machine;
 ghost use mathlib.Core.Path.{_≡_};
-ghost use Prim.Native.Nat.{_+_, _-_, _*_, _<_, _≤_, min};
+ghost use Prim.Native.Nat.{_+_, _-_, _*_, _/_, _<_, _≤_, min};
 ghost use Rattle.strided.specs.Machine.{Allowed};
 ghost use Rattle.strided.specs.Region.{regionOf, region};
 ghost use Rattle.laws.specs.Cut.Saturate.{cap};
+ghost use Rattle.region.specs.Tail.{Within, axes};
+
+// The tail of axes that cutting looks at, those from offset to rank, of so many operands.
+pub struct Tail {
+    pub operands: usize,
+    pub offset: usize,
+    pub rank: usize,
+}
 
 fn least(a: u64, b: u64) -> u64
     ensures { λ r. ⌜ r ≡ min a b ⌝ }
@@ -52,25 +60,34 @@ fn times(m: u64, b: u64, top: u64) -> u64
     least(m * least(b, top), top)
 }
 
-// The region of operand k over the axes from offset to rank.
+// The bytes of the lines up to the one that holds byte c. A line is a power of two, so that shifts divide and multiply by it.
+fn whole_lines(machine: Machine, c: u64) -> u64
+    requires { ⌜ Allowed machine ⌝ }
+    requires { ⌜ c ≤ 2097153 ⌝ }
+    ensures { λ r. ⌜ r ≡ (c / machine .line + 1) * machine .line ⌝ }
+{
+    let bits = u64::trailing_zeros(machine.line);
+    ((c >> bits) + 1) << bits
+}
+
+// The region of operand k over a tail.
 fn region_of<'a>(
     machine: Machine,
+    tail: Tail,
     blocks: &'a [u64; 64],
     bytes: &'a [u64; 512],
     k: usize,
-    offset: usize,
-    rank: usize,
 ) -> u64
     requires { ⌜ Allowed machine ⌝ }
-    requires { ⌜ (k < 8) × ((offset ≤ rank) × (rank ≤ 64)) ⌝ }
-    ensures { λ r. ⌜ r ≡ min (regionOf machine (now (bytes .entry)) (now (blocks .entry)) offset (rank - offset) k) (cap machine) ⌝ }
+    requires { ⌜ Within tail × (k < 8) ⌝ }
+    ensures { λ r. ⌜ r ≡ min (regionOf machine (now (bytes .entry)) (now (blocks .entry)) (tail .offset) (axes tail) k) (cap machine) ⌝ }
 {
     let top = 2 * machine.cache + 1;
     let from = k * 64;
     let mut c: u64 = 0;
     let mut m: u64 = 1;
-    let mut i = offset;
-    while i < rank {
+    let mut i = tail.offset;
+    while i < tail.rank {
         let s = bytes[from + i];
         let b = blocks[i];
         if s < machine.line {
@@ -80,27 +97,25 @@ fn region_of<'a>(
         }
         i += 1;
     }
-    times(m, (least(c, top) / machine.line + 1) * machine.line, top)
+    times(m, whole_lines(machine, least(c, top)), top)
 }
 
-// The region over the axes from offset to rank, summed over the operands.
+// The region over a tail, summed over the operands.
 pub fn memory_region<'a>(
     machine: Machine,
+    tail: Tail,
     blocks: &'a [u64; 64],
     bytes: &'a [u64; 512],
-    operands: usize,
-    offset: usize,
-    rank: usize,
 ) -> u64
     requires { ⌜ Allowed machine ⌝ }
-    requires { ⌜ (operands ≤ 8) × ((offset ≤ rank) × (rank ≤ 64)) ⌝ }
-    ensures { λ r. ⌜ r ≡ min (region machine (now (bytes .entry)) operands (now (blocks .entry)) offset (rank - offset)) (cap machine) ⌝ }
+    requires { ⌜ Within tail ⌝ }
+    ensures { λ r. ⌜ r ≡ min (region machine (now (bytes .entry)) (tail .operands) (now (blocks .entry)) (tail .offset) (axes tail)) (cap machine) ⌝ }
 {
     let limit = 2 * machine.cache + 1;
     let mut r: u64 = 0;
     let mut k = 0;
-    while k < operands {
-        r = sat_add(r, region_of(machine, blocks, bytes, k, offset, rank), limit);
+    while k < tail.operands {
+        r = sat_add(r, region_of(machine, tail, blocks, bytes, k), limit);
         k += 1;
     }
     r

@@ -1,13 +1,15 @@
 // The blocks of a tail shortened until their region fits the cache: halving, then single steps of 1, most of which are one jump. The block
 // to shorten is the one with the greatest score.
+use region::Tail;
 use region::less_one;
 use region::memory_region;
 use strided::Machine;
 ghost use mathlib.Core.Path.{_≡_};
-ghost use Prim.Native.Nat.{_+_, _-_, _/_, _≤_, _<_};
+ghost use Prim.Native.Nat.{_+_, _/_, _<_};
 ghost use Rattle.strided.specs.Machine.{Allowed};
 ghost use Rattle.strided.specs.Region.{region};
 ghost use Rattle.strided.specs.Cut.{score, greatestScore, halved, lessened, shrunk};
+ghost use Rattle.region.specs.Tail.{Within, axes};
 ghost use Rattle.laws.specs.Cut.Steps.{ScoresFit};
 ghost use Rattle.laws.specs.Cut.Picks.{topOf};
 ghost use Rattle.laws.specs.Cut.Jump.{clippedOver};
@@ -20,20 +22,15 @@ pub enum Pick {
     Nothing,
 }
 
-// The greatest (block - 1) * cost over the blocks above 1 from offset to rank; the last wins ties.
-fn last_argmax_weighted<'a>(
-    blocks: &'a [u64; 64],
-    costs: &'a [u64; 64],
-    offset: usize,
-    rank: usize,
-) -> Pick
-    requires { ⌜ ((offset ≤ rank) × (rank ≤ 64)) × ScoresFit rank (now costs) (now blocks) ⌝ }
-    ensures { λ r. ⌜ picked r ≡ greatestScore (now (blocks .entry)) (now (costs .entry)) offset (rank - offset) ⌝ }
+// The greatest (block - 1) * cost over the blocks above 1 of the tail; the last wins ties.
+fn last_argmax_weighted<'a>(tail: Tail, blocks: &'a [u64; 64], costs: &'a [u64; 64]) -> Pick
+    requires { ⌜ Within tail × ScoresFit (tail .rank) (now costs) (now blocks) ⌝ }
+    ensures { λ r. ⌜ picked r ≡ greatestScore (now (blocks .entry)) (now (costs .entry)) (tail .offset) (axes tail) ⌝ }
 {
     let mut best = Pick::Nothing;
     let mut top: u64 = 0;
-    let mut i = offset;
-    while i < rank {
+    let mut i = tail.offset;
+    while i < tail.rank {
         let b = blocks[i];
         if 1 < b {
             let s = (b - 1) * costs[i];
@@ -57,22 +54,20 @@ fn half(x: u64) -> u64
 // While the region is at least twice the cache, the picked block is halved.
 fn halve<'a>(
     machine: Machine,
+    tail: Tail,
     blocks: &mut [u64; 64],
     bytes: &'a [u64; 512],
     costs: &'a [u64; 64],
-    operands: usize,
-    offset: usize,
-    rank: usize,
 )
     requires { ⌜ Allowed machine ⌝ }
-    requires { ⌜ ((operands ≤ 8) × ((offset ≤ rank) × (rank ≤ 64))) × ScoresFit rank (now costs) (now blocks) ⌝ }
-    ensures { λ _. ⌜ now (blocks .exit) ≡ halved machine (now (bytes .entry)) operands (now (costs .entry)) offset (rank - offset) (now (blocks .entry)) ⌝ }
+    requires { ⌜ Within tail × ScoresFit (tail .rank) (now costs) (now blocks) ⌝ }
+    ensures { λ _. ⌜ now (blocks .exit) ≡ halved machine (now (bytes .entry)) (tail .operands) (now (costs .entry)) (tail .offset) (axes tail) (now (blocks .entry)) ⌝ }
 {
     loop {
-        if memory_region(machine, blocks, bytes, operands, offset, rank) < 2 * machine.cache {
+        if memory_region(machine, tail, blocks, bytes) < 2 * machine.cache {
             return;
         }
-        let Pick::At(i) = last_argmax_weighted(blocks, costs, offset, rank) else {
+        let Pick::At(i) = last_argmax_weighted(tail, blocks, costs) else {
             return;
         };
         blocks[i] = half(blocks[i]);
@@ -82,42 +77,39 @@ fn halve<'a>(
 // While the region is above the cache, the picked block loses 1.
 fn lessen<'a>(
     machine: Machine,
+    tail: Tail,
     blocks: &mut [u64; 64],
     bytes: &'a [u64; 512],
     costs: &'a [u64; 64],
-    operands: usize,
-    offset: usize,
-    rank: usize,
 )
     requires { ⌜ Allowed machine ⌝ }
-    requires { ⌜ ((operands ≤ 8) × ((offset ≤ rank) × (rank ≤ 64))) × ScoresFit rank (now costs) (now blocks) ⌝ }
-    ensures { λ _. ⌜ now (blocks .exit) ≡ lessened machine (now (bytes .entry)) operands (now (costs .entry)) offset (rank - offset) (now (blocks .entry)) ⌝ }
+    requires { ⌜ Within tail × ScoresFit (tail .rank) (now costs) (now blocks) ⌝ }
+    ensures { λ _. ⌜ now (blocks .exit) ≡ lessened machine (now (bytes .entry)) (tail .operands) (now (costs .entry)) (tail .offset) (axes tail) (now (blocks .entry)) ⌝ }
 {
     loop {
-        if memory_region(machine, blocks, bytes, operands, offset, rank) <= machine.cache {
+        if memory_region(machine, tail, blocks, bytes) <= machine.cache {
             return;
         }
-        let Pick::At(i) = last_argmax_weighted(blocks, costs, offset, rank) else {
+        let Pick::At(i) = last_argmax_weighted(tail, blocks, costs) else {
             return;
         };
         blocks[i] -= 1;
     }
 }
 
-// Every score above s from offset to rank is taken down to s or below, in one step. What becomes of each block is written into `out`.
+// Every score above s in the tail is taken down to s or below, in one step. What becomes of each block is written into `out`.
 fn clip_into<'a>(
+    tail: Tail,
     blocks: &'a [u64; 64],
     costs: &'a [u64; 64],
-    offset: usize,
-    rank: usize,
     s: u64,
     out: &mut [u64; 64],
 )
-    requires { ⌜ ((offset ≤ rank) × (rank ≤ 64)) × ScoresFit rank (now costs) (now blocks) ⌝ }
-    ensures { λ _. ⌜ now (out .exit) ≡ clippedOver s (now (costs .entry)) offset (rank - offset) (now (blocks .entry)) (now (out .entry)) ⌝ }
+    requires { ⌜ Within tail × ScoresFit (tail .rank) (now costs) (now blocks) ⌝ }
+    ensures { λ _. ⌜ now (out .exit) ≡ clippedOver s (now (costs .entry)) (tail .offset) (axes tail) (now (blocks .entry)) (now (out .entry)) ⌝ }
 {
-    let mut i = offset;
-    while i < rank {
+    let mut i = tail.offset;
+    while i < tail.rank {
         let x = blocks[i];
         let c = costs[i];
         if s < less_one(x) * c {
@@ -129,12 +121,12 @@ fn clip_into<'a>(
     }
 }
 
-// The greatest score from offset to rank.
-fn top_score<'a>(blocks: &'a [u64; 64], costs: &'a [u64; 64], offset: usize, rank: usize) -> u64
-    requires { ⌜ ((offset ≤ rank) × (rank ≤ 64)) × ScoresFit rank (now costs) (now blocks) ⌝ }
-    ensures { λ r. ⌜ r ≡ topOf (score (now (blocks .entry)) (now (costs .entry))) (greatestScore (now (blocks .entry)) (now (costs .entry)) offset (rank - offset)) ⌝ }
+// The greatest score of the tail.
+fn top_score<'a>(tail: Tail, blocks: &'a [u64; 64], costs: &'a [u64; 64]) -> u64
+    requires { ⌜ Within tail × ScoresFit (tail .rank) (now costs) (now blocks) ⌝ }
+    ensures { λ r. ⌜ r ≡ topOf (score (now (blocks .entry)) (now (costs .entry))) (greatestScore (now (blocks .entry)) (now (costs .entry)) (tail .offset) (axes tail)) ⌝ }
 {
-    let Pick::At(i) = last_argmax_weighted(blocks, costs, offset, rank) else {
+    let Pick::At(i) = last_argmax_weighted(tail, blocks, costs) else {
         return 0;
     };
     less_one(blocks[i]) * costs[i]
@@ -144,25 +136,23 @@ fn top_score<'a>(blocks: &'a [u64; 64], costs: &'a [u64; 64], offset: usize, ran
 // most.
 fn level<'a>(
     machine: Machine,
+    tail: Tail,
     blocks: &'a [u64; 64],
     bytes: &'a [u64; 512],
     costs: &'a [u64; 64],
-    operands: usize,
-    offset: usize,
-    rank: usize,
 ) -> u64
     requires { ⌜ Allowed machine ⌝ }
-    requires { ⌜ ((operands ≤ 8) × ((offset ≤ rank) × (rank ≤ 64))) × ScoresFit rank (now costs) (now blocks) ⌝ }
-    requires { ⌜ machine .cache < region machine (now bytes) operands (now blocks) offset (rank - offset) ⌝ }
-    ensures { λ r. ⌜ Least machine (now (bytes .entry)) operands (now (costs .entry)) offset (rank - offset) (now (blocks .entry)) r ⌝ }
+    requires { ⌜ Within tail × ScoresFit (tail .rank) (now costs) (now blocks) ⌝ }
+    requires { ⌜ machine .cache < region machine (now bytes) (tail .operands) (now blocks) (tail .offset) (axes tail) ⌝ }
+    ensures { λ r. ⌜ Least machine (now (bytes .entry)) (tail .operands) (now (costs .entry)) (tail .offset) (axes tail) (now (blocks .entry)) r ⌝ }
 {
     let mut t = *blocks;
     let mut lo: u64 = 0;
-    let mut hi = top_score(blocks, costs, offset, rank);
+    let mut hi = top_score(tail, blocks, costs);
     while lo < hi {
         let mid = lo + (hi - lo) / 2;
-        clip_into(blocks, costs, offset, rank, mid, &mut t);
-        if machine.cache < memory_region(machine, &t, bytes, operands, offset, rank) {
+        clip_into(tail, blocks, costs, mid, &mut t);
+        if machine.cache < memory_region(machine, tail, &t, bytes) {
             hi = mid;
         } else {
             lo = mid + 1;
@@ -174,41 +164,37 @@ fn level<'a>(
 // As `lessen`, with one jump in place of the many single steps before the last few: below the jump's score each axis has at most one more.
 fn lessen_far<'a>(
     machine: Machine,
+    tail: Tail,
     blocks: &mut [u64; 64],
     bytes: &'a [u64; 512],
     costs: &'a [u64; 64],
-    operands: usize,
-    offset: usize,
-    rank: usize,
 )
     requires { ⌜ Allowed machine ⌝ }
-    requires { ⌜ ((operands ≤ 8) × ((offset ≤ rank) × (rank ≤ 64))) × ScoresFit rank (now costs) (now blocks) ⌝ }
-    ensures { λ _. ⌜ now (blocks .exit) ≡ lessened machine (now (bytes .entry)) operands (now (costs .entry)) offset (rank - offset) (now (blocks .entry)) ⌝ }
+    requires { ⌜ Within tail × ScoresFit (tail .rank) (now costs) (now blocks) ⌝ }
+    ensures { λ _. ⌜ now (blocks .exit) ≡ lessened machine (now (bytes .entry)) (tail .operands) (now (costs .entry)) (tail .offset) (axes tail) (now (blocks .entry)) ⌝ }
 {
-    if memory_region(machine, blocks, bytes, operands, offset, rank) <= machine.cache {
+    if memory_region(machine, tail, blocks, bytes) <= machine.cache {
         return;
     }
-    let s = level(machine, blocks, bytes, costs, operands, offset, rank);
+    let s = level(machine, tail, blocks, bytes, costs);
     let mut t = *blocks;
-    clip_into(blocks, costs, offset, rank, s, &mut t);
+    clip_into(tail, blocks, costs, s, &mut t);
     *blocks = t;
-    lessen(machine, blocks, bytes, costs, operands, offset, rank);
+    lessen(machine, tail, blocks, bytes, costs);
 }
 
-// The blocks from offset to rank, halved and then lessened.
+// The blocks of the tail, halved and then lessened.
 pub fn shrink<'a>(
     machine: Machine,
+    tail: Tail,
     blocks: &mut [u64; 64],
     bytes: &'a [u64; 512],
     costs: &'a [u64; 64],
-    operands: usize,
-    offset: usize,
-    rank: usize,
 )
     requires { ⌜ Allowed machine ⌝ }
-    requires { ⌜ ((operands ≤ 8) × ((offset ≤ rank) × (rank ≤ 64))) × ScoresFit rank (now costs) (now blocks) ⌝ }
-    ensures { λ _. ⌜ now (blocks .exit) ≡ shrunk machine (now (bytes .entry)) operands (now (costs .entry)) offset (rank - offset) (now (blocks .entry)) ⌝ }
+    requires { ⌜ Within tail × ScoresFit (tail .rank) (now costs) (now blocks) ⌝ }
+    ensures { λ _. ⌜ now (blocks .exit) ≡ shrunk machine (now (bytes .entry)) (tail .operands) (now (costs .entry)) (tail .offset) (axes tail) (now (blocks .entry)) ⌝ }
 {
-    halve(machine, blocks, bytes, costs, operands, offset, rank);
-    lessen_far(machine, blocks, bytes, costs, operands, offset, rank);
+    halve(machine, tail, blocks, bytes, costs);
+    lessen_far(machine, tail, blocks, bytes, costs);
 }

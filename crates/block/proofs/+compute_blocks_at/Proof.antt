@@ -7,6 +7,7 @@ use borrow.Fn.Kinds.{In, Out}
 use borrow.Fn.PlainCycle.{Measures, is, falls, and}
 use Rattle.strided.specs.Region.{region}
 use Rattle.laws.specs.Cut.Cases.{cut-empty, cut-fits, cut-keeps, cut-flat, cut-less}
+use Rattle.region.specs.Tail.{axes}
 use Rattle.region.proofs.memory_region.Kinds as memory-region-kinds
 use Rattle.region.proofs.memory_region.Reads as memory-region-reads
 use Rattle.shrink.proofs.shrink.Kinds as shrink-kinds
@@ -23,9 +24,9 @@ use Rattle.block.proofs.+compute_blocks_at.Lts-compute_blocks_at as lts
 use Rattle.block.proofs.+compute_blocks_at.{statement}
 use Rattle.block.proofs.+compute_blocks_at.Tie.{close}
 
--- the axes of the tail: rank less offset
+-- the axes of the tail
 abbrev μ : Measures 2 kinds.ps ℕ
-μ κs a = a .1 .1 .1 .1 .1 .1 .1 .0 - a .1 .1 .1 .1 .1 .1 .0
+μ κs a = axes (a .1 .0)
 
 -- what is asked at a tail of t axes, and of the call, whose tail is shorter
 abbrev Asked : ℕ → In 2 kinds.ps
@@ -65,50 +66,50 @@ callees t = (
 module _ (t : ℕ) where
   returns : lts.Need-returns (callees t) (Asked t) reads.Post
   returns c =
-      let a = c .before .args in
-      sym (cut-empty (a .machine) (a .bytes .now) (a .operands) (a .costs .now) (a .ranks .now) (a .offset) (a .rank) (a .blocks .now) (c .if1 .taken))
+      let a = c .before .before .args in
+      sym (cut-empty (a .machine) (a .bytes .now) (a .tail .operands) (a .costs .now) (a .ranks .now) (a .tail .offset) (a .tail .rank) (a .blocks .now) (c .if1 .taken))
 
   memory-region-requires : lts.Need-memory-region-requires (callees t) (Asked t) reads.Post
-  memory-region-requires c κs = (c .before .before .pre .1 .0, omega arith)
+  memory-region-requires c κs = (c .before .before .before .pre .1 .0, omega arith)
 
   returns-2 : lts.Need-returns-2 (callees t) (Asked t) reads.Post
   returns-2 c =
-      let a = c .before .before .before .before .before .args in
-      let small : region (a .machine) (a .bytes .now) (a .operands) (a .blocks .now) (a .offset) (a .rank - a .offset) ≤ a .machine .cache = omega arith in
-      sym (cut-fits (a .machine) (a .bytes .now) (a .operands) (a .costs .now) (a .ranks .now) (a .offset) (a .rank) (a .blocks .now) (omega arith) small)
+      let a = c .before .before .before .before .before .before .args in
+      let small : region (a .machine) (a .bytes .now) (a .tail .operands) (a .blocks .now) (a .tail .offset) (axes (a .tail)) ≤ a .machine .cache = omega arith in
+      sym (cut-fits (a .machine) (a .bytes .now) (a .tail .operands) (a .costs .now) (a .ranks .now) (a .tail .offset) (a .tail .rank) (a .blocks .now) (omega arith) small)
 
   keeps-first-requires : lts.Need-keeps-first-requires (callees t) (Asked t) reads.Post
   keeps-first-requires c κs = omega arith
 
   -- the arguments, from where the first axis is tested
   abbrev start : lts.After-keeps-first (callees t) (Asked t) reads.Post → lts.Start (callees t) (Asked t) reads.Post
-  start k = k .before .before .before .before .before .before
+  start k = k .before .before .before .before .before .before .before
 
   -- there the tail has an axis, and its region is too large
-  some : (k : lts.After-keeps-first (callees t) (Asked t) reads.Post) → start k .args .offset < start k .args .rank
+  some : (k : lts.After-keeps-first (callees t) (Asked t) reads.Post) → start k .args .tail .offset < start k .args .tail .rank
   some k = omega arith
 
   big : (k : lts.After-keeps-first (callees t) (Asked t) reads.Post)
       → let a = start k .args in
-      a .machine .cache < region (a .machine) (a .bytes .now) (a .operands) (a .blocks .now) (a .offset) (a .rank - a .offset)
+      a .machine .cache < region (a .machine) (a .bytes .now) (a .tail .operands) (a .blocks .now) (a .tail .offset) (axes (a .tail))
   big k = omega arith
 
-  add-compute-blocks-at : lts.Need-add-compute-blocks-at (callees t) (Asked t) reads.Post
-  add-compute-blocks-at c = omega arith
+  add-offset : lts.Need-add-offset (callees t) (Asked t) reads.Post
+  add-offset c = omega arith
 
   compute-blocks-at-requires : lts.Need-compute-blocks-at-requires (callees t) (Asked t) reads.Post
   compute-blocks-at-requires c κs =
-      let s = start (c .before .before) in
-      let below : s .args .rank - (s .args .offset + 1) < t = omega (arith, s .pre .0) in
+      let s = start (c .before .before .before) in
+      let below : s .args .tail .rank - (s .args .tail .offset + 1) < t = omega (arith, s .pre .0) in
       (below, (s .pre .1 .0, (omega arith, s .pre .1 .1 .1)))
 
   returns-3 : lts.Need-returns-3 (callees t) (Asked t) reads.Post
   returns-3 c =
-      let k = c .before .before .before in
+      let k = c .before .before .before .before in
       let a = start k .args in
       c .compute-blocks-at .ensures
-      ∙ sym (cut-keeps (a .machine) (a .bytes .now) (a .operands) (a .costs .now) (a .ranks .now) (a .offset) (a .rank) (a .blocks .now) (some k) (big k)
-      (sym (k .keeps-first .ensures) ∙ c .before .before .if3 .taken))
+      ∙ sym (cut-keeps (a .machine) (a .bytes .now) (a .tail .operands) (a .costs .now) (a .ranks .now) (a .tail .offset) (a .tail .rank) (a .blocks .now) (some k) (big k)
+      (sym (k .keeps-first .ensures) ∙ c .before .before .before .if3 .taken))
 
   least-byte-requires : lts.Need-least-byte-requires (callees t) (Asked t) reads.Post
   least-byte-requires c κs = omega arith
@@ -122,7 +123,7 @@ module _ (t : ℕ) where
       let k = m .before .before in
       let a = start k .args in
       c .set-ones .ensures
-      ∙ sym (cut-flat (a .machine) (a .bytes .now) (a .operands) (a .costs .now) (a .ranks .now) (a .offset) (a .rank) (a .blocks .now) (some k) (big k)
+      ∙ sym (cut-flat (a .machine) (a .bytes .now) (a .tail .operands) (a .costs .now) (a .ranks .now) (a .tail .offset) (a .tail .rank) (a .blocks .now) (some k) (big k)
       (sym (k .keeps-first .ensures) ∙ m .before .if3 .left) (subst (λ (x : ℕ). a .machine .cache < x) (m .least-byte .ensures) (c .before .before .if4 .taken)))
 
   shrink-requires : lts.Need-shrink-requires (callees t) (Asked t) reads.Post
@@ -134,7 +135,7 @@ module _ (t : ℕ) where
       let k = m .before .before in
       let a = start k .args in
       c .shrink .ensures
-      ∙ sym (cut-less (a .machine) (a .bytes .now) (a .operands) (a .costs .now) (a .ranks .now) (a .offset) (a .rank) (a .blocks .now) (some k) (big k)
+      ∙ sym (cut-less (a .machine) (a .bytes .now) (a .tail .operands) (a .costs .now) (a .ranks .now) (a .tail .offset) (a .tail .rank) (a .blocks .now) (some k) (big k)
       (sym (k .keeps-first .ensures) ∙ m .before .if3 .left) (subst (λ (x : ℕ). x ≤ a .machine .cache) (m .least-byte .ensures) (c .before .before .if4 .left)))
 
 pub +compute-blocks-at-spec : {M : Type 1} → statement M
@@ -145,7 +146,7 @@ pub +compute-blocks-at-spec : {M : Type 1} → statement M
     (memory-region-requires t)
     (returns-2 t)
     (keeps-first-requires t)
-    (add-compute-blocks-at t)
+    (add-offset t)
     (compute-blocks-at-requires t)
     (returns-3 t)
     (least-byte-requires t)

@@ -18,10 +18,10 @@ abbrev firstIs : List (List ℕ) → ℕ → ℕ → ℕ → Bool
 firstIs ranks offset m j = eqb (rankAt ranks j offset) m
 
 abbrev Inv-loop : tie.InvT-loop
-Inv-loop ranks operands offset rank m k₀ k = (k ≤ operands) × (every (firstIs ranks offset m) 0 k ≡ true)
+Inv-loop tail ranks m first k₀ k = (k ≤ tail .operands) × (every (firstIs ranks (tail .offset) m) 0 k ≡ true)
 
 abbrev μ-loop : tie.MeasureT-loop
-μ-loop ranks operands offset rank m k₀ k = operands - k
+μ-loop tail ranks m first k₀ k = tail .operands - k
 
 least-rank-requires : tie.Need-least-rank-requires Inv-loop μ-loop
 least-rank-requires c κs = omega arith
@@ -29,25 +29,25 @@ least-rank-requires c κs = omega arith
 loop-holds : tie.Need-loop-holds Inv-loop μ-loop
 loop-holds c = (omega arith, every-none _)
 
-mul-if1 : tie.Need-mul-if1 Inv-loop μ-loop
-mul-if1 c = omega arith
+mul-if2 : tie.Need-mul-if2 Inv-loop μ-loop
+mul-if2 c = omega arith
 
-mul-if1-2 : tie.Need-mul-if1-2 Inv-loop μ-loop
-mul-if1-2 c = omega arith
+mul-if2-2 : tie.Need-mul-if2-2 Inv-loop μ-loop
+mul-if2-2 c = omega arith
 
-index-1-if1 : tie.Need-index-1-if1 Inv-loop μ-loop
-index-1-if1 c = omega arith
+index-1-if2 : tie.Need-index-1-if2 Inv-loop μ-loop
+index-1-if2 c = omega arith
 
-index-2-if1 : tie.Need-index-2-if1 Inv-loop μ-loop
-index-2-if1 c = omega arith
+index-2-if2 : tie.Need-index-2-if2 Inv-loop μ-loop
+index-2-if2 c = omega arith
 
 returns : tie.Need-returns Inv-loop μ-loop
 unfolding keepsFirst
-returns c = let a = c .before .before .before .before .before .args in
-    let l = c .before .before .before .loop in
-    let q = c .before .before .before .before .least-rank in
-    sym (ap (λ (m : ℕ). every (firstIs (a .ranks .now) (a .offset) m) 0 (a .operands)) (sym (q .ensures))
-    ∙ every-fails-at (firstIs (a .ranks .now) (a .offset) (q .result)) 0 (l .k) (a .operands) (omega arith) (omega arith) (ne-eqb _ _ (c .if1 .taken)))
+returns c = let a = c .before .before .before .before .before .before .args in
+    let l = c .before .before .before .before .loop in
+    let q = c .before .before .before .before .before .least-rank in
+    sym (ap (λ (m : ℕ). every (firstIs (a .ranks .now) (a .tail .offset) m) 0 (a .tail .operands)) (sym (q .ensures))
+    ∙ every-fails-at (firstIs (a .ranks .now) (a .tail .offset) (q .result)) 0 (l .k) (a .tail .operands) (omega arith) (omega arith) (ne-eqb _ _ (c .if2 .taken)))
 
 add-k : tie.Need-add-k Inv-loop μ-loop
 add-k c = omega arith
@@ -56,19 +56,19 @@ loop-less : tie.Need-loop-less Inv-loop μ-loop
 loop-less c = omega arith
 
 loop-again : tie.Need-loop-again Inv-loop μ-loop
-loop-again c = let a = c .before .before .before .before .before .args in
-    let l = c .before .before .before .loop in
-    let m : ℕ = c .before .before .before .before .least-rank .result in
-    (omega arith, every-more (firstIs (a .ranks .now) (a .offset) m) (l .k) (eq-eqb _ _ (c .if1 .left)) ∙ l .inv .1)
+loop-again c = let a = c .before .before .before .before .before .before .args in
+    let l = c .before .before .before .before .loop in
+    let m : ℕ = c .before .before .before .before .before .least-rank .result in
+    (omega arith, every-more (firstIs (a .ranks .now) (a .tail .offset) m) (l .k) (eq-eqb _ _ (c .if2 .left)) ∙ l .inv .1)
 
 returns-2 : tie.Need-returns-2 Inv-loop μ-loop
 unfolding keepsFirst
-returns-2 c = let a = c .before .before .before .args in
-    let l = c .before .loop in
-    let q = c .before .before .least-rank in
-    let e : l .k ≡ a .operands = omega arith in
-    sym (ap (λ (m : ℕ). every (firstIs (a .ranks .now) (a .offset) m) 0 (a .operands)) (sym (q .ensures))
-    ∙ ap (every (firstIs (a .ranks .now) (a .offset) (q .result)) 0) (sym e) ∙ l .inv .1)
+returns-2 c = let a = c .before .before .before .before .args in
+    let l = c .before .before .loop in
+    let q = c .before .before .before .least-rank in
+    let e : l .k ≡ a .tail .operands = omega arith in
+    sym (ap (λ (m : ℕ). every (firstIs (a .ranks .now) (a .tail .offset) m) 0 (a .tail .operands)) (sym (q .ensures))
+    ∙ ap (every (firstIs (a .ranks .now) (a .tail .offset) (q .result)) 0) (sym e) ∙ l .inv .1)
 
 pub keeps-first-spec : {M : Type 1} → statement M
 keeps-first-spec =
@@ -78,10 +78,10 @@ keeps-first-spec =
     μ-loop
     least-rank-requires
     loop-holds
-    mul-if1
-    mul-if1-2
-    index-1-if1
-    index-2-if1
+    mul-if2
+    mul-if2-2
+    index-1-if2
+    index-2-if2
     returns
     add-k
     loop-less

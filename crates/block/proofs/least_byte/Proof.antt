@@ -17,10 +17,10 @@ abbrev leastOf : List ℕ → ℕ → ℕ → ℕ → ℕ
 leastOf bytes offset rank j = least (byteAt bytes j) offset (rank - offset)
 
 abbrev Inv-loop : tie.InvT-loop
-Inv-loop bytes operands offset rank m₀ k₀ m k = (0 < k) × (k ≤ operands) × (m ≡ least (leastOf bytes offset rank) 0 k)
+Inv-loop tail bytes m₀ k₀ m k = (0 < k) × (k ≤ tail .operands) × (m ≡ least (leastOf bytes (tail .offset) (tail .rank)) 0 k)
 
 abbrev μ-loop : tie.MeasureT-loop
-μ-loop bytes operands offset rank m₀ k₀ m k = operands - k
+μ-loop tail bytes m₀ k₀ m k = tail .operands - k
 
 least-byte-of-requires : tie.Need-least-byte-of-requires Inv-loop μ-loop
 least-byte-of-requires c κs = omega arith
@@ -38,17 +38,17 @@ loop-less : tie.Need-loop-less Inv-loop μ-loop
 loop-less c = omega arith
 
 loop-again : tie.Need-loop-again Inv-loop μ-loop
-loop-again c = let a = c .before .before .before .before .before .args in
-    let l = c .before .before .before .loop in
-    let st = least-more (leastOf (a .bytes .now) (a .offset) (a .rank)) (l .k) (l .inv .0) in
-    ⊎-elim (λ w. omega (arith, c .before .least-byte-of2 .ensures)) (λ w. omega (arith, c .before .least-byte-of2 .ensures)) (c .if1 .came)
+loop-again c = let a = c .before .before .before .before .before .before .args in
+    let l = c .before .before .before .before .loop in
+    let st = least-more (leastOf (a .bytes .now) (a .tail .offset) (a .tail .rank)) (l .k) (l .inv .0) in
+    ⊎-elim (λ w. omega (arith, c .before .least-byte-of2 .ensures)) (λ w. omega (arith, c .before .least-byte-of2 .ensures)) (c .if2 .came)
 
 returns : tie.Need-returns Inv-loop μ-loop
 unfolding leastByte
-returns c = let a = c .before .before .before .args in
-    let l = c .before .loop in
-    let e : l .k ≡ a .operands = omega arith in
-    l .inv .2 ∙ ap (least (leastOf (a .bytes .now) (a .offset) (a .rank)) 0) e
+returns c = let a = c .before .before .before .before .args in
+    let l = c .before .before .loop in
+    let e : l .k ≡ a .tail .operands = omega arith in
+    l .inv .2 ∙ ap (least (leastOf (a .bytes .now) (a .tail .offset) (a .tail .rank)) 0) e
 
 pub least-byte-spec : {M : Type 1} → statement M
 least-byte-spec =

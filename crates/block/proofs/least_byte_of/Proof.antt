@@ -11,10 +11,10 @@ use Rattle.block.proofs.least_byte_of.Statement.{statement}
 use Rattle.block.proofs.least_byte_of.Tie as tie
 
 abbrev Inv-loop : tie.InvT-loop
-Inv-loop bytes k offset rank m₀ i₀ m i = (offset < i) × (i ≤ rank) × (m ≡ least (byteAt bytes k) offset (i - offset))
+Inv-loop tail bytes k first m₀ i₀ m i = (tail .offset < i) × (i ≤ tail .rank) × (m ≡ least (byteAt bytes k) (tail .offset) (i - tail .offset))
 
 abbrev μ-loop : tie.MeasureT-loop
-μ-loop bytes k offset rank m₀ i₀ m i = rank - i
+μ-loop tail bytes k first m₀ i₀ m i = tail .rank - i
 
 mul-m : tie.Need-mul-m Inv-loop μ-loop
 mul-m c = omega arith
@@ -53,16 +53,16 @@ loop-less : tie.Need-loop-less Inv-loop μ-loop
 loop-less c = omega arith
 
 loop-again : tie.Need-loop-again Inv-loop μ-loop
-loop-again c = let a = c .before .before .before .before .before .args in
-    let l = c .before .before .before .loop in
-    let st = least-step (byteAt (a .bytes .now) (a .k)) (a .offset) (l .i) (l .inv .0) in
-    ⊎-elim (λ w. omega arith) (λ w. omega arith) (c .if1 .came)
+loop-again c = let a = c .before .before .before .before .before .before .args in
+    let l = c .before .before .before .before .loop in
+    let st = least-step (byteAt (a .bytes .now) (a .k)) (a .tail .offset) (l .i) (l .inv .0) in
+    ⊎-elim (λ w. omega arith) (λ w. omega arith) (c .if2 .came)
 
 returns : tie.Need-returns Inv-loop μ-loop
-returns c = let a = c .before .before .before .args in
-    let l = c .before .loop in
-    let e : l .i ≡ a .rank = omega arith in
-    l .inv .2 ∙ ap (λ (i : ℕ). least (byteAt (a .bytes .now) (a .k)) (a .offset) (i - a .offset)) e
+returns c = let a = c .before .before .before .before .args in
+    let l = c .before .before .loop in
+    let e : l .i ≡ a .tail .rank = omega arith in
+    l .inv .2 ∙ ap (λ (i : ℕ). least (byteAt (a .bytes .now) (a .k)) (a .tail .offset) (i - a .tail .offset)) e
 
 pub least-byte-of-spec : {M : Type 1} → statement M
 least-byte-of-spec =

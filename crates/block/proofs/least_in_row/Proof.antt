@@ -11,10 +11,10 @@ use Rattle.block.proofs.least_in_row.Statement.{statement}
 use Rattle.block.proofs.least_in_row.Tie as tie
 
 abbrev Inv-loop : tie.InvT-loop
-Inv-loop row offset rank m₀ i₀ m i = (offset < i) × (i ≤ rank) × (m ≡ least (λ j. getD row j 0) offset (i - offset))
+Inv-loop tail row first m₀ i₀ m i = (tail .offset < i) × (i ≤ tail .rank) × (m ≡ least (λ j. getD row j 0) (tail .offset) (i - tail .offset))
 
 abbrev μ-loop : tie.MeasureT-loop
-μ-loop row offset rank m₀ i₀ m i = rank - i
+μ-loop tail row first m₀ i₀ m i = tail .rank - i
 
 mul-m : tie.Need-mul-m Inv-loop μ-loop
 mul-m c = omega arith
@@ -41,16 +41,16 @@ loop-less : tie.Need-loop-less Inv-loop μ-loop
 loop-less c = omega arith
 
 loop-again : tie.Need-loop-again Inv-loop μ-loop
-loop-again c = let a = c .before .before .before .before .before .args in
-    let l = c .before .before .before .loop in
-    let st = least-step (λ j. getD (a .row .now) j 0) (a .offset) (l .i) (l .inv .0) in
-    ⊎-elim (λ w. omega arith) (λ w. omega arith) (c .if1 .came)
+loop-again c = let a = c .before .before .before .before .before .before .args in
+    let l = c .before .before .before .before .loop in
+    let st = least-step (λ j. getD (a .row .now) j 0) (a .tail .offset) (l .i) (l .inv .0) in
+    ⊎-elim (λ w. omega arith) (λ w. omega arith) (c .if2 .came)
 
 returns : tie.Need-returns Inv-loop μ-loop
-returns c = let a = c .before .before .before .args in
-    let l = c .before .loop in
-    let e : l .i ≡ a .rank = omega arith in
-    l .inv .2 ∙ ap (λ (i : ℕ). least (λ j. getD (a .row .now) j 0) (a .offset) (i - a .offset)) e
+returns c = let a = c .before .before .before .before .args in
+    let l = c .before .before .loop in
+    let e : l .i ≡ a .tail .rank = omega arith in
+    l .inv .2 ∙ ap (λ (i : ℕ). least (λ j. getD (a .row .now) j 0) (a .tail .offset) (i - a .tail .offset)) e
 
 pub least-in-row-spec : {M : Type 1} → statement M
 least-in-row-spec =

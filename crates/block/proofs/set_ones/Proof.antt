@@ -10,10 +10,10 @@ use Rattle.block.proofs.set_ones.Statement.{statement}
 use Rattle.block.proofs.set_ones.Tie as tie
 
 abbrev Inv-loop : tie.InvT-loop
-Inv-loop blocks₀ offset rank i₀ blocks i = (offset ≤ i) × (i ≤ rank) × (blocks ≡ ones offset (i - offset) blocks₀)
+Inv-loop tail blocks₀ i₀ blocks i = (tail .offset ≤ i) × (i ≤ tail .rank) × (blocks ≡ ones (tail .offset) (i - tail .offset) blocks₀)
 
 abbrev μ-loop : tie.MeasureT-loop
-μ-loop blocks₀ offset rank i₀ blocks i = rank - i
+μ-loop tail blocks₀ i₀ blocks i = tail .rank - i
 
 loop-holds : tie.Need-loop-holds Inv-loop μ-loop
 loop-holds c = (omega arith, omega arith, sym (ones-start _ _))
@@ -31,15 +31,15 @@ loop-less : tie.Need-loop-less Inv-loop μ-loop
 loop-less c = omega arith
 
 loop-again : tie.Need-loop-again Inv-loop μ-loop
-loop-again c = let a = c .before .before .args in
-    let l = c .before .loop in
-    (omega arith, omega arith, ap (λ (b : List ℕ). set b (l .i) 1) (l .inv .2) ∙ sym (ones-step (a .offset) (l .i) (a .blocks .now) (l .inv .0)))
+loop-again c = let a = c .before .before .before .args in
+    let l = c .before .before .loop in
+    (omega arith, omega arith, ap (λ (b : List ℕ). set b (l .i) 1) (l .inv .2) ∙ sym (ones-step (a .tail .offset) (l .i) (a .blocks .now) (l .inv .0)))
 
 returns : tie.Need-returns Inv-loop μ-loop
-returns c = let a = c .before .before .args in
-    let l = c .before .loop in
-    let e : l .i ≡ a .rank = omega arith in
-    l .inv .2 ∙ ap (λ (i : ℕ). ones (a .offset) (i - a .offset) (a .blocks .now)) e
+returns c = let a = c .before .before .before .args in
+    let l = c .before .before .loop in
+    let e : l .i ≡ a .tail .rank = omega arith in
+    l .inv .2 ∙ ap (λ (i : ℕ). ones (a .tail .offset) (i - a .tail .offset) (a .blocks .now)) e
 
 pub set-ones-spec : {M : Type 1} → statement M
 set-ones-spec =

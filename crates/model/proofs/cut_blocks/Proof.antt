@@ -21,7 +21,7 @@ compute-blocks-at-requires c κs =
     let p = s .pre .1 .0 in (
       s .pre .0,
       (
-        ((p .one, p .few), (omega arith, p .axes)),
+        (p .one, omega arith),
         scores (a .sizes .now) (a .extents .now) (a .strides .now) (a .rank) (a .purpose) p (a .costs .now) (s .pre .1 .1 .0 .costs),
       ),
     )
@@ -39,7 +39,7 @@ same s = let a = s .args in same-bytes (a .sizes .now) (a .strides .now) (a .ran
 -- the blocks that cutting gives
 cut : (c : tie.After-compute-blocks-at)
     → let a = c .before .before .before .before .before .args in
-    c .compute-blocks-at .last .1 .0 ≡ cutting (a .machine) (a .bytes .now) (length (a .sizes .now)) (a .costs .now) (a .t7) 0 (a .rank) (a .extents .now)
+    c .compute-blocks-at .last .1 .1 .0 ≡ cutting (a .machine) (a .bytes .now) (length (a .sizes .now)) (a .costs .now) (a .t7) 0 (a .rank) (a .extents .now)
 cut c =
     let a = c .before .before .before .before .before .args in
     c .compute-blocks-at .ensures ∙ ap (λ (n : ℕ). cutting (a .machine) (a .bytes .now) (length (a .sizes .now)) (a .costs .now) (a .t7) 0 n (a .extents .now)) (sub-zero (a .rank))
@@ -51,7 +51,7 @@ returns c =
     let s = r .before .before .before .before .before in
     let a = s .args in
     let t = s .pre .1 .1 .0 in
-    whole-declined (a .machine) (a .sizes .now) (a .extents .now) (a .strides .now) (a .rank) (a .purpose) (a .bytes .now) (same s) (a .costs .now) (t .costs) (a .t7) (t .ranks) (r .compute-blocks-at .last .1 .0) (cut r) (s .pre .1 .1 .1)
+    whole-declined (a .machine) (a .sizes .now) (a .extents .now) (a .strides .now) (a .rank) (a .purpose) (a .bytes .now) (same s) (a .costs .now) (t .costs) (a .t7) (t .ranks) (r .compute-blocks-at .last .1 .1 .0) (cut r) (s .pre .1 .1 .1)
     (sym (d .declines-tiles .ensures) ∙ c .before .if1 .taken)
 
 fit-for-requires : tie.Need-fit-for-requires
@@ -65,7 +65,7 @@ returns-2 c =
     let s = r .before .before .before .before .before in
     let a = s .args in
     let t = s .pre .1 .1 .0 in
-    whole-fitted (a .machine) (a .sizes .now) (a .extents .now) (a .strides .now) (a .rank) (a .purpose) (a .bytes .now) (same s) (a .costs .now) (t .costs) (a .t7) (t .ranks) (r .compute-blocks-at .last .1 .0) (cut r) (s .pre .1 .1 .1)
+    whole-fitted (a .machine) (a .sizes .now) (a .extents .now) (a .strides .now) (a .rank) (a .purpose) (a .bytes .now) (same s) (a .costs .now) (t .costs) (a .t7) (t .ranks) (r .compute-blocks-at .last .1 .1 .0) (cut r) (s .pre .1 .1 .1)
     (sym (d .declines-tiles .ensures) ∙ e .if1 .left) (c .fit-for .ensures)
 
 pub cut-blocks-spec : {M : Type 1} → statement M

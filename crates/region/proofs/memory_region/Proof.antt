@@ -9,14 +9,15 @@ use Rattle.strided.specs.Region.{regionOf, region}
 use Rattle.laws.specs.Base.Ranges.{sum-next}
 use Rattle.laws.specs.Cut.Ranges.{sum-none}
 use Rattle.laws.specs.Cut.Saturate.{cap, capped, add-sat}
+use Rattle.region.specs.Tail.{axes}
 use Rattle.region.proofs.memory_region.Statement.{statement}
 use Rattle.region.proofs.memory_region.Tie as tie
 
 abbrev Inv-loop : tie.InvT-loop
-Inv-loop machine blocks bytes operands offset rank limit r₀ k₀ r k = (k ≤ operands) × (r ≡ min (sum (regionOf machine bytes blocks offset (rank - offset)) 0 k) (cap machine))
+Inv-loop machine tail blocks bytes limit r₀ k₀ r k = (k ≤ tail .operands) × (r ≡ min (sum (regionOf machine bytes blocks (tail .offset) (axes tail)) 0 k) (cap machine))
 
 abbrev μ-loop : tie.MeasureT-loop
-μ-loop machine blocks bytes operands offset rank limit r₀ k₀ r k = operands - k
+μ-loop machine tail blocks bytes limit r₀ k₀ r k = tail .operands - k
 
 mul-limit : tie.Need-mul-limit Inv-loop μ-loop
 mul-limit c = omega arith
@@ -27,7 +28,7 @@ add-limit c = omega arith
 loop-holds : tie.Need-loop-holds Inv-loop μ-loop
 loop-holds c =
     let a = c .before .args in
-    (omega arith, omega (arith, sum-none (regionOf (a .machine) (a .bytes .now) (a .blocks .now) (a .offset) (a .rank - a .offset)) 0))
+    (omega arith, omega (arith, sum-none (regionOf (a .machine) (a .bytes .now) (a .blocks .now) (a .tail .offset) (axes (a .tail))) 0))
 
 region-of-requires : tie.Need-region-of-requires Inv-loop μ-loop
 region-of-requires c κs = search needs
@@ -42,9 +43,9 @@ loop-less : tie.Need-loop-less Inv-loop μ-loop
 loop-less c = omega arith
 
 loop-again : tie.Need-loop-again Inv-loop μ-loop
-loop-again c = let a = c .before .before .before .before .before .args in
-    let l = c .before .before .before .loop in
-    let f : ℕ → ℕ = regionOf (a .machine) (a .bytes .now) (a .blocks .now) (a .offset) (a .rank - a .offset) in (
+loop-again c = let a = c .before .before .before .before .before .before .args in
+    let l = c .before .before .before .before .loop in
+    let f : ℕ → ℕ = regionOf (a .machine) (a .bytes .now) (a .blocks .now) (a .tail .offset) (axes (a .tail)) in (
       omega arith,
       add-sat (sum f 0 (l .k)) (f (l .k)) (cap (a .machine)) (l .inv .1) (c .before .region-of .ensures) (c .sat-add .ensures)
           ∙ capped (cap (a .machine)) (sym (sum-next f (l .k))),
@@ -52,10 +53,10 @@ loop-again c = let a = c .before .before .before .before .before .args in
 
 returns : tie.Need-returns Inv-loop μ-loop
 unfolding region
-returns c = let a = c .before .before .before .args in
-    let l = c .before .loop in
-    let e : l .k ≡ a .operands = omega arith in
-    l .inv .1 ∙ ap (λ (k : ℕ). min (sum (regionOf (a .machine) (a .bytes .now) (a .blocks .now) (a .offset) (a .rank - a .offset)) 0 k) (cap (a .machine))) e
+returns c = let a = c .before .before .before .before .args in
+    let l = c .before .before .loop in
+    let e : l .k ≡ a .tail .operands = omega arith in
+    l .inv .1 ∙ ap (λ (k : ℕ). min (sum (regionOf (a .machine) (a .bytes .now) (a .blocks .now) (a .tail .offset) (axes (a .tail))) 0 k) (cap (a .machine))) e
 
 pub memory-region-spec : {M : Type 1} → statement M
 memory-region-spec =

@@ -6,7 +6,7 @@ use mathlib.Core.Path.{_≡_, sym, ap, _∙_}
 use mathlib.Core.Logic.{⊎-elim}
 use mathlib.Core.List.{List}
 use Prim.Native.Nat.{ℕ, _+_, _-_, _*_, _≤_, min}
-use native.Mathlib.Nat.{mul-one, add-zero, div-le-self, div-mul-le-self}
+use native.Mathlib.Nat.{mul-one, add-zero}
 use lib.ListN.{getD}
 use borrow.Author.Tests.{lt-ltb, le-ltb}
 use Rattle.strided.specs.Base.{sum, product}
@@ -17,12 +17,12 @@ use Rattle.region.proofs.region_of.Statement.{statement}
 use Rattle.region.proofs.region_of.Tie as tie
 
 abbrev Inv-loop : tie.InvT-loop
-Inv-loop machine blocks bytes k offset rank top from c₀ m₀ i₀ c m i = (offset ≤ i) × (i ≤ rank) × (c ≤ 536871168 * i)
-    × (min c (cap machine) ≡ min (sum (near machine bytes blocks k) offset (i - offset)) (cap machine))
-    × (m ≡ min (product (far machine bytes blocks k) offset (i - offset)) (cap machine))
+Inv-loop machine tail blocks bytes k top from c₀ m₀ i₀ c m i = (tail .offset ≤ i) × (i ≤ tail .rank) × (c ≤ 536871168 * i)
+    × (min c (cap machine) ≡ min (sum (near machine bytes blocks k) (tail .offset) (i - tail .offset)) (cap machine))
+    × (m ≡ min (product (far machine bytes blocks k) (tail .offset) (i - tail .offset)) (cap machine))
 
 abbrev μ-loop : tie.MeasureT-loop
-μ-loop machine blocks bytes k offset rank top from c₀ m₀ i₀ c m i = rank - i
+μ-loop machine tail blocks bytes k top from c₀ m₀ i₀ c m i = tail .rank - i
 
 mul-top : tie.Need-mul-top Inv-loop μ-loop
 mul-top c = omega arith
@@ -36,7 +36,7 @@ mul-from c = omega arith
 loop-holds : tie.Need-loop-holds Inv-loop μ-loop
 loop-holds c =
     let a = c .before .args in
-    (omega arith, omega arith, omega arith, capped _ (sym (sum-start _ _)), omega (arith, product-start (far (a .machine) (a .bytes .now) (a .blocks .now) (a .k)) (a .offset)))
+    (omega arith, omega arith, omega arith, capped _ (sym (sum-start _ _)), omega (arith, product-start (far (a .machine) (a .bytes .now) (a .blocks .now) (a .k)) (a .tail .offset)))
 
 add-s : tie.Need-add-s Inv-loop μ-loop
 add-s c = omega arith
@@ -73,7 +73,7 @@ more : (C T c t r top : ℕ) → min c top ≡ min C top → min t top ≡ min T
 more C T c t r top p q e = omega arith
 
 loop-again : tie.Need-loop-again Inv-loop μ-loop
-loop-again c = let l = c .before .before .before .before .before in
+loop-again c = let l = c .before .before .before .before .before .before in
     let a = l .before .before .args in
     let mc = a .machine in
     let top : ℕ = cap mc in
@@ -82,10 +82,10 @@ loop-again c = let l = c .before .before .before .before .before in
     let blocks : List ℕ = a .blocks .now in
     let s : ℕ = byteAt bytes (a .k) i in
     let b : ℕ = getD blocks i 0 in
-    let C : ℕ = sum (near mc bytes blocks (a .k)) (a .offset) (i - a .offset) in
-    let M : ℕ = product (far mc bytes blocks (a .k)) (a .offset) (i - a .offset) in
-    let ss = sum-step (near mc bytes blocks (a .k)) (a .offset) i (l .loop .inv .0) in
-    let ps = product-step (far mc bytes blocks (a .k)) (a .offset) i (l .loop .inv .0) in
+    let C : ℕ = sum (near mc bytes blocks (a .k)) (a .tail .offset) (i - a .tail .offset) in
+    let M : ℕ = product (far mc bytes blocks (a .k)) (a .tail .offset) (i - a .tail .offset) in
+    let ss = sum-step (near mc bytes blocks (a .k)) (a .tail .offset) i (l .loop .inv .0) in
+    let ps = product-step (far mc bytes blocks (a .k)) (a .tail .offset) i (l .loop .inv .0) in
     ⊎-elim
     (λ w.
     let t = w .1 .ensures in (
@@ -102,36 +102,32 @@ loop-again c = let l = c .before .before .before .before .before in
       rw (ss, le-ltb s (mc .line) (w .0 .left), add-zero) (capped top (w .2) ∙ l .loop .inv .3),
       rw (ps, le-ltb s (mc .line) (w .0 .left)) (w .3 ∙ w .1 .ensures ∙ ap (λ (x : ℕ). min (x * b) top) (l .loop .inv .4) ∙ min-mul-left M b top),
     ))
-    (c .if1 .came)
+    (c .if2 .came)
 
 least-requires : tie.Need-least-requires Inv-loop μ-loop
 least-requires c κs = tt
 
-div-times : tie.Need-div-times Inv-loop μ-loop
-div-times c = omega arith
-
-add-times : tie.Need-add-times Inv-loop μ-loop
-add-times c = omega (arith, div-le-self (c .before .least .result) (c .before .before .before .before .before .args .machine .line))
-
-mul-times : tie.Need-mul-times Inv-loop μ-loop
-mul-times c = omega (arith, div-mul-le-self (c .before .before .least .result) (c .before .before .before .before .before .before .args .machine .line))
+whole-lines-requires : tie.Need-whole-lines-requires Inv-loop μ-loop
+whole-lines-requires c κs = search needs
 
 times-requires-2 : tie.Need-times-requires-2 Inv-loop μ-loop
 times-requires-2 c κs = (omega arith, omega arith)
 
 returns : tie.Need-returns Inv-loop μ-loop
 unfolding regionOf
-returns c = let m = c .before .before .before in
-    let a = m .before .before .before .before .args in
-    let l = m .before .before .loop in
+returns c = let w = c .before in
+    let m = w .before in
+    let l = m .before .before .before .loop in
+    let a = m .before .before .before .before .before .args in
     let mc = a .machine in
     let bytes : List ℕ = a .bytes .now in
     let blocks : List ℕ = a .blocks .now in
-    let C : ℕ = sum (near mc bytes blocks (a .k)) (a .offset) (l .i - a .offset) in
-    let M : ℕ = product (far mc bytes blocks (a .k)) (a .offset) (l .i - a .offset) in
-    let e : l .i ≡ a .rank = omega arith in
-    lines-sat (mc .line) (cap mc) (m .least .result) C (l .m) M (c .times2 .result) (omega arith) (m .least .ensures ∙ l .inv .3) (l .inv .4) (c .times2 .ensures)
-    ∙ ap (λ (i : ℕ). min (regionOf mc bytes blocks (a .offset) (i - a .offset) (a .k)) (cap mc)) e
+    let C : ℕ = sum (near mc bytes blocks (a .k)) (a .tail .offset) (l .i - a .tail .offset) in
+    let M : ℕ = product (far mc bytes blocks (a .k)) (a .tail .offset) (l .i - a .tail .offset) in
+    let e : l .i ≡ a .tail .rank = omega arith in
+    lines-sat (mc .line) (cap mc) (m .least .result) C (l .m) M (c .times2 .result) (omega arith) (m .least .ensures ∙ l .inv .3) (l .inv .4)
+    (c .times2 .ensures ∙ ap (λ (x : ℕ). min (l .m * x) (cap mc)) (w .whole-lines .ensures))
+    ∙ ap (λ (i : ℕ). min (regionOf mc bytes blocks (a .tail .offset) (i - a .tail .offset) (a .k)) (cap mc)) e
 
 pub region-of-spec : {M : Type 1} → statement M
 region-of-spec =
@@ -155,8 +151,6 @@ region-of-spec =
     loop-less
     loop-again
     least-requires
-    div-times
-    add-times
-    mul-times
+    whole-lines-requires
     times-requires-2
     returns)

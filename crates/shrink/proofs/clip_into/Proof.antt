@@ -13,10 +13,10 @@ use Rattle.shrink.proofs.clip_into.Statement.{statement}
 use Rattle.shrink.proofs.clip_into.Tie as tie
 
 abbrev Inv-loop : tie.InvT-loop
-Inv-loop blocks costs offset rank s out₀ i₀ out i = (offset ≤ i) × (i ≤ rank) × (out ≡ clippedOver s costs offset (i - offset) blocks out₀)
+Inv-loop tail blocks costs s out₀ i₀ out i = (tail .offset ≤ i) × (i ≤ tail .rank) × (out ≡ clippedOver s costs (tail .offset) (i - tail .offset) blocks out₀)
 
 abbrev μ-loop : tie.MeasureT-loop
-μ-loop blocks costs offset rank s out₀ i₀ out i = rank - i
+μ-loop tail blocks costs s out₀ i₀ out i = tail .rank - i
 
 loop-holds : tie.Need-loop-holds Inv-loop μ-loop
 loop-holds c = (omega arith, omega arith, sym (over-start _ _ _ _ _))
@@ -38,24 +38,24 @@ less-one-requires c κs = tt
 
 -- the product that the code compares is the score
 the-score : (c : tie.After-less-one Inv-loop μ-loop)
-    → let l = c .before .before .before .before in
+    → let l = c .before .before .before .before .before in
     let a = l .before .args in
     c .less-one .result * getD (a .costs .now) (l .loop .i) 0 ≡ score (a .blocks .now) (a .costs .now) (l .loop .i)
 the-score c =
-    let l = c .before .before .before .before in
+    let l = c .before .before .before .before .before in
     ap (λ (x : ℕ). x * getD (l .before .args .costs .now) (l .loop .i) 0) (c .less-one .ensures)
 
-mul-if1 : tie.Need-mul-if1 Inv-loop μ-loop
-mul-if1 c =
-    let l = c .before .before .before .before in
+mul-if2 : tie.Need-mul-if2 Inv-loop μ-loop
+mul-if2 c =
+    let l = c .before .before .before .before .before in
     omega (arith, the-score c, l .before .pre .1 (l .loop .i) (omega arith))
 
 div-out : tie.Need-div-out Inv-loop μ-loop
-div-out c = pos-right (c .before .less-one .result) _ _ (c .if1 .taken)
+div-out c = pos-right (c .before .less-one .result) _ _ (c .if2 .taken)
 
 add-out : tie.Need-add-out Inv-loop μ-loop
 add-out c =
-    let l = c .before .before .before .before .before in
+    let l = c .before .before .before .before .before .before in
     let a = l .before .args in
     omega (arith, the-score (c .before), l .before .pre .1 (l .loop .i) (omega arith), div-le-self (a .s) (getD (a .costs .now) (l .loop .i) 0))
 
@@ -79,22 +79,22 @@ loop-less c = omega arith
 
 loop-again : tie.Need-loop-again Inv-loop μ-loop
 loop-again c =
-    let l = c .before .before .before .before .before in
+    let l = c .before .before .before .before .before .before in
     let a = l .before .args in
     let i : ℕ = l .loop .i in
     let sc : ℕ = score (a .blocks .now) (a .costs .now) i in
     let e = the-score (c .before) in
-    let st = over-step (a .s) (a .costs .now) (a .offset) i (a .blocks .now) (a .out .now) (l .loop .inv .0) in
+    let st = over-step (a .s) (a .costs .now) (a .tail .offset) i (a .blocks .now) (a .out .now) (l .loop .inv .0) in
     ⊎-elim
     (λ w. let above : a .s < sc = omega (arith, e, w .0 .taken) in (omega arith, omega arith, rw (w .1, l .loop .inv .2, st, lt-ltb (a .s) sc above)))
     (λ w. let within : sc ≤ a .s = omega (arith, e, w .0 .left) in (omega arith, omega arith, rw (w .1, l .loop .inv .2, st, le-ltb (a .s) sc within)))
-    (c .if1 .came)
+    (c .if2 .came)
 
 returns : tie.Need-returns Inv-loop μ-loop
-returns c = let a = c .before .before .args in
-    let l = c .before .loop in
-    let e : l .i ≡ a .rank = omega arith in
-    l .inv .2 ∙ ap (λ (i : ℕ). clippedOver (a .s) (a .costs .now) (a .offset) (i - a .offset) (a .blocks .now) (a .out .now)) e
+returns c = let a = c .before .before .before .args in
+    let l = c .before .before .loop in
+    let e : l .i ≡ a .tail .rank = omega arith in
+    l .inv .2 ∙ ap (λ (i : ℕ). clippedOver (a .s) (a .costs .now) (a .tail .offset) (i - a .tail .offset) (a .blocks .now) (a .out .now)) e
 
 pub clip-into-spec : {M : Type 1} → statement M
 clip-into-spec =
@@ -108,7 +108,7 @@ clip-into-spec =
     mul-c
     element-copy-out-c
     less-one-requires
-    mul-if1
+    mul-if2
     div-out
     add-out
     mul-out

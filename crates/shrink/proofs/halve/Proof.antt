@@ -4,22 +4,23 @@ use borrow.Author.Needs.{needs}
 use native.Mathlib.Omega.{arith}
 use mathlib.Core.Path.{_≡_, refl, sym, ap, _∙_}
 use mathlib.Core.Option.{some, none}
-use Prim.Native.Nat.{ℕ, _-_, _*_, _≤_, _<_}
+use Prim.Native.Nat.{ℕ, _*_, _≤_, _<_}
 use lib.ListN.{set}
 use Rattle.strided.specs.Region.{region}
 use Rattle.strided.specs.Cut.{greatestScore, cells, halved}
 use Rattle.laws.specs.Cut.Picks.{pick-is}
 use Rattle.laws.specs.Cut.Steps.{ScoresFit, halved-small, halved-nothing, Turn, halved-turn}
+use Rattle.region.specs.Tail.{axes}
 use Rattle.shrink.specs.Picked.{picked}
 use Rattle.shrink.proofs.halve.Statement.{statement}
 use Rattle.shrink.proofs.halve.Tie as tie
 
 abbrev Inv-loop : tie.InvT-loop
-Inv-loop machine blocks₀ bytes costs operands offset rank blocks = ScoresFit rank costs blocks
-    × (halved machine bytes operands costs offset (rank - offset) blocks ≡ halved machine bytes operands costs offset (rank - offset) blocks₀)
+Inv-loop machine tail blocks₀ bytes costs blocks = ScoresFit (tail .rank) costs blocks
+    × (halved machine bytes (tail .operands) costs (tail .offset) (axes tail) blocks ≡ halved machine bytes (tail .operands) costs (tail .offset) (axes tail) blocks₀)
 
 abbrev μ-loop : tie.MeasureT-loop
-μ-loop machine blocks₀ bytes costs operands offset rank blocks = cells offset (rank - offset) blocks
+μ-loop machine tail blocks₀ bytes costs blocks = cells (tail .offset) (axes tail) blocks
 
 loop-holds : tie.Need-loop-holds Inv-loop μ-loop
 loop-holds c = (c .pre .1 .1, refl)
@@ -33,9 +34,9 @@ mul-if1 c = omega arith
 returns : tie.Need-returns Inv-loop μ-loop
 returns c = let l = c .before .before .before .before in
     let a = l .before .args in
-    let n : ℕ = a .rank - a .offset in
-    let small : region (a .machine) (a .bytes .now) (a .operands) (l .loop .blocks) (a .offset) n < 2 * a .machine .cache = omega arith in
-    sym (halved-small (a .machine) (a .bytes .now) (a .operands) (a .costs .now) (a .offset) n (l .loop .blocks) small) ∙ l .loop .inv .1
+    let n : ℕ = axes (a .tail) in
+    let small : region (a .machine) (a .bytes .now) (a .tail .operands) (l .loop .blocks) (a .tail .offset) n < 2 * a .machine .cache = omega arith in
+    sym (halved-small (a .machine) (a .bytes .now) (a .tail .operands) (a .costs .now) (a .tail .offset) n (l .loop .blocks) small) ∙ l .loop .inv .1
 
 last-argmax-weighted-requires : tie.Need-last-argmax-weighted-requires Inv-loop μ-loop
 last-argmax-weighted-requires c κs = search needs
@@ -50,9 +51,9 @@ returns-2 : tie.Need-returns-2 Inv-loop μ-loop
 returns-2 c = let p = c .before .before in
     let l = p .before .before .before .before .before .before in
     let a = l .before .args in
-    let n : ℕ = a .rank - a .offset in
-    let nothing : greatestScore (l .loop .blocks) (a .costs .now) (a .offset) n ≡ none = sym (p .last-argmax-weighted .ensures) ∙ ap picked (c .enum-told .given .1) in
-    sym (halved-nothing (a .machine) (a .bytes .now) (a .operands) (a .costs .now) (a .offset) n (l .loop .blocks) nothing) ∙ l .loop .inv .1
+    let n : ℕ = axes (a .tail) in
+    let nothing : greatestScore (l .loop .blocks) (a .costs .now) (a .tail .offset) n ≡ none = sym (p .last-argmax-weighted .ensures) ∙ ap picked (c .enum-told .given .1) in
+    sym (halved-nothing (a .machine) (a .bytes .now) (a .tail .operands) (a .costs .now) (a .tail .offset) n (l .loop .blocks) nothing) ∙ l .loop .inv .1
 
 -- the turn's begin, from where the pick is told
 abbrev top : tie.After-known-told Inv-loop μ-loop → tie.At-loop Inv-loop μ-loop
@@ -62,7 +63,7 @@ top c = c .before .before .before .before .before .before .before .before .befor
 at : (c : tie.After-known-told Inv-loop μ-loop)
     → let l = top c in
     let a = l .before .args in
-    greatestScore (l .loop .blocks) (a .costs .now) (a .offset) (a .rank - a .offset) ≡ some (c .before .i .given .0 .0)
+    greatestScore (l .loop .blocks) (a .costs .now) (a .tail .offset) (axes (a .tail)) ≡ some (c .before .i .given .0 .0)
 at c = sym (c .before .before .before .last-argmax-weighted .ensures) ∙ ap picked (c .before .i .given .1)
 
 -- it is a place of the array
@@ -89,14 +90,14 @@ turn : (c : tie.After-half Inv-loop μ-loop)
     → let k = c .before .before in
     let l = top k in
     let a = l .before .args in
-    let n : ℕ = a .rank - a .offset in
-    Turn (halved (a .machine) (a .bytes .now) (a .operands) (a .costs .now) (a .offset) n) (a .offset) n (a .rank) (a .costs .now) (l .loop .blocks) (set (l .loop .blocks) (k .before .i .given .0 .0) (c .half .result))
+    let n : ℕ = axes (a .tail) in
+    Turn (halved (a .machine) (a .bytes .now) (a .tail .operands) (a .costs .now) (a .tail .offset) n) (a .tail .offset) n (a .tail .rank) (a .costs .now) (l .loop .blocks) (set (l .loop .blocks) (k .before .i .given .0 .0) (c .half .result))
 turn c = let k = c .before .before in
     let l = top k in
     let a = l .before .args in
-    let n : ℕ = a .rank - a .offset in
-    let big : 2 * a .machine .cache ≤ region (a .machine) (a .bytes .now) (a .operands) (l .loop .blocks) (a .offset) n = omega arith in
-    halved-turn (a .machine) (a .bytes .now) (a .operands) (a .costs .now) (a .offset) n (a .rank) (l .loop .blocks) (k .before .i .given .0 .0) (l .loop .inv .0) (at k) (c .half .result) (c .half .ensures) big
+    let n : ℕ = axes (a .tail) in
+    let big : 2 * a .machine .cache ≤ region (a .machine) (a .bytes .now) (a .tail .operands) (l .loop .blocks) (a .tail .offset) n = omega arith in
+    halved-turn (a .machine) (a .bytes .now) (a .tail .operands) (a .costs .now) (a .tail .offset) n (a .tail .rank) (l .loop .blocks) (k .before .i .given .0 .0) (l .loop .inv .0) (at k) (c .half .result) (c .half .ensures) big
 
 loop-less : tie.Need-loop-less Inv-loop μ-loop
 loop-less c = turn c .fewer

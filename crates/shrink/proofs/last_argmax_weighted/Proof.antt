@@ -14,10 +14,10 @@ use Rattle.shrink.proofs.last_argmax_weighted.Statement.{statement}
 use Rattle.shrink.proofs.last_argmax_weighted.Tie as tie
 
 abbrev Inv-loop : tie.InvT-loop
-Inv-loop blocks costs offset rank best₀ top₀ i₀ best top i = (offset ≤ i) × (i ≤ rank) × (picked best ≡ greatestScore blocks costs offset (i - offset)) × (top ≡ topOf (score blocks costs) (picked best))
+Inv-loop tail blocks costs best₀ top₀ i₀ best top i = (tail .offset ≤ i) × (i ≤ tail .rank) × (picked best ≡ greatestScore blocks costs (tail .offset) (i - tail .offset)) × (top ≡ topOf (score blocks costs) (picked best))
 
 abbrev μ-loop : tie.MeasureT-loop
-μ-loop blocks costs offset rank best₀ top₀ i₀ best top i = rank - i
+μ-loop tail blocks costs best₀ top₀ i₀ best top i = tail .rank - i
 
 loop-holds : tie.Need-loop-holds Inv-loop μ-loop
 loop-holds c = (omega arith, omega arith, sym (pick-start _ _ _), refl)
@@ -38,7 +38,7 @@ element-copy-out-s : tie.Need-element-copy-out-s Inv-loop μ-loop
 element-copy-out-s c = omega arith
 
 mul-s-2 : tie.Need-mul-s-2 Inv-loop μ-loop
-mul-s-2 c = omega (arith, c .before .before .before .before .before .pre .1 (c .before .before .before .before .loop .i) (omega arith))
+mul-s-2 c = omega (arith, c .before .before .before .before .before .before .pre .1 (c .before .before .before .before .before .loop .i) (omega arith))
 
 add-i : tie.Need-add-i Inv-loop μ-loop
 add-i c = omega arith
@@ -47,13 +47,13 @@ loop-less : tie.Need-loop-less Inv-loop μ-loop
 loop-less c = omega arith
 
 loop-again : tie.Need-loop-again Inv-loop μ-loop
-loop-again c = let l = c .before .before .before in
+loop-again c = let l = c .before .before .before .before in
     let a = l .before .args in
     let i : ℕ = l .loop .i in
     let s : ℕ → ℕ = score (a .blocks .now) (a .costs .now) in
     let b : ℕ = getD (a .blocks .now) i 0 in
-    let old : Option ℕ = greatestScore (a .blocks .now) (a .costs .now) (a .offset) (i - a .offset) in
-    let st = pick-step (a .blocks .now) (a .costs .now) (a .offset) i (l .loop .inv .0) in
+    let old : Option ℕ = greatestScore (a .blocks .now) (a .costs .now) (a .tail .offset) (i - a .tail .offset) in
+    let st = pick-step (a .blocks .now) (a .costs .now) (a .tail .offset) i (l .loop .inv .0) in
     let e : topOf s old ≡ l .loop .top = sym (l .loop .inv .3 ∙ ap (topOf s) (l .loop .inv .2)) in
     ⊎-elim
     (λ w.
@@ -64,13 +64,13 @@ loop-again c = let l = c .before .before .before in
     let loses : s i < topOf s old = omega (arith, e, w .2 .left) in
     (omega arith, omega arith, rw (st, lt-ltb 1 b (w .0 .taken), later-loses s i old loses) (ap picked (w .3) ∙ l .loop .inv .2), rw (w .3) (w .4 ∙ l .loop .inv .3)))
     (λ w. (omega arith, omega arith, rw (st, le-ltb 1 b (w .0 .left)) (ap picked (w .1) ∙ l .loop .inv .2), rw (w .1) (w .2 ∙ l .loop .inv .3))))
-    (c .if1 .came)
+    (c .if2 .came)
 
 returns : tie.Need-returns Inv-loop μ-loop
-returns c = let a = c .before .before .args in
-    let l = c .before .loop in
-    let e : l .i ≡ a .rank = omega arith in
-    l .inv .2 ∙ ap (λ (i : ℕ). greatestScore (a .blocks .now) (a .costs .now) (a .offset) (i - a .offset)) e
+returns c = let a = c .before .before .before .args in
+    let l = c .before .before .loop in
+    let e : l .i ≡ a .tail .rank = omega arith in
+    l .inv .2 ∙ ap (λ (i : ℕ). greatestScore (a .blocks .now) (a .costs .now) (a .tail .offset) (i - a .tail .offset)) e
 
 pub last-argmax-weighted-spec : {M : Type 1} → statement M
 last-argmax-weighted-spec =

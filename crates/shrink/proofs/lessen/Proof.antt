@@ -10,16 +10,17 @@ use Rattle.strided.specs.Region.{region}
 use Rattle.strided.specs.Cut.{greatestScore, cells, lessened}
 use Rattle.laws.specs.Cut.Picks.{pick-is}
 use Rattle.laws.specs.Cut.Steps.{ScoresFit, lessened-fits, lessened-nothing, Turn, lessened-turn}
+use Rattle.region.specs.Tail.{axes}
 use Rattle.shrink.specs.Picked.{picked}
 use Rattle.shrink.proofs.lessen.Statement.{statement}
 use Rattle.shrink.proofs.lessen.Tie as tie
 
 abbrev Inv-loop : tie.InvT-loop
-Inv-loop machine blocks₀ bytes costs operands offset rank blocks = ScoresFit rank costs blocks
-    × (lessened machine bytes operands costs offset (rank - offset) blocks ≡ lessened machine bytes operands costs offset (rank - offset) blocks₀)
+Inv-loop machine tail blocks₀ bytes costs blocks = ScoresFit (tail .rank) costs blocks
+    × (lessened machine bytes (tail .operands) costs (tail .offset) (axes tail) blocks ≡ lessened machine bytes (tail .operands) costs (tail .offset) (axes tail) blocks₀)
 
 abbrev μ-loop : tie.MeasureT-loop
-μ-loop machine blocks₀ bytes costs operands offset rank blocks = cells offset (rank - offset) blocks
+μ-loop machine tail blocks₀ bytes costs blocks = cells (tail .offset) (axes tail) blocks
 
 loop-holds : tie.Need-loop-holds Inv-loop μ-loop
 loop-holds c = (c .pre .1 .1, refl)
@@ -30,9 +31,9 @@ memory-region-requires c κs = search needs
 returns : tie.Need-returns Inv-loop μ-loop
 returns c = let l = c .before .before .before .before in
     let a = l .before .args in
-    let n : ℕ = a .rank - a .offset in
-    let small : region (a .machine) (a .bytes .now) (a .operands) (l .loop .blocks) (a .offset) n ≤ a .machine .cache = omega arith in
-    sym (lessened-fits (a .machine) (a .bytes .now) (a .operands) (a .costs .now) (a .offset) n (l .loop .blocks) small) ∙ l .loop .inv .1
+    let n : ℕ = axes (a .tail) in
+    let small : region (a .machine) (a .bytes .now) (a .tail .operands) (l .loop .blocks) (a .tail .offset) n ≤ a .machine .cache = omega arith in
+    sym (lessened-fits (a .machine) (a .bytes .now) (a .tail .operands) (a .costs .now) (a .tail .offset) n (l .loop .blocks) small) ∙ l .loop .inv .1
 
 last-argmax-weighted-requires : tie.Need-last-argmax-weighted-requires Inv-loop μ-loop
 last-argmax-weighted-requires c κs = search needs
@@ -47,9 +48,9 @@ returns-2 : tie.Need-returns-2 Inv-loop μ-loop
 returns-2 c = let p = c .before .before in
     let l = p .before .before .before .before .before .before in
     let a = l .before .args in
-    let n : ℕ = a .rank - a .offset in
-    let nothing : greatestScore (l .loop .blocks) (a .costs .now) (a .offset) n ≡ none = sym (p .last-argmax-weighted .ensures) ∙ ap picked (c .enum-told .given .1) in
-    sym (lessened-nothing (a .machine) (a .bytes .now) (a .operands) (a .costs .now) (a .offset) n (l .loop .blocks) nothing) ∙ l .loop .inv .1
+    let n : ℕ = axes (a .tail) in
+    let nothing : greatestScore (l .loop .blocks) (a .costs .now) (a .tail .offset) n ≡ none = sym (p .last-argmax-weighted .ensures) ∙ ap picked (c .enum-told .given .1) in
+    sym (lessened-nothing (a .machine) (a .bytes .now) (a .tail .operands) (a .costs .now) (a .tail .offset) n (l .loop .blocks) nothing) ∙ l .loop .inv .1
 
 -- the turn's begin, from where the pick is told
 abbrev top : tie.After-known-told Inv-loop μ-loop → tie.At-loop Inv-loop μ-loop
@@ -59,7 +60,7 @@ top c = c .before .before .before .before .before .before .before .before .befor
 at : (c : tie.After-known-told Inv-loop μ-loop)
     → let l = top c in
     let a = l .before .args in
-    greatestScore (l .loop .blocks) (a .costs .now) (a .offset) (a .rank - a .offset) ≡ some (c .before .i .given .0 .0)
+    greatestScore (l .loop .blocks) (a .costs .now) (a .tail .offset) (axes (a .tail)) ≡ some (c .before .i .given .0 .0)
 at c = sym (c .before .before .before .last-argmax-weighted .ensures) ∙ ap picked (c .before .i .given .1)
 
 -- it is a place of the array
@@ -82,14 +83,14 @@ element-write-blocks c = omega (arith, place (c .before))
 turn : (k : tie.After-known-told Inv-loop μ-loop)
     → let l = top k in
     let a = l .before .args in
-    let n : ℕ = a .rank - a .offset in
+    let n : ℕ = axes (a .tail) in
     let i : ℕ = k .before .i .given .0 .0 in
-    Turn (lessened (a .machine) (a .bytes .now) (a .operands) (a .costs .now) (a .offset) n) (a .offset) n (a .rank) (a .costs .now) (l .loop .blocks) (set (l .loop .blocks) i (getD (l .loop .blocks) i 0 - 1))
+    Turn (lessened (a .machine) (a .bytes .now) (a .tail .operands) (a .costs .now) (a .tail .offset) n) (a .tail .offset) n (a .tail .rank) (a .costs .now) (l .loop .blocks) (set (l .loop .blocks) i (getD (l .loop .blocks) i 0 - 1))
 turn k = let l = top k in
     let a = l .before .args in
-    let n : ℕ = a .rank - a .offset in
-    let big : a .machine .cache < region (a .machine) (a .bytes .now) (a .operands) (l .loop .blocks) (a .offset) n = omega arith in
-    lessened-turn (a .machine) (a .bytes .now) (a .operands) (a .costs .now) (a .offset) n (a .rank) (l .loop .blocks) (k .before .i .given .0 .0) (l .loop .inv .0) (at k) big
+    let n : ℕ = axes (a .tail) in
+    let big : a .machine .cache < region (a .machine) (a .bytes .now) (a .tail .operands) (l .loop .blocks) (a .tail .offset) n = omega arith in
+    lessened-turn (a .machine) (a .bytes .now) (a .tail .operands) (a .costs .now) (a .tail .offset) n (a .tail .rank) (l .loop .blocks) (k .before .i .given .0 .0) (l .loop .inv .0) (at k) big
 
 loop-less : tie.Need-loop-less Inv-loop μ-loop
 loop-less c = turn (c .before) .fewer

@@ -3,7 +3,7 @@
 use native.Mathlib.Omega.{arith}
 use mathlib.Core.Path.{_≡_, sym, ap, subst⁻¹, _∙_}
 use mathlib.Core.List.{List}
-use Prim.Native.Nat.{ℕ, _-_, _≤_}
+use Prim.Native.Nat.{ℕ, _≤_}
 use Rattle.strided.specs.Region.{region}
 use Rattle.strided.specs.declared.Machine.{Machine}
 use Rattle.strided.specs.Cut.{lessened}
@@ -11,6 +11,7 @@ use Rattle.laws.specs.Cut.Steps.{ScoresFit, lessened-fits}
 use Rattle.laws.specs.Cut.Jump.{clipped, clippedOver, over-itself, jump, clipped-scores}
 use Rattle.laws.specs.Cut.Level.{Least}
 use borrow.Author.Needs.{needs}
+use Rattle.region.specs.Tail.{axes}
 use Rattle.shrink.proofs.lessen_far.Statement.{statement}
 use Rattle.shrink.proofs.lessen_far.Tie as tie
 
@@ -31,8 +32,8 @@ memory-region-requires c κs = search needs
 returns : tie.Need-returns
 returns c =
     let a = c .before .before .before .before .args in
-    let small : region (a .machine) (a .bytes .now) (a .operands) (a .blocks .now) (a .offset) (a .rank - a .offset) ≤ a .machine .cache = omega arith in
-    sym (lessened-fits (a .machine) (a .bytes .now) (a .operands) (a .costs .now) (a .offset) (a .rank - a .offset) (a .blocks .now) small)
+    let small : region (a .machine) (a .bytes .now) (a .tail .operands) (a .blocks .now) (a .tail .offset) (axes (a .tail)) ≤ a .machine .cache = omega arith in
+    sym (lessened-fits (a .machine) (a .bytes .now) (a .tail .operands) (a .costs .now) (a .tail .offset) (axes (a .tail)) (a .blocks .now) small)
 
 level-requires : tie.Need-level-requires
 level-requires c κs = let s = c .before .before .before .before .before in (s .pre .0, (s .pre .1, omega arith))
@@ -45,7 +46,7 @@ lessen-requires c κs =
     let k = c .before in
     let s = k .before .before .before .before .before .before .before .before .before .before in
     let a = s .args in
-    (s .pre .0, (s .pre .1 .0, still-fit (a .machine) (a .bytes .now) (a .operands) (a .costs .now) (a .offset) (a .rank - a .offset) (a .rank) (a .blocks .now) (k .before .before .before .before .level .result) (k .clip-into .ensures) (s .pre .1 .1)))
+    (s .pre .0, (s .pre .1 .0, still-fit (a .machine) (a .bytes .now) (a .tail .operands) (a .costs .now) (a .tail .offset) (axes (a .tail)) (a .tail .rank) (a .blocks .now) (k .before .before .before .before .level .result) (k .clip-into .ensures) (s .pre .1 .1)))
 
 returns-2 : tie.Need-returns-2
 returns-2 c =
@@ -53,7 +54,7 @@ returns-2 c =
     let l = k .before .before .before .before in
     let a = k .before .before .before .before .before .before .before .before .before .before .args in
     c .lessen .ensures
-    ∙ same-end (a .machine) (a .bytes .now) (a .operands) (a .costs .now) (a .offset) (a .rank - a .offset) (a .rank) (a .blocks .now) (l .level .result) (k .clip-into .ensures) (l .level .ensures)
+    ∙ same-end (a .machine) (a .bytes .now) (a .tail .operands) (a .costs .now) (a .tail .offset) (axes (a .tail)) (a .tail .rank) (a .blocks .now) (l .level .result) (k .clip-into .ensures) (l .level .ensures)
 
 pub lessen-far-spec : {M : Type 1} → statement M
 lessen-far-spec =

@@ -6,14 +6,15 @@ use mathlib.Core.List.{List}
 use Prim.Native.Nat.{ℕ, _-_, _≤_, _<_, _^_}
 use Rattle.strided.specs.Region.{region}
 use Rattle.laws.specs.Cut.Level.{Seeking, seek-first, seek-down, seek-up, sought}
+use Rattle.region.specs.Tail.{axes}
 use Rattle.shrink.proofs.level.Statement.{statement}
 use Rattle.shrink.proofs.level.Tie as tie
 
 abbrev Inv-loop : tie.InvT-loop
-Inv-loop machine blocks bytes costs operands offset rank t₀ lo₀ hi₀ t lo hi = Seeking machine bytes operands costs offset (rank - offset) blocks t lo hi × (hi < 2 ^ 64)
+Inv-loop machine tail blocks bytes costs t₀ lo₀ hi₀ t lo hi = Seeking machine bytes (tail .operands) costs (tail .offset) (axes tail) blocks t lo hi × (hi < 2 ^ 64)
 
 abbrev μ-loop : tie.MeasureT-loop
-μ-loop machine blocks bytes costs operands offset rank t₀ lo₀ hi₀ t lo hi = hi - lo
+μ-loop machine tail blocks bytes costs t₀ lo₀ hi₀ t lo hi = hi - lo
 
 top-score-requires : tie.Need-top-score-requires Inv-loop μ-loop
 top-score-requires c κs = search needs
@@ -41,8 +42,8 @@ loop-again c =
     let k = c .before .before .before .before in
     let l = k .before .before .before .loop in
     let a = k .before .before .before .before .before .before .args in
-    let t : List ℕ = k .clip-into .last .1 .1 .1 .1 .1 .0 in
-    let big : a .machine .cache < region (a .machine) (a .bytes .now) (a .operands) t (a .offset) (a .rank - a .offset) = omega (arith, c .before .before .memory-region .ensures, c .if1 .taken) in
+    let t : List ℕ = k .clip-into .last .1 .1 .1 .1 .0 in
+    let big : a .machine .cache < region (a .machine) (a .bytes .now) (a .tail .operands) t (a .tail .offset) (axes (a .tail)) = omega (arith, c .before .before .memory-region .ensures, c .if1 .taken) in
     (seek-down (a .machine) _ _ _ _ _ _ (l .t) (l .lo) (l .hi) _ (l .inv .0) (omega arith) (omega arith) (k .clip-into .ensures) big, omega arith)
 
 add-lo : tie.Need-add-lo Inv-loop μ-loop
@@ -56,8 +57,8 @@ loop-again-2 c =
     let k = c .before .before .before .before in
     let l = k .before .before .before .loop in
     let a = k .before .before .before .before .before .before .args in
-    let t : List ℕ = k .clip-into .last .1 .1 .1 .1 .1 .0 in
-    let small : region (a .machine) (a .bytes .now) (a .operands) t (a .offset) (a .rank - a .offset) ≤ a .machine .cache = omega (arith, c .before .before .memory-region .ensures, c .if1 .left) in
+    let t : List ℕ = k .clip-into .last .1 .1 .1 .1 .0 in
+    let small : region (a .machine) (a .bytes .now) (a .tail .operands) t (a .tail .offset) (axes (a .tail)) ≤ a .machine .cache = omega (arith, c .before .before .memory-region .ensures, c .if1 .left) in
     (seek-up (a .machine) _ _ _ _ _ _ (l .t) (l .lo) (l .hi) _ (l .inv .0) (omega arith) (omega arith) (k .clip-into .ensures) small, omega arith)
 
 returns : tie.Need-returns Inv-loop μ-loop

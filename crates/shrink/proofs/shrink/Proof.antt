@@ -2,10 +2,11 @@
 -- Assumes nothing.
 use mathlib.Core.Path.{ap, subst⁻¹, _∙_}
 use mathlib.Core.List.{List}
-use Prim.Native.Nat.{ℕ, _-_}
+use Prim.Native.Nat.{ℕ}
 use Rattle.strided.specs.Cut.{halved, lessened, shrunk}
 use Rattle.laws.specs.Cut.Steps.{ScoresFit, scores-le, halved-le}
 use borrow.Author.Needs.{needs}
+use Rattle.region.specs.Tail.{axes}
 use Rattle.shrink.proofs.shrink.Statement.{statement}
 use Rattle.shrink.proofs.shrink.Tie as tie
 
@@ -18,14 +19,14 @@ lessen-far-requires c κs =
     let s = h .before .before in
     let a = s .args in
     let bytes : List ℕ = a .bytes .now in
-    let n : ℕ = a .rank - a .offset in
+    let n : ℕ = axes (a .tail) in
     let b : List ℕ = a .blocks .now in
-    let half : List ℕ = halved (a .machine) bytes (a .operands) (a .costs .now) (a .offset) n b in (
+    let half : List ℕ = halved (a .machine) bytes (a .tail .operands) (a .costs .now) (a .tail .offset) n b in (
       s .pre .0,
       (
         s .pre .1 .0,
-        subst⁻¹ (λ (l : List ℕ). ScoresFit (a .rank) (a .costs .now) l) (h .halve .ensures)
-            (scores-le (a .rank) (a .costs .now) b half (halved-le (a .machine) bytes (a .operands) (a .costs .now) (a .offset) n b) (s .pre .1 .1)),
+        subst⁻¹ (λ (l : List ℕ). ScoresFit (a .tail .rank) (a .costs .now) l) (h .halve .ensures)
+            (scores-le (a .tail .rank) (a .costs .now) b half (halved-le (a .machine) bytes (a .tail .operands) (a .costs .now) (a .tail .offset) n b) (s .pre .1 .1)),
       ),
     )
 
@@ -34,7 +35,7 @@ unfolding shrunk
 returns c =
     let h = c .before .before in
     let a = h .before .before .args in
-    c .lessen-far .ensures ∙ ap (lessened (a .machine) (a .bytes .now) (a .operands) (a .costs .now) (a .offset) (a .rank - a .offset)) (h .halve .ensures)
+    c .lessen-far .ensures ∙ ap (lessened (a .machine) (a .bytes .now) (a .tail .operands) (a .costs .now) (a .tail .offset) (axes (a .tail))) (h .halve .ensures)
 
 pub shrink-spec : {M : Type 1} → statement M
 shrink-spec = tie.close (tie.spec halve-requires lessen-far-requires returns)

@@ -4,10 +4,11 @@ use borrow.Author.Needs.{needs}
 use native.Mathlib.Omega.{arith}
 use mathlib.Core.Path.{_≡_, sym, ap, _∙_}
 use mathlib.Core.Option.{some, none}
-use Prim.Native.Nat.{ℕ, _-_, _*_, _<_}
+use Prim.Native.Nat.{ℕ, _*_, _<_}
 use lib.ListN.{getD}
 use Rattle.strided.specs.Cut.{score, greatestScore}
 use Rattle.laws.specs.Cut.Picks.{topOf, pick-is}
+use Rattle.region.specs.Tail.{axes}
 use Rattle.shrink.specs.Picked.{picked}
 use Rattle.shrink.proofs.top_score.Statement.{statement}
 use Rattle.shrink.proofs.top_score.Tie as tie
@@ -24,7 +25,7 @@ enum-told c = search needs
 returns : tie.Need-returns
 returns c = let k = c .before .before in
     let a = k .before .args in
-    let e : greatestScore (a .blocks .now) (a .costs .now) (a .offset) (a .rank - a .offset) ≡ none = sym (k .last-argmax-weighted .ensures) ∙ ap picked (c .enum-told .given .1) in
+    let e : greatestScore (a .blocks .now) (a .costs .now) (a .tail .offset) (axes (a .tail)) ≡ none = sym (k .last-argmax-weighted .ensures) ∙ ap picked (c .enum-told .given .1) in
     sym (ap (topOf (score (a .blocks .now) (a .costs .now))) e)
 
 -- the place of the arguments, from where the pick is told
@@ -34,11 +35,11 @@ start k = k .before .before .before .before
 -- the pick, where there is one
 at : (k : tie.After-known-told)
     → let a = start k .args in
-    greatestScore (a .blocks .now) (a .costs .now) (a .offset) (a .rank - a .offset) ≡ some (k .before .i .given .0 .0)
+    greatestScore (a .blocks .now) (a .costs .now) (a .tail .offset) (axes (a .tail)) ≡ some (k .before .i .given .0 .0)
 at k = sym (k .before .before .before .last-argmax-weighted .ensures) ∙ ap picked (k .before .i .given .1)
 
 -- it is one of the tail
-below : (k : tie.After-known-told) → k .before .i .given .0 .0 < start k .args .rank
+below : (k : tie.After-known-told) → k .before .i .given .0 .0 < start k .args .tail .rank
 below k = let r = pick-is _ _ _ _ _ (at k) in omega (arith, r .from, r .below)
 
 mul-less-one : tie.Need-mul-less-one
