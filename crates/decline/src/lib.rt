@@ -5,16 +5,26 @@ use layout::sizes::less_one;
 use layout::sizes::magnitude;
 use strided::Machine;
 ghost use mathlib.Core.Path.{_≡_};
-ghost use Prim.Native.Nat.{_+_, _-_, _*_, _^_, _<_, _≤_};
+ghost use Prim.Native.Nat.{_^_, _<_, _≤_};
 ghost use lib.ListN.{length};
-ghost use Rattle.strided.specs.Base.{sum, every};
 ghost use Rattle.strided.specs.Machine.{Allowed};
 ghost use Rattle.strided.specs.Region.{byteTable};
-ghost use Rattle.strided.specs.Decline.{firstCut, passes, declined};
-ghost use Rattle.laws.specs.Cut.Rising.{before, wayOf, adds};
-ghost use Rattle.laws.specs.Cut.Elements.{wholeLines, slab, separates};
+ghost use Rattle.strided.specs.Decline.{firstCut, declined};
+ghost use Rattle.laws.specs.Cut.Rising.{before, wayOf};
+ghost use Rattle.laws.specs.Cut.Elements.{wholeLines, slab};
 ghost use Rattle.laws.specs.Cut.Tables.{strideSize};
 ghost use Rattle.decline.specs.Reach.{WithinReach};
+ghost use Rattle.decline.specs.Slabs.{InReach, spanTo, apartAt, apartTo, shareNone};
+
+// One operand's slabs at a cut: a slab spans the axes before the cut, `width` elements of `size`, and the axes from the cut up to the rank lead
+// from slab to slab.
+struct Slabs {
+    operand: usize,
+    size: u64,
+    width: u64,
+    cut: usize,
+    rank: usize,
+}
 
 // The first axis whose block is below its extent; the rank where there is none.
 fn first_cut<'a>(extents: &'a [u64; 64], blocks: &'a [u64; 64], rank: usize) -> usize
@@ -31,12 +41,14 @@ fn first_cut<'a>(extents: &'a [u64; 64], blocks: &'a [u64; 64], rank: usize) -> 
     i
 }
 
-// Whether n elements are whole lines. Two remainders tell it, where n * size may pass 64 bits.
+// Whether n elements are whole lines. Two remainders tell it, where n * size may pass 64 bits; by a line, a power of two, they are the low
+// bits.
 fn whole_lines(machine: Machine, n: u64, size: u64) -> bool
     requires { ⌜ Allowed machine ⌝ }
     ensures { λ r. ⌜ r ≡ wholeLines machine size n ⌝ }
 {
-    (n % machine.line) * (size % machine.line) % machine.line == 0
+    let low = machine.line - 1;
+    (n & low) * (size & low) & low == 0
 }
 
 // The size of operand k's stride on axis i.
@@ -80,24 +92,16 @@ fn comes_before(strides: &[i64; 512], k: usize, i: usize, j: usize) -> bool
     if a == b { j < i } else { a < b }
 }
 
-// The span at axis i's turn, which grows from the width w.
-fn span_so_far<'a>(
-    strides: &'a [i64; 512],
-    extents: &'a [u64; 64],
-    cut: usize,
-    rank: usize,
-    k: usize,
-    w: u64,
-    i: usize,
-) -> u64
-    requires { ⌜ ((k < 8) × (i < 64)) × ((cut ≤ rank) × (rank ≤ 64)) × (w + sum (wayOf (strideSize (now strides) k) (now extents)) cut (rank - cut) ≤ 2 ^ 63) ⌝ }
-    ensures { λ r. ⌜ r ≡ w + sum (adds (strideSize (now (strides .entry)) k) (now (extents .entry)) i) cut (rank - cut) ⌝ }
+// The span at axis i's turn, which grows from the width.
+fn span_so_far<'a>(slabs: Slabs, strides: &'a [i64; 512], extents: &'a [u64; 64], i: usize) -> u64
+    requires { ⌜ InReach slabs (now strides) (now extents) × (i < 64) ⌝ }
+    ensures { λ r. ⌜ r ≡ spanTo (slabs .rank) slabs (now (strides .entry)) (now (extents .entry)) i ⌝ }
 {
-    let mut s = w;
-    let mut j = cut;
-    while j < rank {
-        if comes_before(strides, k, i, j) {
-            s += way_of(strides, extents, k, j);
+    let mut s = slabs.width;
+    let mut j = slabs.cut;
+    while j < slabs.rank {
+        if comes_before(strides, slabs.operand, i, j) {
+            s += way_of(strides, extents, slabs.operand, j);
         }
         j += 1;
     }
@@ -107,45 +111,37 @@ fn span_so_far<'a>(
 // Whether axis i steps by whole lines and by no less than the span so far.
 fn keeps_apart<'a>(
     machine: Machine,
-    size: u64,
+    slabs: Slabs,
     strides: &'a [i64; 512],
     extents: &'a [u64; 64],
-    cut: usize,
-    rank: usize,
-    k: usize,
-    w: u64,
     i: usize,
 ) -> bool
     requires { ⌜ Allowed machine ⌝ }
-    requires { ⌜ ((k < 8) × (i < 64)) × ((cut ≤ rank) × (rank ≤ 64)) × (w + sum (wayOf (strideSize (now strides) k) (now extents)) cut (rank - cut) ≤ 2 ^ 63) ⌝ }
-    ensures { λ r. ⌜ r ≡ separates machine size (strideSize (now (strides .entry)) k) (now (extents .entry)) cut (rank - cut) w i ⌝ }
+    requires { ⌜ InReach slabs (now strides) (now extents) × (i < 64) ⌝ }
+    ensures { λ r. ⌜ r ≡ apartAt machine slabs (now (strides .entry)) (now (extents .entry)) i ⌝ }
 {
-    let s = stride_size(strides, k, i);
-    if whole_lines(machine, s, size) {
-        span_so_far(strides, extents, cut, rank, k, w, i) <= s
+    let s = stride_size(strides, slabs.operand, i);
+    if whole_lines(machine, s, slabs.size) {
+        span_so_far(slabs, strides, extents, i) <= s
     } else {
         false
     }
 }
 
-// Whether every axis from the cut on keeps the slabs of w elements apart.
+// Whether every axis from the cut on keeps the slabs apart.
 fn tail_separated<'a>(
     machine: Machine,
-    size: u64,
+    slabs: Slabs,
     strides: &'a [i64; 512],
     extents: &'a [u64; 64],
-    cut: usize,
-    rank: usize,
-    k: usize,
-    w: u64,
 ) -> bool
     requires { ⌜ Allowed machine ⌝ }
-    requires { ⌜ (k < 8) × ((cut ≤ rank) × (rank ≤ 64)) × (w + sum (wayOf (strideSize (now strides) k) (now extents)) cut (rank - cut) ≤ 2 ^ 63) ⌝ }
-    ensures { λ r. ⌜ r ≡ every (separates machine size (strideSize (now (strides .entry)) k) (now (extents .entry)) cut (rank - cut) w) cut (rank - cut) ⌝ }
+    requires { ⌜ InReach slabs (now strides) (now extents) ⌝ }
+    ensures { λ r. ⌜ r ≡ apartTo (slabs .rank) machine slabs (now (strides .entry)) (now (extents .entry)) ⌝ }
 {
-    let mut i = cut;
-    while i < rank {
-        if keeps_apart(machine, size, strides, extents, cut, rank, k, w, i) {
+    let mut i = slabs.cut;
+    while i < slabs.rank {
+        if keeps_apart(machine, slabs, strides, extents, i) {
             i += 1;
         } else {
             return false;
@@ -154,27 +150,22 @@ fn tail_separated<'a>(
     true
 }
 
-// Whether no two slabs of operand k share a line.
+// Whether no two slabs share a line.
 fn slabs_share_no_line<'a>(
     machine: Machine,
-    sizes: &'a [u64],
+    slabs: Slabs,
     strides: &'a [i64; 512],
     extents: &'a [u64; 64],
-    cut: usize,
-    rank: usize,
-    k: usize,
 ) -> bool
     requires { ⌜ Allowed machine ⌝ }
-    requires { ⌜ ((k < length (now sizes)) × (cut ≤ rank)) × WithinReach (now sizes) (now strides) (now extents) rank ⌝ }
-    ensures { λ r. ⌜ r ≡ passes machine (byteTable (now (sizes .entry)) (now (strides .entry))) (now (sizes .entry)) (now (extents .entry)) cut rank k ⌝ }
+    requires { ⌜ InReach slabs (now strides) (now extents) ⌝ }
+    ensures { λ r. ⌜ r ≡ shareNone machine slabs (now (strides .entry)) (now (extents .entry)) ⌝ }
 {
-    let size = sizes[k];
-    if size == 0 {
+    if slabs.size == 0 {
         return true;
     }
-    let w = slab_width(strides, extents, cut, k);
-    if whole_lines(machine, w, size) {
-        tail_separated(machine, size, strides, extents, cut, rank, k, w)
+    if whole_lines(machine, slabs.width, slabs.size) {
+        tail_separated(machine, slabs, strides, extents)
     } else {
         false
     }
@@ -203,7 +194,16 @@ pub fn declines_tiles<'a>(
     let operands = sizes.len();
     let mut k = 0;
     while k < operands {
-        if slabs_share_no_line(machine, sizes, strides, extents, cut, rank, k) {
+        let size = sizes[k];
+        let width = slab_width(strides, extents, cut, k);
+        let slabs = Slabs {
+            operand: k,
+            size,
+            width,
+            cut,
+            rank,
+        };
+        if slabs_share_no_line(machine, slabs, strides, extents) {
             k += 1;
         } else {
             return false;

@@ -1,28 +1,33 @@
 -- `decline::whole_lines` meets its contract: the remainders of the factors give that of the product, and their product is small.
 -- Assumes nothing.
+use native.Mathlib.Nat.{mul-le-mul}
 use native.Mathlib.Omega.{arith}
-use mathlib.Core.Path.{ap}
-use Prim.Native.Nat.{ℕ}
-use lib.Dec.{eqb}
+use mathlib.Core.Path.{_≡_, sym, subst}
+use Prim.Native.Nat.{ℕ, _-_, _%_, _≤_}
+use lib.Bits.{bitAnd, and-mask, and-le-r}
+use Rattle.strided.specs.Machine.{Allowed}
+use Rattle.strided.specs.declared.Machine.{Machine}
 use Rattle.laws.specs.Cut.Elements.{mod-both}
-use Rattle.decline.proofs.Rooms.{rests-fit}
+use borrow.Author.Needs.{needs}
 use Rattle.decline.proofs.whole_lines.Statement.{statement}
 use Rattle.decline.proofs.whole_lines.Tie as tie
 
-rem-result : tie.Need-rem-result
-rem-result c = omega arith
+-- the low bits are the remainder by the line, a power of two
+rest-is : (mc : Machine) → Allowed mc → (n : ℕ) → bitAnd n (mc .line - 1) ≡ n % mc .line
+rest-is mc h n = subst (λ (l : ℕ). bitAnd n (l - 1) ≡ n % l) (sym (h .power .1)) (and-mask n (h .power .0))
 
-rem-result-2 : tie.Need-rem-result-2
-rem-result-2 c = omega arith
+sub-low : tie.Need-sub-low
+sub-low c = search needs
 
 mul-result : tie.Need-mul-result
-mul-result c = let a = c .before .before .args in omega (arith, rests-fit (a .machine .line) (a .n) (a .size) (omega arith) (omega arith))
-
-rem-result-3 : tie.Need-rem-result-3
-rem-result-3 c = omega arith
+mul-result c = let a = c .before .args in
+    let low : ℕ = a .machine .line - 1 in
+    let p : bitAnd (a .n) low ≤ 255 = omega (arith, and-le-r (a .n) low) in
+    let q : bitAnd (a .size) low ≤ 255 = omega (arith, and-le-r (a .size) low) in
+    omega (arith, mul-le-mul p q)
 
 returns : tie.Need-returns
-returns c = let a = c .before .before .before .args in ap (λ (x : ℕ). eqb x 0) (mod-both (a .machine .line) (a .n) (a .size))
+returns c = simp (rest-is (c .before .args .machine) (c .before .pre), mod-both)
 
 pub whole-lines-spec : {M : Type 1} → statement M
-whole-lines-spec = tie.close (tie.spec rem-result rem-result-2 mul-result rem-result-3 returns)
+whole-lines-spec = tie.close (tie.spec sub-low mul-result returns)
