@@ -70,14 +70,6 @@ module _ (es sizes : List ℕ) (ss : List ℤ) (u : Purpose) (a : Accepted es si
             ∙ rw h;
       }
 
--- what is known of a purpose, for one that it is
-module _ {es sizes : List ℕ} {ss : List ℤ} {u v : Purpose} (e : u ≡ v) where
-  pub accepted-as : Accepted es sizes ss u → Accepted es sizes ss v
-  accepted-as a = subst (λ (w : Purpose). Accepted es sizes ss w) e a
-
-  pub made-as : {mc : Machine} {rank : ℕ} {E B : List ℕ} {S : List ℤ} → Made mc es sizes ss u rank E B S → Made mc es sizes ss v rank E B S
-  made-as {mc} {rank} {E} {B} {S} m = subst (λ (w : Purpose). Made mc es sizes ss w rank E B S) e m
-
 -- what is made is handed out
 pub serves : (mc : Machine) (es sizes : List ℕ) (ss : List ℤ) (u : Purpose) → planningRefused mc es sizes ss u ≡ none
     → (rank : ℕ) (E B : List ℕ) (S : List ℤ) → Made mc es sizes ss u rank E B S → (a : Answer) → a ≡ Served

@@ -7,19 +7,8 @@ use lib.ListN.{length, replicate}
 use Rattle.strided.specs.Fuse.{planAxes}
 use Rattle.strided.specs.Plan.{planFrom}
 use Rattle.strided.specs.declared.Purpose.{Purpose}
-use Rattle.strided.specs.declared.Purpose.the-variants.{Pointwise, PointwiseInto, Fold}
 use Rattle.strided.specs.declared.Plan.{Plan}
 use Rattle.strided.specs.declared.Machine.{Machine}
-use Rattle.kernel.specs.declared.Destination.{Destination}
-use Rattle.kernel.specs.declared.Destination.the-variants.{Unchosen, Chosen}
-
--- the purposes that a pointwise plan and a fold are made for
-abbrev pub pointwiseFor : Destination → Purpose
-pointwiseFor Unchosen = Pointwise
-pointwiseFor (Chosen k) = PointwiseInto k
-
-abbrev pub foldBy : ℕ → Purpose
-foldBy k = Fold k
 
 pub record Zeros (E : List ℕ) (S : List ℤ) : Type 0 where
   pub extents : E ≡ replicate 64 0

@@ -32,13 +32,7 @@ ghost use Rattle.strided.specs.Plan.{strideTable, cutBlocks, planned};
 ghost use Rattle.laws.specs.Refusals.Accepted.{Accepted};
 ghost use Rattle.auxiliary.specs.Fitting.{Fitting};
 ghost use Rattle.model.specs.Plannable.{Plannable};
-ghost use Rattle.kernel.specs.Made.{pointwiseFor, foldBy, Zeros, Made};
-
-// What a pointwise plan writes into: the operand that is chosen, if one is.
-enum Destination {
-    Unchosen,
-    Chosen(u64),
-}
+ghost use Rattle.kernel.specs.Made.{Zeros, Made};
 
 // ---- the plan's axes
 
@@ -149,8 +143,9 @@ fn block_sizes<'a>(
 }
 
 // The plan of a layout that is not refused, made in arrays of zeros: its axes are fused, and cut if there are more than 1,024 cells. So few
-// lie in the cache anyway, and cutting them gains nothing.
-fn plan_fused<'a>(
+// lie in the cache anyway, and cutting them gains nothing. It is for whoever has checked the layout, as the text entry has. The Rust's
+// pointwise_plan and fold_plan are both this: they differ in the purpose alone.
+pub fn plan_into<'a>(
     machine: Machine,
     extents: &'a [u64],
     sizes: &'a [u64],
@@ -179,116 +174,6 @@ fn plan_fused<'a>(
     }
     block_sizes(machine, sizes, es, table, rank, purpose, blocks);
     rank
-}
-
-// The plan of a pointwise operation. With a destination the axes are ordered for it, and blocks may be fitted to it.
-fn pointwise_plan<'a>(
-    machine: Machine,
-    extents: &'a [u64],
-    sizes: &'a [u64],
-    strides: &'a [i64],
-    destination: Destination,
-    es: &mut [u64; 64],
-    blocks: &mut [u64; 64],
-    table: &mut [i64; 512],
-) -> usize
-    requires { ⌜ Allowed machine ⌝ }
-    requires { ⌜ Accepted (now extents) (now sizes) (now strides) (pointwiseFor destination) ⌝ }
-    requires { ⌜ Zeros (now es) (now table) ⌝ }
-    ensures { λ r. ⌜ Made machine (now (extents .entry)) (now (sizes .entry)) (now (strides .entry)) (pointwiseFor destination) r (now (es .exit)) (now (blocks .exit)) (now (table .exit)) ⌝ }
-{
-    match destination {
-        Destination::Unchosen => plan_fused(
-            machine,
-            extents,
-            sizes,
-            strides,
-            Purpose::Pointwise,
-            es,
-            blocks,
-            table,
-        ),
-        Destination::Chosen(k) => plan_fused(
-            machine,
-            extents,
-            sizes,
-            strides,
-            Purpose::PointwiseInto(k),
-            es,
-            blocks,
-            table,
-        ),
-    }
-}
-
-// The plan of a fold into one number, ordered as if the chosen operand were a destination. Its blocks order the sum, so they are never
-// fitted to a cache.
-fn fold_plan<'a>(
-    machine: Machine,
-    extents: &'a [u64],
-    sizes: &'a [u64],
-    strides: &'a [i64],
-    chosen: u64,
-    es: &mut [u64; 64],
-    blocks: &mut [u64; 64],
-    table: &mut [i64; 512],
-) -> usize
-    requires { ⌜ Allowed machine ⌝ }
-    requires { ⌜ Accepted (now extents) (now sizes) (now strides) (foldBy chosen) ⌝ }
-    requires { ⌜ Zeros (now es) (now table) ⌝ }
-    ensures { λ r. ⌜ Made machine (now (extents .entry)) (now (sizes .entry)) (now (strides .entry)) (foldBy chosen) r (now (es .exit)) (now (blocks .exit)) (now (table .exit)) ⌝ }
-{
-    plan_fused(
-        machine,
-        extents,
-        sizes,
-        strides,
-        Purpose::Fold(chosen),
-        es,
-        blocks,
-        table,
-    )
-}
-
-// The plan of a layout that is not refused, for any purpose, made in arrays of zeros: for whoever has checked the layout, as the text entry has.
-pub fn plan_into<'a>(
-    machine: Machine,
-    extents: &'a [u64],
-    sizes: &'a [u64],
-    strides: &'a [i64],
-    purpose: Purpose,
-    es: &mut [u64; 64],
-    blocks: &mut [u64; 64],
-    table: &mut [i64; 512],
-) -> usize
-    requires { ⌜ Allowed machine ⌝ }
-    requires { ⌜ Accepted (now extents) (now sizes) (now strides) purpose ⌝ }
-    requires { ⌜ Zeros (now es) (now table) ⌝ }
-    ensures { λ r. ⌜ Made machine (now (extents .entry)) (now (sizes .entry)) (now (strides .entry)) purpose r (now (es .exit)) (now (blocks .exit)) (now (table .exit)) ⌝ }
-{
-    match purpose {
-        Purpose::Pointwise => pointwise_plan(
-            machine,
-            extents,
-            sizes,
-            strides,
-            Destination::Unchosen,
-            es,
-            blocks,
-            table,
-        ),
-        Purpose::PointwiseInto(k) => pointwise_plan(
-            machine,
-            extents,
-            sizes,
-            strides,
-            Destination::Chosen(k),
-            es,
-            blocks,
-            table,
-        ),
-        Purpose::Fold(k) => fold_plan(machine, extents, sizes, strides, k, es, blocks, table),
-    }
 }
 
 // THE PLAN of a layout for a purpose on a machine: rows 1 to 4, 24, 5 to 7, then the plan. A refusal has a plan of zeros beside it.

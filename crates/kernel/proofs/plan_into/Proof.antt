@@ -1,65 +1,53 @@
--- `kernel::plan_into` meets its contract: each purpose by itself, and what is known of the purpose carried over to its variant.
--- Assumes nothing.
-use mathlib.Core.Path.{_≡_, sym}
+-- `kernel::plan_into` meets its contract: at most 1,024 cells keep their extents as blocks, more are cut. Assumes nothing.
+use mathlib.Core.Path.{sym, _∙_}
 use borrow.Author.Needs.{needs}
-use Rattle.strided.specs.declared.Purpose.the-variants.{PointwiseInto, Fold}
-use Rattle.kernel.proofs.Plans.{accepted-as, made-as}
+use borrow.Author.Tests.{leb-false}
+use Rattle.strided.specs.Layout.{total}
+use Rattle.kernel.proofs.Plans.{plannable, made-small, made-cut}
 use Rattle.kernel.proofs.plan_into.Statement.{statement}
 use Rattle.kernel.proofs.plan_into.Tie as tie
 
-enum-told : tie.Need-enum-told
-enum-told c = search needs
+axes-into-requires : tie.Need-axes-into-requires
+axes-into-requires c κs = search needs
 
-pointwise-plan-requires : tie.Need-pointwise-plan-requires
-pointwise-plan-requires c κs =
-    let d = c .before .before .before in
-    let s = d .before .before .before .before in
-    (s .pre .0, (accepted-as (d .enum-told .given .1) (s .pre .1 .0), s .pre .1 .1))
-
-enum-known-purpose : tie.Need-enum-known-purpose
-enum-known-purpose c = search needs
-
-enum-known-purpose-2 : tie.Need-enum-known-purpose-2
-enum-known-purpose-2 c = search needs
-
--- the purpose, where an operand is chosen
-into : (c : tie.After-known-told) → c .before .before .before .before .before .args .purpose ≡ PointwiseInto (c .before .purpose .given .0 .0)
-into c = c .before .purpose .given .1
-
-fold : (c : tie.After-known-told2) → c .before .before .before .before .before .args .purpose ≡ Fold (c .before .purpose2 .given .0 .0)
-fold c = c .before .purpose2 .given .1
-
-pointwise-plan-requires-2 : tie.Need-pointwise-plan-requires-2
-pointwise-plan-requires-2 c κs =
-    let d = c .before .before .before in
-    let s = d .before .before .before .before .before in
-    (s .pre .0, (accepted-as (into d) (s .pre .1 .0), s .pre .1 .1))
-
-fold-plan-requires : tie.Need-fold-plan-requires
-fold-plan-requires c κs =
-    let d = c .before .before .before in
-    let s = d .before .before .before .before .before in
-    (s .pre .0, (accepted-as (fold d) (s .pre .1 .0), s .pre .1 .1))
+total-at-most-requires : tie.Need-total-at-most-requires
+total-at-most-requires c κs = search needs
 
 returns : tie.Need-returns
-returns c = made-as (sym (c .before .before .before .before .enum-told .given .1)) (c .pointwise-plan .ensures)
+returns c =
+    let t = c .before .before in
+    let x = t .before in
+    let s = x .before .before .before .before .before in
+    let a = s .args in
+    let e = x .axes-into .ensures in
+    made-small (a .extents .now) (a .sizes .now) (a .strides .now) (a .purpose) (s .pre .1 .0) (x .axes-into .result) _ _ (e .0) (e .1 .0) (e .1 .1) (a .machine)
+    (sym (t .total-at-most .ensures) ∙ c .before .if1 .taken)
+
+block-sizes-requires : tie.Need-block-sizes-requires
+block-sizes-requires c κs =
+    let on = c .before .before .before in
+    let t = on .before in
+    let x = t .before in
+    let s = x .before .before .before .before .before in
+    let a = s .args in
+    let e = x .axes-into .ensures in (
+      s .pre .0,
+      plannable (a .extents .now) (a .sizes .now) (a .strides .now) (a .purpose) (s .pre .1 .0) (x .axes-into .result) _ _ (e .0) (e .1 .0) (e .1 .1)
+          (leb-false (total (a .extents .now)) 1024 (sym (t .total-at-most .ensures) ∙ on .if1 .left)),
+    )
 
 returns-2 : tie.Need-returns-2
-returns-2 c = made-as (sym (into (c .before .before .before .before))) (c .pointwise-plan2 .ensures)
-
-returns-3 : tie.Need-returns-3
-returns-3 c = made-as (sym (fold (c .before .before .before .before))) (c .fold-plan .ensures)
+returns-2 c =
+    let on = c .before .before .before .before in
+    let t = on .before in
+    let x = t .before in
+    let s = x .before .before .before .before .before in
+    let a = s .args in
+    let e = x .axes-into .ensures in
+    made-cut (a .extents .now) (a .sizes .now) (a .strides .now) (a .purpose) (s .pre .1 .0) (x .axes-into .result) _ _ (e .0) (e .1 .0) (e .1 .1) (a .machine)
+    (sym (t .total-at-most .ensures) ∙ on .if1 .left) _ (c .block-sizes .ensures)
 
 pub plan-into-spec : {M : Type 1} → statement M
 plan-into-spec =
     tie.close
-    (tie.spec
-    enum-told
-    pointwise-plan-requires
-    enum-known-purpose
-    pointwise-plan-requires-2
-    enum-known-purpose-2
-    fold-plan-requires
-    returns
-    returns-2
-    returns-3)
+    (tie.spec axes-into-requires total-at-most-requires returns block-sizes-requires returns-2)
