@@ -3,6 +3,7 @@ ghost use Rattle.strided.specs.Machine.{machineOf};
 ghost use Rattle.strided.specs.Plan.{planned};
 ghost use Rattle.gougelily.specs.Handed.{purposeOf, Plans};
 use crate::purpose_of;
+use kernel::Aim;
 use kernel::plan_into;
 use layout::check_planning;
 use layout::negated;
@@ -42,12 +43,15 @@ pub extern "C" fn gougelily_plan<'a>(
         Answer::Served => {
             *plan_extents = [0u64; 64];
             *plan_strides = [0i64; 512];
-            let axes = plan_into(
+            let aim = Aim {
+                purpose: wanted,
                 machine,
+            };
+            let axes = plan_into(
+                aim,
                 extents,
                 sizes,
                 strides,
-                wanted,
                 &mut *plan_extents,
                 &mut *blocks,
                 &mut *plan_strides,

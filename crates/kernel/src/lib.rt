@@ -34,6 +34,12 @@ ghost use Rattle.auxiliary.specs.Fitting.{Fitting};
 ghost use Rattle.model.specs.Plannable.{Plannable};
 ghost use Rattle.kernel.specs.Made.{Zeros, Made};
 
+// What a plan is for: layout, purpose and record alone fix the plan.
+pub struct Aim {
+    pub purpose: Purpose,
+    pub machine: Machine,
+}
+
 // ---- the plan's axes
 
 // The axes of the plan, their extents and strides written into arrays of zeros. Their number is answered.
@@ -146,20 +152,21 @@ fn block_sizes<'a>(
 // lie in the cache anyway, and cutting them gains nothing. It is for whoever has checked the layout, as the text entry has. The Rust's
 // pointwise_plan and fold_plan are both this: they differ in the purpose alone.
 pub fn plan_into<'a>(
-    machine: Machine,
+    aim: Aim,
     extents: &'a [u64],
     sizes: &'a [u64],
     strides: &'a [i64],
-    purpose: Purpose,
     es: &mut [u64; 64],
     blocks: &mut [u64; 64],
     table: &mut [i64; 512],
 ) -> usize
-    requires { ⌜ Allowed machine ⌝ }
-    requires { ⌜ Accepted (now extents) (now sizes) (now strides) purpose ⌝ }
+    requires { ⌜ Allowed (aim .machine) ⌝ }
+    requires { ⌜ Accepted (now extents) (now sizes) (now strides) (aim .purpose) ⌝ }
     requires { ⌜ Zeros (now es) (now table) ⌝ }
-    ensures { λ r. ⌜ Made machine (now (extents .entry)) (now (sizes .entry)) (now (strides .entry)) purpose r (now (es .exit)) (now (blocks .exit)) (now (table .exit)) ⌝ }
+    ensures { λ r. ⌜ Made (aim .machine) (now (extents .entry)) (now (sizes .entry)) (now (strides .entry)) (aim .purpose) r (now (es .exit)) (now (blocks .exit)) (now (table .exit)) ⌝ }
 {
+    let purpose = aim.purpose;
+    let machine = aim.machine;
     let rank = axes_into(
         extents,
         strides,
@@ -192,12 +199,12 @@ pub fn plan<'a>(
     let answer = check_planning(extents, sizes, strides, purpose, machine);
     match answer {
         Answer::Served => {
+            let aim = Aim { purpose, machine };
             let rank = plan_into(
-                machine,
+                aim,
                 extents,
                 sizes,
                 strides,
-                purpose,
                 &mut es,
                 &mut blocks,
                 &mut table,

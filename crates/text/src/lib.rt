@@ -5,6 +5,7 @@ ghost use mathlib.Core.Option.{none};
 ghost use Rattle.strided.specs.Refusals.{layoutRefused};
 ghost use Rattle.strided.specs.Text.{Lists};
 ghost use Rattle.text.specs.Listed.{Places, listedServed, listedLayout, listedNumbers};
+use kernel::Aim;
 use kernel::plan_into;
 use l1::L1Sets;
 use layout::check_layout;
@@ -43,12 +44,12 @@ fn list_served<'a>(
         way: L1Sets::WAY,
         live: L1Sets::LIVE,
     };
+    let aim = Aim { purpose, machine };
     let rank = plan_into(
-        machine,
+        aim,
         extents,
         sizes,
         strides,
-        purpose,
         &mut es,
         &mut blocks,
         &mut table,

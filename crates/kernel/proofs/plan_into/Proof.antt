@@ -17,10 +17,10 @@ returns : tie.Need-returns
 returns c =
     let t = c .before .before in
     let x = t .before in
-    let s = x .before .before .before .before .before in
+    let s = x .before .before .before .before .before .before in
     let a = s .args in
     let e = x .axes-into .ensures in
-    made-small (a .extents .now) (a .sizes .now) (a .strides .now) (a .purpose) (s .pre .1 .0) (x .axes-into .result) _ _ (e .0) (e .1 .0) (e .1 .1) (a .machine)
+    made-small (a .extents .now) (a .sizes .now) (a .strides .now) (a .aim .purpose) (s .pre .1 .0) (x .axes-into .result) _ _ (e .0) (e .1 .0) (e .1 .1) (a .aim .machine)
     (sym (t .total-at-most .ensures) ∙ c .before .if1 .taken)
 
 block-sizes-requires : tie.Need-block-sizes-requires
@@ -28,11 +28,11 @@ block-sizes-requires c κs =
     let on = c .before .before .before in
     let t = on .before in
     let x = t .before in
-    let s = x .before .before .before .before .before in
+    let s = x .before .before .before .before .before .before in
     let a = s .args in
     let e = x .axes-into .ensures in (
       s .pre .0,
-      plannable (a .extents .now) (a .sizes .now) (a .strides .now) (a .purpose) (s .pre .1 .0) (x .axes-into .result) _ _ (e .0) (e .1 .0) (e .1 .1)
+      plannable (a .extents .now) (a .sizes .now) (a .strides .now) (a .aim .purpose) (s .pre .1 .0) (x .axes-into .result) _ _ (e .0) (e .1 .0) (e .1 .1)
           (leb-false (total (a .extents .now)) 1024 (sym (t .total-at-most .ensures) ∙ on .if1 .left)),
     )
 
@@ -41,10 +41,10 @@ returns-2 c =
     let on = c .before .before .before .before in
     let t = on .before in
     let x = t .before in
-    let s = x .before .before .before .before .before in
+    let s = x .before .before .before .before .before .before in
     let a = s .args in
     let e = x .axes-into .ensures in
-    made-cut (a .extents .now) (a .sizes .now) (a .strides .now) (a .purpose) (s .pre .1 .0) (x .axes-into .result) _ _ (e .0) (e .1 .0) (e .1 .1) (a .machine)
+    made-cut (a .extents .now) (a .sizes .now) (a .strides .now) (a .aim .purpose) (s .pre .1 .0) (x .axes-into .result) _ _ (e .0) (e .1 .0) (e .1 .1) (a .aim .machine)
     (sym (t .total-at-most .ensures) ∙ on .if1 .left) _ (c .block-sizes .ensures)
 
 pub plan-into-spec : {M : Type 1} → statement M
