@@ -30,16 +30,6 @@ slab f es cut = 1 + sum (wayOf f es) 0 cut
 unfoldable pub separates : Machine → ℕ → (ℕ → ℕ) → List ℕ → ℕ → ℕ → ℕ → ℕ → Bool
 separates mc size f es o n w i = wholeLines mc size (f i) && leb (w + sum (adds f es i) o n) (f i)
 
--- where it steps by whole lines, and where not
-module _ (mc : Machine) (size : ℕ) (f : ℕ → ℕ) (es : List ℕ) (o n w i : ℕ) where
-  pub separates-line : wholeLines mc size (f i) ≡ true → separates mc size f es o n w i ≡ leb (w + sum (adds f es i) o n) (f i)
-  unfolding separates
-  separates-line e = ap (λ (t : Bool). t && leb (w + sum (adds f es i) o n) (f i)) e
-
-  pub separates-off : wholeLines mc size (f i) ≡ false → separates mc size f es o n w i ≡ false
-  unfolding separates
-  separates-off e = ap (λ (t : Bool). t && leb (w + sum (adds f es i) o n) (f i)) e
-
 -- ---- a common factor in remainders and comparisons
 
 mod-left : (n a b : ℕ) → a % n * b % n ≡ a * b % n
