@@ -56,12 +56,15 @@ def weights(layout):
     raise Malformed("no width gives weights: more than 8 operands?")
 
 
-def fusing_order(layout):
-    """The axes in the order they are fused in: as given up to a total of 1,024, else the loop order, innermost first."""
-    if prod(layout.extents) <= SMALL:
-        return list(range(layout.rank))
+def loop_order(layout):
+    """The axes by falling weight, the lower axis first on ties; the first one is innermost."""
     by = weights(layout)
     return sorted(range(layout.rank), key=lambda axis: (-by[axis], axis))
+
+
+def fusing_order(layout):
+    """The axes in the order they are fused in: as given up to a total of 1,024, else the loop order."""
+    return list(range(layout.rank)) if prod(layout.extents) <= SMALL else loop_order(layout)
 
 
 def joins(extent, before, stride):
@@ -80,10 +83,14 @@ def fuse(axes):
     return axes
 
 
+def fused_axes(layout):
+    """The layout's axes in the order they are fused in, after fusing; one that joined another has extent 1."""
+    return fuse(PlanAxis(layout.extents[i], [row[i] for row in layout.strides], [i]) for i in fusing_order(layout))
+
+
 def plan_axes(layout):
     """The axes of the plan, axis 0 first."""
-    order = fusing_order(layout)
-    axes = fuse(PlanAxis(layout.extents[i], [row[i] for row in layout.strides], [i]) for i in order)
+    axes = fused_axes(layout)
     kept = [axis for axis in axes if axis.extent != 1]
     if not kept and axes:
         return [PlanAxis(1, axes[0].strides, [])]
