@@ -1,23 +1,28 @@
 -- `l1::L1Sets::fit` meets its contract. The loop goes down from the outermost axis; the invariant: `fitFrom` on the axes below n gives what is
--- wanted. Each turn is a case of `fitFrom` (laws, Cut/Cases), with its tests by the live axes (Loads). Assumes nothing.
+-- wanted. Each turn is a case of `fitFrom` (laws, Cut/Cases), with its tests by the L1Sets (Loads). Assumes nothing.
 use borrow.Author.Needs.{needs}
 use native.Mathlib.Omega.{arith}
-use mathlib.Core.Path.{_≡_, sym, ap, subst⁻¹, _∙_}
-use mathlib.Core.Bool.{Bool, true, false}
+use mathlib.Core.Path.{_≡_, sym, ap, _∙_}
 use mathlib.Core.List.{List}
 use mathlib.Core.Logic.{⊎-elim}
-use Prim.Native.Nat.{ℕ, _-_, _≤_, _<_}
+use mathlib.Core.Bool.{not, _&&_}
+use Prim.Native.Nat.{ℕ, _+_, _-_, _*_, _≤_, _<_}
+use lib.Dec.{ltb, eqb}
+use lib.IntN.{pos}
 use lib.ListN.{getD, set}
 use lib.Seq.{set-set}
+use mir.Syntax.{w64}
+use mir.Val.{ofZ}
 use Rattle.strided.specs.Fit.{load, shortens, fitFrom, fitted}
+use Rattle.laws.specs.Base.Bits.{zero-bits}
 use Rattle.laws.specs.Cut.Cases.{shortens-above, fit-none, fit-skip, fit-on, fit-last, fitted-small, fitted-big}
-use Rattle.l1.specs.Live.{Of, loadBy, mostBy, chosenSize}
-use Rattle.l1.proofs.Loads.{first-le, second-le, load-by, shortens-by, most-by}
+use Rattle.l1.specs.Live.{loadBy, mostBy, chosenSize}
+use Rattle.l1.proofs.Loads.{load-by, enters-by, most-by}
 use Rattle.l1.proofs.L1Sets.fit.Statement.{statement}
 use Rattle.l1.proofs.L1Sets.fit.Tie as tie
 
 abbrev Inv-loop : tie.InvT-loop
-Inv-loop machine blocks₀ bytes sizes strides chosen rank sets n₀ blocks n = (n ≤ rank) × (Of machine bytes sizes rank sets)
+Inv-loop machine blocks₀ bytes sizes strides chosen rank sets n₀ blocks n = (n ≤ rank)
     × (fitFrom machine bytes sizes rank (chosenSize strides chosen) n blocks ≡ fitted machine bytes sizes rank (chosenSize strides chosen) blocks₀)
 
 abbrev μ-loop : tie.MeasureT-loop
@@ -34,23 +39,14 @@ told l = l .before .before .before .before .before
 abbrev chosenBy : tie.After-of Inv-loop μ-loop → ℕ → ℕ
 chosenBy s = let a = s .before .before .args in chosenSize (a .strides .now) (a .chosen)
 
--- the live axes are axes
-short : (s : tie.After-of Inv-loop μ-loop) → (s .of .result .first ≤ 64) × (s .of .result .second ≤ 64)
-short s =
-    let a = s .before .before .args in
-    let r : a .rank ≤ 64 = s .before .before .pre .1 .0 .0 in (
-      omega (arith, r, first-le (a .machine) (a .bytes .now) (a .sizes .now) (a .rank) (s .of .result) (s .of .ensures)),
-      omega (arith, r, second-le (a .machine) (a .bytes .now) (a .sizes .now) (a .rank) (s .of .result) (s .of .ensures)),
-    )
-
 -- the load that the code tests is the definition's
 whole-load : (s : tie.After-of Inv-loop μ-loop) (b : List ℕ)
     → let a = s .before .before .args in
-    load (a .machine) (a .bytes .now) (a .sizes .now) (a .rank) b ≡ loadBy (a .machine) (a .bytes .now) (s .of .result) b
+    load (a .machine) (a .bytes .now) (a .sizes .now) (a .rank) b ≡ loadBy (s .of .result) b
 whole-load s b = let a = s .before .before .args in load-by (a .machine) (a .bytes .now) (a .sizes .now) (a .rank) (s .of .result) (s .of .ensures) b
 
 load-requires : tie.Need-load-requires Inv-loop μ-loop
-load-requires c κs = (c .before .before .before .pre .0, short (c .before))
+load-requires c κs = c .before .of .ensures .few
 
 returns : tie.Need-returns Inv-loop μ-loop
 returns c = let s = c .before .before .before .before in
@@ -59,28 +55,11 @@ returns c = let s = c .before .before .before .before in
 
 loop-holds : tie.Need-loop-holds Inv-loop μ-loop
 loop-holds c = let s = c .before .before .before .before in
-    let a = s .before .before .args in (
-      omega arith,
-      s .of .ensures,
-      sym (fitted-big (a .machine) (a .bytes .now) (a .sizes .now) (a .rank) (chosenBy s) (a .blocks .now) (omega (arith, whole-load s (a .blocks .now), c .before .before .load .ensures, c .if1 .left))),
-    )
+    let a = s .before .before .args in
+    (omega arith, sym (fitted-big (a .machine) (a .bytes .now) (a .sizes .now) (a .rank) (chosenBy s) (a .blocks .now) (omega (arith, whole-load s (a .blocks .now), c .before .before .load .ensures, c .if1 .left))))
 
 sub-i : tie.Need-sub-i Inv-loop μ-loop
 sub-i c = omega arith
-
-shortened-requires : tie.Need-shortened-requires Inv-loop μ-loop
-shortened-requires c κs = search needs
-
--- the test that the code makes is the definition's
-test : (h : tie.After-shortened Inv-loop μ-loop)
-    → let l = h .before .before .before in
-    let a = told l .before .before .args in
-    (t : Bool) → h .shortened .result ≡ t → shortens (a .machine) (a .bytes .now) (a .sizes .now) (a .rank) (chosenBy (told l)) (l .loop .blocks) (l .loop .n - 1) ≡ t
-test h t e =
-    let l = h .before .before .before in
-    let s = told l in
-    let a = s .before .before .args in
-    shortens-by (a .machine) (a .bytes .now) (a .sizes .now) (a .rank) (s .of .result) (s .of .ensures) (chosenBy s) (l .loop .blocks) (l .loop .n - 1) ∙ sym (h .shortened .ensures) ∙ e
 
 mul-whole : tie.Need-mul-whole Inv-loop μ-loop
 mul-whole c = omega arith
@@ -88,35 +67,57 @@ mul-whole c = omega arith
 element-copy-out-whole : tie.Need-element-copy-out-whole Inv-loop μ-loop
 element-copy-out-whole c = omega arith
 
+mul-if2 : tie.Need-mul-if2 Inv-loop μ-loop
+mul-if2 c = omega arith
+
+add-if2 : tie.Need-add-if2 Inv-loop μ-loop
+add-if2 c = omega arith
+
+mul-if2-2 : tie.Need-mul-if2-2 Inv-loop μ-loop
+mul-if2-2 c = omega arith
+
+element-copy-out-if2 : tie.Need-element-copy-out-if2 Inv-loop μ-loop
+element-copy-out-if2 c = omega arith
+
+enters-requires : tie.Need-enters-requires Inv-loop μ-loop
+enters-requires c κs = omega arith
+
+-- the test that the code makes is the definition's
+test : (h : tie.After-enters Inv-loop μ-loop)
+    → let l = h .before .before .before .before in
+    let a = told l .before .before .args in
+    let i : ℕ = l .loop .n - 1 in
+    shortens (a .machine) (a .bytes .now) (a .sizes .now) (a .rank) (chosenBy (told l)) (l .loop .blocks) i
+    ≡ not (eqb (ofZ w64 (getD (a .strides .now) (a .chosen * 64 + i) (pos 0))) 0) && (h .enters .result && ltb 1 (getD (l .loop .blocks) i 0))
+unfolding shortens
+test h =
+    let l = h .before .before .before .before in
+    let s = told l in
+    let a = s .before .before .args in
+    let i : ℕ = l .loop .n - 1 in
+    rw (enters-by (a .machine) (a .bytes .now) (a .sizes .now) (a .rank) (s .of .result) (s .of .ensures) i, zero-bits (getD (a .strides .now) (a .chosen * 64 + i) (pos 0)) (h .before .if22 .given), h .enters .ensures)
+
 load-with-requires : tie.Need-load-with-requires Inv-loop μ-loop
-load-with-requires c κs = let s = told (c .before .before .before .before .before .before) in (s .before .before .pre .0, (short s, omega arith))
+load-with-requires c κs = (told (c .before .before .before .before .before .before) .of .ensures .few, omega arith)
 
 widen-requires : tie.Need-widen-requires Inv-loop μ-loop
 widen-requires c κs =
     let w = c .before .before .before in
-    let h = w .before .before .before .before in
-    let l = h .before .before .before in
+    let h = w .before .before .before in
+    let l = h .before .before .before .before in
     let s = told l in
     let a = s .before .before .args in
     let b : List ℕ = l .loop .blocks in
     let i : ℕ = l .loop .n - 1 in
-    let above = shortens-above (a .machine) (a .bytes .now) (a .sizes .now) (a .rank) (chosenBy s) b i (test h true (w .before .before .before .if2 .taken)) in
-    let small : loadBy (a .machine) (a .bytes .now) (s .of .result) (set b i 1) ≤ a .machine .live = omega (arith, w .load-with .ensures .0, c .before .if3 .taken) in (
-      s .before .before .pre .0,
-      (
-        (short s, omega arith),
-        (
-          omega arith,
-          subst⁻¹ (λ (x : List ℕ). loadBy (a .machine) (a .bytes .now) (s .of .result) x ≤ a .machine .live) (ap (λ (x : List ℕ). set x i 1) (w .load-with .ensures .1) ∙ set-set b i 1 1) small,
-        ),
-      ),
-    )
+    let above = shortens-above (a .machine) (a .bytes .now) (a .sizes .now) (a .rank) (chosenBy s) b i (test h ∙ w .before .before .if2 .taken) in
+    let e = ap (λ (x : List ℕ). loadBy (s .of .result) (set x i 1)) (w .load-with .ensures .1) ∙ ap (loadBy (s .of .result)) (set-set b i 1 1) in
+    ((s .of .ensures .few, omega arith), (omega arith, (omega arith, omega (arith, e, w .load-with .ensures .0, c .before .if3 .taken))))
 
 returns-2 : tie.Need-returns-2 Inv-loop μ-loop
 returns-2 c =
     let w = c .before .before .before .before in
-    let h = w .before .before .before .before in
-    let l = h .before .before .before in
+    let h = w .before .before .before in
+    let l = h .before .before .before .before in
     let s = told l in
     let a = s .before .before .args in
     let b : List ℕ = l .loop .blocks in
@@ -124,10 +125,10 @@ returns-2 c =
     let one : List ℕ = set b i 1 in
     let small : load (a .machine) (a .bytes .now) (a .sizes .now) (a .rank) one ≤ a .machine .live = omega (arith, whole-load s one, w .load-with .ensures .0, c .before .before .if3 .taken) in
     c .widen .ensures
-    ∙ ap (λ (x : List ℕ). set x i (mostBy (a .machine) (a .bytes .now) (s .of .result) x i (getD b i 0))) (w .load-with .ensures .1)
-    ∙ set-set b i 1 (mostBy (a .machine) (a .bytes .now) (s .of .result) one i (getD b i 0))
+    ∙ ap (λ (x : List ℕ). set x i (mostBy (a .machine .live) (s .of .result) x i (getD b i 0))) (w .load-with .ensures .1)
+    ∙ set-set b i 1 (mostBy (a .machine .live) (s .of .result) one i (getD b i 0))
     ∙ ap (set b i) (sym (most-by (a .machine) (a .bytes .now) (a .sizes .now) (a .rank) (s .of .result) (s .of .ensures) b i 1))
-    ∙ sym (fit-last (a .machine) (a .bytes .now) (a .sizes .now) (a .rank) (chosenBy s) b (l .loop .n) (omega arith) (test h true (w .before .before .before .if2 .taken)) small) ∙ l .loop .inv .2
+    ∙ sym (fit-last (a .machine) (a .bytes .now) (a .sizes .now) (a .rank) (chosenBy s) b (l .loop .n) (omega arith) (test h ∙ w .before .before .if2 .taken) small) ∙ l .loop .inv .1
 
 sub-n : tie.Need-sub-n Inv-loop μ-loop
 sub-n c = omega arith
@@ -137,7 +138,7 @@ loop-less c = omega arith
 
 loop-again : tie.Need-loop-again Inv-loop μ-loop
 loop-again c = let h = c .before in
-    let l = h .before .before .before in
+    let l = h .before .before .before .before in
     let s = told l in
     let a = s .before .before .args in
     let b : List ℕ = l .loop .blocks in
@@ -146,9 +147,9 @@ loop-again c = let h = c .before in
     let from : List ℕ → List ℕ = fitFrom (a .machine) (a .bytes .now) (a .sizes .now) (a .rank) (chosenBy s) (n - 1) in
     ⊎-elim
     (λ w.
-    let big : a .machine .live < load (a .machine) (a .bytes .now) (a .sizes .now) (a .rank) one = omega (arith, whole-load s one, w .3 .ensures .0, w .5 .left) in
-    (omega arith, l .loop .inv .1, ap from (w .6 ∙ w .3 .ensures .1) ∙ sym (fit-on (a .machine) (a .bytes .now) (a .sizes .now) (a .rank) (chosenBy s) b n (omega arith) (test h true (w .0 .taken)) big) ∙ l .loop .inv .2))
-    (λ w. (omega arith, l .loop .inv .1, ap from (w .1) ∙ sym (fit-skip (a .machine) (a .bytes .now) (a .sizes .now) (a .rank) (chosenBy s) b n (omega arith) (test h false (w .0 .left))) ∙ l .loop .inv .2))
+    let big : a .machine .live < load (a .machine) (a .bytes .now) (a .sizes .now) (a .rank) one = omega (arith, whole-load s one, w .2 .ensures .0, w .4 .left) in
+    (omega arith, ap from (w .5 ∙ w .2 .ensures .1) ∙ sym (fit-on (a .machine) (a .bytes .now) (a .sizes .now) (a .rank) (chosenBy s) b n (omega arith) (test h ∙ w .0 .taken) big) ∙ l .loop .inv .1))
+    (λ w. (omega arith, ap from (w .1) ∙ sym (fit-skip (a .machine) (a .bytes .now) (a .sizes .now) (a .rank) (chosenBy s) b n (omega arith) (test h ∙ w .0 .left)) ∙ l .loop .inv .1))
     (c .if2 .came)
 
 returns-3 : tie.Need-returns-3 Inv-loop μ-loop
@@ -157,7 +158,7 @@ returns-3 c = let l = c .before in
     let a = s .before .before .args in
     let b : List ℕ = l .loop .blocks in
     let e : l .loop .n ≡ 0 = omega arith in
-    sym (ap (λ (n : ℕ). fitFrom (a .machine) (a .bytes .now) (a .sizes .now) (a .rank) (chosenBy s) n b) e ∙ fit-none (a .machine) (a .bytes .now) (a .sizes .now) (a .rank) (chosenBy s) b) ∙ l .loop .inv .2
+    sym (ap (λ (n : ℕ). fitFrom (a .machine) (a .bytes .now) (a .sizes .now) (a .rank) (chosenBy s) n b) e ∙ fit-none (a .machine) (a .bytes .now) (a .sizes .now) (a .rank) (chosenBy s) b) ∙ l .loop .inv .1
 
 pub fit-spec : {M : Type 1} → statement M
 fit-spec =
@@ -170,9 +171,13 @@ fit-spec =
     returns
     loop-holds
     sub-i
-    shortened-requires
     mul-whole
     element-copy-out-whole
+    mul-if2
+    add-if2
+    mul-if2-2
+    element-copy-out-if2
+    enters-requires
     load-with-requires
     widen-requires
     returns-2

@@ -1,35 +1,125 @@
--- `l1::L1Sets::live_axes` meets its contract: one law of Loads for each way out. Assumes nothing.
-use mathlib.Core.Path.{sym, subst, _∙_}
-use Prim.Native.Nat.{ℕ, _<_, _≤_}
-use borrow.Author.Tests.{eq-eqb, ne-eqb}
-use Rattle.l1.proofs.Loads.{live-empty, live-some, live-none}
-use borrow.Author.Needs.{needs}
+-- `l1::L1Sets::live_axes` meets its contract. The invariant: no axis before i has a byte stride below a line, and the set holds those whose
+-- stride is a multiple of the way. Assumes nothing.
+use native.Mathlib.Omega.{arith}
+use mathlib.Core.Path.{_≡_, sym, ap, _∙_}
+use mathlib.Core.Bool.{Bool}
+use mathlib.Core.List.{List}
+use Prim.Native.Nat.{ℕ, _+_, _-_, _*_, _%_, _^_, _≤_}
+use native.Mathlib.Nat.{sub-zero}
+use lib.Dec.{ltb, eqb}
+use lib.Pow.{pow-mono}
+use mir.Val.{boolByte}
+use borrow.Author.Tests.{lt-ltb, le-ltb, eq-eqb, ne-eqb}
+use Rattle.strided.specs.Base.{seek}
+use Rattle.strided.specs.Region.{byteAt}
+use Rattle.strided.specs.Fit.{reuse}
+use Rattle.strided.specs.declared.Machine.{Machine}
+use Rattle.laws.specs.Cut.Ranges.{seek-none, seek-hit, seek-miss}
+use Rattle.l1.specs.Live.{Holds, aliasesAt, liveCount}
+use Rattle.l1.proofs.Loads.{holds-none, holds-more}
 use Rattle.l1.proofs.L1Sets.live_axes.Statement.{statement}
 use Rattle.l1.proofs.L1Sets.live_axes.Tie as tie
 
-mul-if1 : tie.Need-mul-if1
-mul-if1 c = search needs
+-- whether operand k's byte stride on axis j is below a line
+abbrev near : Machine → List ℕ → ℕ → ℕ → Bool
+near mc bytes k j = ltb (byteAt bytes k j) (mc .line)
 
-shared-slice-read-if1 : tie.Need-shared-slice-read-if1
-shared-slice-read-if1 c = search needs
+abbrev Inv-loop : tie.InvT-loop
+Inv-loop machine bytes size rank k none aliased₀ i₀ aliased i = (i ≤ rank) × (seek (near machine bytes k) i (rank - i) ≡ reuse machine bytes rank k)
+    × (Holds (aliasesAt machine bytes k) i aliased)
 
-returns : tie.Need-returns
-returns c = let a = c .before .before .before .args in
-    sym (live-empty (a .machine) (a .bytes .now) (a .sizes .now) (a .rank) (a .k) (eq-eqb _ _ (c .if1 .taken)))
+abbrev μ-loop : tie.MeasureT-loop
+μ-loop machine bytes size rank k none aliased₀ i₀ aliased i = rank - i
 
-reuse-axis-requires : tie.Need-reuse-axis-requires
-reuse-axis-requires c κs = search needs
+returns : tie.Need-returns Inv-loop μ-loop
+unfolding liveCount
+returns c = record { count = rw (eq-eqb _ _ (c .if1 .taken)); few = omega arith; aliased = holds-none }
 
-returns-2 : tie.Need-returns-2
-returns-2 c = let a = c .before .before .before .before .before .args in
-    c .before .reuse-axis .ensures
-    ∙ sym (live-some (a .machine) (a .bytes .now) (a .sizes .now) (a .rank) (a .k) (ne-eqb _ _ (c .before .before .if1 .left)) (subst (λ (x : ℕ). x < a .rank) (c .before .reuse-axis .ensures) (c .if2 .taken)))
+loop-holds : tie.Need-loop-holds Inv-loop μ-loop
+unfolding reuse
+loop-holds c =
+    let a = c .before .args in
+    (omega arith, ap (seek (near (a .machine) (a .bytes .now) (a .k)) 0) (sub-zero (a .rank)), holds-none)
 
-returns-3 : tie.Need-returns-3
-returns-3 c = let a = c .before .before .before .before .before .args in
-    sym (live-none (a .machine) (a .bytes .now) (a .sizes .now) (a .rank) (a .k) (subst (λ (x : ℕ). a .rank ≤ x) (c .before .reuse-axis .ensures) (c .if2 .left)))
+mul-s : tie.Need-mul-s Inv-loop μ-loop
+mul-s c = omega arith
+
+add-s : tie.Need-add-s Inv-loop μ-loop
+add-s c = omega arith
+
+mul-s-2 : tie.Need-mul-s-2 Inv-loop μ-loop
+mul-s-2 c = omega arith
+
+element-copy-out-s : tie.Need-element-copy-out-s Inv-loop μ-loop
+element-copy-out-s c = omega arith
+
+returns-2 : tie.Need-returns-2 Inv-loop μ-loop
+unfolding liveCount
+returns-2 c = let l = c .before .before .before .before in
+    let a = l .before .before .args in
+    let e : reuse (a .machine) (a .bytes .now) (a .rank) (a .k) ≡ l .loop .i = sym (l .loop .inv .1) ∙ seek-hit (near (a .machine) (a .bytes .now) (a .k)) (l .loop .i) (a .rank) (omega arith) (lt-ltb _ _ (c .if2 .taken)) in
+    record { count = rw (ne-eqb _ _ (l .before .if1 .left), e, lt-ltb (l .loop .i) (a .rank) (omega arith)); few = omega arith; aliased = l .loop .inv .2 }
+
+rem-aliased : tie.Need-rem-aliased Inv-loop μ-loop
+rem-aliased c = omega arith
+
+cast-aliased : tie.Need-cast-aliased Inv-loop μ-loop
+cast-aliased c = tt
+
+shl-aliased : tie.Need-shl-aliased Inv-loop μ-loop
+shl-aliased c = omega arith
+
+-- the set with axis i: its byte stride is a line at least, so not 0
+stored : (c : tie.After-struct-known2 Inv-loop μ-loop) →
+    let l = c .before .before .before .before .before in
+    let a = l .before .before .args in
+    let i : ℕ = l .loop .i in
+    Holds (aliasesAt (a .machine) (a .bytes .now) (a .k)) (i + 1) (l .loop .aliased + boolByte (eqb (byteAt (a .bytes .now) (a .k) i % a .machine .way) 0) * 2 ^ i % 2 ^ 64)
+stored c =
+    let l = c .before .before .before .before .before in
+    let a = l .before .before .args in
+    let s : ℕ = byteAt (a .bytes .now) (a .k) (l .loop .i) in
+    holds-more (eqb (s % a .machine .way) 0) (l .loop .inv .2) (omega arith) (rw (ne-eqb s 0 (λ e. omega arith)))
+
+add-aliased : tie.Need-add-aliased Inv-loop μ-loop
+add-aliased c = let i : ℕ = c .before .before .before .before .before .loop .i in omega (arith, stored c .below, pow-mono {i = i + 1} {j = 64} (omega arith))
+
+add-i : tie.Need-add-i Inv-loop μ-loop
+add-i c = omega arith
+
+loop-less : tie.Need-loop-less Inv-loop μ-loop
+loop-less c = omega arith
+
+loop-again : tie.Need-loop-again Inv-loop μ-loop
+loop-again c = let a = c .before .before .before .before .before .before .before .args in
+    let l = c .before .before .before .before .before .loop in
+    (omega arith, sym (seek-miss (near (a .machine) (a .bytes .now) (a .k)) (l .i) (a .rank) (omega arith) (le-ltb _ _ (c .before .if2 .left))) ∙ l .inv .1, stored c)
+
+returns-3 : tie.Need-returns-3 Inv-loop μ-loop
+unfolding liveCount
+returns-3 c = let l = c .before in
+    let a = l .before .before .args in
+    let e : reuse (a .machine) (a .bytes .now) (a .rank) (a .k) ≡ l .loop .i = sym (l .loop .inv .1) ∙ seek-none (near (a .machine) (a .bytes .now) (a .k)) (l .loop .i) (a .rank) (omega arith) in
+    record { count = rw (ne-eqb _ _ (l .before .if1 .left), e, le-ltb (l .loop .i) (a .rank) (omega arith)); few = omega arith; aliased = holds-none }
 
 pub live-axes-spec : {M : Type 1} → statement M
 live-axes-spec =
     tie.close
-    (tie.spec mul-if1 shared-slice-read-if1 returns reuse-axis-requires returns-2 returns-3)
+    (tie.spec
+    Inv-loop
+    μ-loop
+    returns
+    loop-holds
+    mul-s
+    add-s
+    mul-s-2
+    element-copy-out-s
+    returns-2
+    rem-aliased
+    cast-aliased
+    shl-aliased
+    add-aliased
+    add-i
+    loop-less
+    loop-again
+    returns-3)

@@ -10,20 +10,19 @@ use lib.ListN.{set}
 use lib.Seq.{set-set}
 use borrow.Author.Tests.{le-leb, lt-leb}
 use Rattle.laws.specs.Cut.Ranges.{greatest-is}
-use Rattle.laws.specs.Cut.Saturate.{cap}
-use Rattle.l1.specs.Live.{loadBy, mostBy}
+use Rattle.l1.specs.Live.{top, loadBy, mostBy}
 use Rattle.l1.proofs.Loads.{load-by-mono}
 use Rattle.l1.proofs.L1Sets.widen.Statement.{statement}
 use Rattle.l1.proofs.L1Sets.widen.Tie as tie
 
 abbrev Inv-loop : tie.InvT-loop
-Inv-loop self machine bytes blocks₀ i whole lo₀ hi₀ blocks lo hi = (1 ≤ lo) × (lo ≤ hi) × (hi ≤ whole)
-    × (loadBy machine bytes self (set blocks₀ i lo) ≤ machine .live)
-    × ((x : ℕ) → hi < x → x ≤ whole → machine .live < loadBy machine bytes self (set blocks₀ i x))
+Inv-loop self live blocks₀ i whole lo₀ hi₀ blocks lo hi = (1 ≤ lo) × (lo ≤ hi) × (hi ≤ whole)
+    × (loadBy self (set blocks₀ i lo) ≤ live)
+    × ((x : ℕ) → hi < x → x ≤ whole → live < loadBy self (set blocks₀ i x))
     × ((x : ℕ) → set blocks i x ≡ set blocks₀ i x)
 
 abbrev μ-loop : tie.MeasureT-loop
-μ-loop self machine bytes blocks₀ i whole lo₀ hi₀ blocks lo hi = hi - lo
+μ-loop self live blocks₀ i whole lo₀ hi₀ blocks lo hi = hi - lo
 
 loop-holds : tie.Need-loop-holds Inv-loop μ-loop
 loop-holds c = (omega arith, omega arith, omega arith, c .pre .1 .1 .1, λ x a b. absurd (omega arith), λ x. refl)
@@ -41,27 +40,24 @@ load-with-requires c κs = search needs
 tried : (c : tie.After-load-with Inv-loop μ-loop) →
     let l = c .before .before .before in
     let a = l .before .args in
-    c .load-with .result ≡ min (loadBy (a .machine) (a .bytes .now) (a .self) (set (a .blocks .now) (a .i) (l .loop .hi - (l .loop .hi - l .loop .lo) / 2))) (cap (a .machine))
+    (c .load-with .result ≡ min (loadBy (a .self) (set (a .blocks .now) (a .i) (l .loop .hi - (l .loop .hi - l .loop .lo) / 2))) top)
+    × ((x : ℕ) → set (c .load-with .last .1 .0) (a .i) x ≡ set (a .blocks .now) (a .i) x)
 tried c =
     let l = c .before .before .before in
     let a = l .before .args in
-    c .load-with .ensures .0 ∙ ap (λ (b : List ℕ). min (loadBy (a .machine) (a .bytes .now) (a .self) b) (cap (a .machine))) (l .loop .inv .5 (l .loop .hi - (l .loop .hi - l .loop .lo) / 2))
-
-kept : (c : tie.After-load-with Inv-loop μ-loop) (x : ℕ) →
-    let a = c .before .before .before .before .args in
-    set (c .load-with .last .1 .1 .1 .0) (a .i) x ≡ set (a .blocks .now) (a .i) x
-kept c x =
-    let l = c .before .before .before in
-    let a = l .before .args in
-    ap (λ (b : List ℕ). set b (a .i) x) (c .load-with .ensures .1) ∙ set-set (l .loop .blocks) (a .i) (l .loop .hi - (l .loop .hi - l .loop .lo) / 2) x ∙ l .loop .inv .5 x
+    let mid : ℕ = l .loop .hi - (l .loop .hi - l .loop .lo) / 2 in (
+      c .load-with .ensures .0 ∙ ap (λ (b : List ℕ). min (loadBy (a .self) b) top) (l .loop .inv .5 mid),
+      λ x. ap (λ (b : List ℕ). set b (a .i) x) (c .load-with .ensures .1) ∙ set-set (l .loop .blocks) (a .i) mid x ∙ l .loop .inv .5 x,
+    )
 
 loop-less : tie.Need-loop-less Inv-loop μ-loop
 loop-less c = omega arith
 
 loop-again : tie.Need-loop-again Inv-loop μ-loop
 loop-again c =
-    let l = c .before .before .before .before .before .loop in
-    (omega arith, omega arith, l .inv .2, omega (arith, tried (c .before .before), c .if1 .taken), l .inv .4, kept (c .before .before))
+    let t = tried (c .before) in
+    let l = c .before .before .before .before .loop in
+    (omega arith, omega arith, l .inv .2, omega (arith, t .0, c .if1 .taken), l .inv .4, t .1)
 
 sub-hi : tie.Need-sub-hi Inv-loop μ-loop
 sub-hi c = omega arith
@@ -71,16 +67,16 @@ loop-less-2 c = omega arith
 
 loop-again-2 : tie.Need-loop-again-2 Inv-loop μ-loop
 loop-again-2 c =
-    let l = c .before .before .before .before .before in
+    let t = tried (c .before) in
+    let l = c .before .before .before .before in
     let a = l .before .args in
-    let mid : ℕ = l .loop .hi - (l .loop .hi - l .loop .lo) / 2 in
-    let big : a .machine .live < loadBy (a .machine) (a .bytes .now) (a .self) (set (a .blocks .now) (a .i) mid) = omega (arith, tried (c .before .before), c .if1 .left) in (
+    let mid : ℕ = l .loop .hi - (l .loop .hi - l .loop .lo) / 2 in (
       l .loop .inv .0,
       omega arith,
       omega arith,
       l .loop .inv .3,
-      λ x h k. omega (arith, big, load-by-mono (a .machine) (a .bytes .now) (a .self) (a .blocks .now) (a .i) mid x (omega arith)),
-      kept (c .before .before),
+      λ x h k. omega (arith, t .0, c .if1 .left, load-by-mono (a .self) (a .blocks .now) (a .i) mid x (omega arith)),
+      t .1,
     )
 
 mul-blocks : tie.Need-mul-blocks Inv-loop μ-loop
@@ -96,7 +92,7 @@ returns c = let a = c .before .before .args in
     let e : l .lo ≡ l .hi = omega arith in
     l .inv .5 (l .lo)
     ∙ ap (set (a .blocks .now) (a .i))
-    (sym (greatest-is (λ x. leb (loadBy (a .machine) (a .bytes .now) (a .self) (set (a .blocks .now) (a .i) x)) (a .machine .live)) (a .whole) (l .lo)
+    (sym (greatest-is (λ x. leb (loadBy (a .self) (set (a .blocks .now) (a .i) x)) (a .live)) (a .whole) (l .lo)
     (omega arith) (l .inv .0) (le-leb _ _ (l .inv .3)) (λ x h k. lt-leb _ _ (l .inv .4 x (omega arith) k))))
 
 pub widen-spec : {M : Type 1} → statement M
