@@ -38,6 +38,7 @@ impl L1Sets {
     // More than the live lines of any machine: loads from here on are not told apart.
     const TOP: u64 = 17;
 
+    // The live axes of operand k, whose size is given. Their byte strides are a line at least, so none is 0.
     fn live_axes(machine: Machine, bytes: &[u64; 512], size: u64, rank: usize, k: usize) -> LiveAxes
         requires { ⌜ Allowed machine ⌝ }
         requires { ⌜ (k < 8) × (rank ≤ 64) ⌝ }
@@ -79,7 +80,7 @@ impl L1Sets {
         }
     }
 
-    // The lines of one set that an operand keeps live.
+    // The lines of one set that an operand keeps live; 0 if it does not count.
     fn operand_load(live: LiveAxes, blocks: &[u64; 64]) -> u64
         requires { ⌜ live .count ≤ 64 ⌝ }
         ensures { λ r. ⌜ r ≡ min (productBy live (now (blocks .entry)) (live .count)) top ⌝ }
