@@ -14,7 +14,7 @@ ghost use Rattle.laws.specs.Cut.Steps.{ScoresFit};
 ghost use Rattle.region.specs.Tail.{Within, Nonempty, axes};
 
 // The least rank of a row in the tail.
-fn least_in_row(tail: Tail, row: &[u64; 64]) -> u64
+fn least_in_row(tail: Tail, row: &[u8; 64]) -> u8
     requires { ⌜ Nonempty tail ⌝ }
     ensures { λ r. ⌜ r ≡ least (λ i. getD (now (row .entry)) i 0) (tail .offset) (axes tail) ⌝ }
 {
@@ -32,7 +32,7 @@ fn least_in_row(tail: Tail, row: &[u64; 64]) -> u64
 }
 
 // The least rank that any operand has in the tail.
-fn least_rank(tail: Tail, ranks: &[[u64; 64]; 8]) -> u64
+fn least_rank(tail: Tail, ranks: &[[u8; 64]; 8]) -> u8
     requires { ⌜ Nonempty tail ⌝ }
     ensures { λ r. ⌜ r ≡ leastRank (now (ranks .entry)) (tail .operands) (tail .offset) (axes tail) ⌝ }
 {
@@ -49,7 +49,7 @@ fn least_rank(tail: Tail, ranks: &[[u64; 64]; 8]) -> u64
 }
 
 // Whether every operand's first rank is the least rank of the tail.
-fn keeps_first(tail: Tail, ranks: &[[u64; 64]; 8]) -> bool
+fn keeps_first(tail: Tail, ranks: &[[u8; 64]; 8]) -> bool
     requires { ⌜ Nonempty tail ⌝ }
     ensures { λ r. ⌜ r ≡ keepsFirst (now (ranks .entry)) (tail .operands) (tail .offset) (axes tail) ⌝ }
 {
@@ -120,11 +120,11 @@ pub fn compute_blocks_at<'a>(
     blocks: &mut [u64; 64],
     bytes: &'a [u64; 512],
     costs: &'a [u64; 64],
-    ranks: &'a [[u64; 64]; 8],
+    ranks: [[u8; 64]; 8],
 )
     requires { ⌜ Allowed machine ⌝ }
     requires { ⌜ ((0 < tail .operands) × Within tail) × ScoresFit (tail .rank) (now costs) (now blocks) ⌝ }
-    ensures { λ _. ⌜ now (blocks .exit) ≡ cutting machine (now (bytes .entry)) (tail .operands) (now (costs .entry)) (now (ranks .entry)) (tail .offset) (axes tail) (now (blocks .entry)) ⌝ }
+    ensures { λ _. ⌜ now (blocks .exit) ≡ cutting machine (now (bytes .entry)) (tail .operands) (now (costs .entry)) ranks (tail .offset) (axes tail) (now (blocks .entry)) ⌝ }
 {
     if tail.offset == tail.rank {
         return;
@@ -132,7 +132,7 @@ pub fn compute_blocks_at<'a>(
     if memory_region(machine, tail, blocks, bytes) <= machine.cache {
         return;
     }
-    if keeps_first(tail, ranks) {
+    if keeps_first(tail, &ranks) {
         let offset = tail.offset + 1;
         let rest = Tail {
             operands: tail.operands,

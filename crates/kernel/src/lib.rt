@@ -1,14 +1,9 @@
 // Planning: the plan of a layout for a purpose, as pointwise_plan and fold_plan of the Rust make it, and the public entry, which first
 // refuses what cannot be planned. A plan is 5 KB: it is made in arrays that the entry lends, and put together once, at the end.
-use auxiliary::index_order_into;
-use fuse::compute_costs;
 use fuse::plan_axes;
 use layout::check_planning;
 use layout::total_at_most;
-use model::byte_table_into;
-use model::cut_blocks;
-use model::fits_whole;
-use model::keeps_order;
+use model::block_sizes;
 use order::SMALL_TENSOR_THRESHOLD;
 use order::fusing_order;
 use strided::Answer;
@@ -17,21 +12,14 @@ use strided::Plan;
 use strided::Planned;
 use strided::Purpose;
 ghost use mathlib.Core.Path.{_≡_};
-ghost use mathlib.Core.Bool.{cond};
-ghost use mathlib.Core.List.{map};
-ghost use Prim.Native.Nat.{_≤_};
-ghost use lib.Dec.{eqb};
-ghost use lib.ListN.{length, replicate};
+ghost use lib.ListN.{length};
 ghost use Rattle.strided.specs.Base.{padded};
 ghost use Rattle.strided.specs.Layout.{extents as extentsOf};
-ghost use Rattle.strided.specs.Ranks.{ranks};
 ghost use Rattle.strided.specs.Machine.{Allowed};
 ghost use Rattle.strided.specs.Fuse.{planAxes};
-ghost use Rattle.strided.specs.Cut.{planRanks};
-ghost use Rattle.strided.specs.Plan.{strideTable, cutBlocks, planned};
+ghost use Rattle.strided.specs.Plan.{strideTable, planned};
 ghost use Rattle.laws.specs.Refusals.Accepted.{Accepted};
 ghost use Rattle.auxiliary.specs.Fitting.{Fitting};
-ghost use Rattle.model.specs.Plannable.{Plannable};
 ghost use Rattle.kernel.specs.Made.{Zeros, Made};
 
 // What a plan is for: layout, purpose and record alone fix the plan.
@@ -39,8 +27,6 @@ pub struct Aim {
     pub purpose: Purpose,
     pub machine: Machine,
 }
-
-// ---- the plan's axes
 
 // The axes of the plan, their extents and strides written into arrays of zeros. Their number is answered.
 pub fn axes_into(
@@ -59,93 +45,6 @@ pub fn axes_into(
 {
     let order = fusing_order(extents, strides, operands, purpose);
     plan_axes(extents, strides, operands, &order, es, table)
-}
-
-// ---- the ranks of the plan's axes
-
-// Ranks of 1, written into a row of zeros.
-fn ones_into(rank: usize, row: &mut [u64; 64])
-    requires { ⌜ rank ≤ 64 ⌝ }
-    requires { ⌜ now row ≡ replicate 64 0 ⌝ }
-    ensures { λ _. ⌜ now (row .exit) ≡ padded 64 0 (replicate rank 1) ⌝ }
-{
-    let mut i: usize = 0;
-    while i < rank {
-        row[i] = 1;
-        i += 1;
-    }
-}
-
-// The ranks of an operand's strides, written into a row of zeros. At size 0 every byte stride is 0, so every rank is 1.
-fn ranks_into(size: u64, strides: &[i64], row: &mut [u64; 64])
-    requires { ⌜ length (now strides) ≤ 64 ⌝ }
-    requires { ⌜ now row ≡ replicate 64 0 ⌝ }
-    ensures { λ _. ⌜ now (row .exit) ≡ padded 64 0 (cond (eqb size 0) (replicate (length (now (strides .entry))) 1) (ranks (now (strides .entry)))) ⌝ }
-{
-    if size == 0 {
-        ones_into(strides.len(), row);
-    } else {
-        index_order_into(strides, row);
-    }
-}
-
-// The ranks of the plan's axes within each operand, written into a table of zeros. `strides` is the plan's table.
-fn plan_ranks_into(sizes: &[u64], strides: &[i64], rank: usize, table: &mut [[u64; 64]; 8])
-    requires { ⌜ (length (now sizes) ≤ 8) × ((length (now strides) ≡ 512) × (rank ≤ 64)) ⌝ }
-    requires { ⌜ now table ≡ replicate 8 (replicate 64 0) ⌝ }
-    ensures { λ _. ⌜ now (table .exit) ≡ padded 8 (replicate 64 0) (map (padded 64 0) (planRanks (now (sizes .entry)) (now (strides .entry)) rank)) ⌝ }
-{
-    let operands = sizes.len();
-    let mut k: usize = 0;
-    while k < operands {
-        let start = k * 64;
-        let end = start + rank;
-        ranks_into(sizes[k], &strides[start..end], &mut table[k]);
-        k += 1;
-    }
-}
-
-// ---- the plan
-
-// The blocks of a plan whose total is above 1,024, from its arrays. The tests that keep every axis whole come before what they can spare.
-fn block_sizes<'a>(
-    machine: Machine,
-    sizes: &'a [u64],
-    es: &'a [u64; 64],
-    table: &'a [i64; 512],
-    rank: usize,
-    purpose: Purpose,
-    blocks: &mut [u64; 64],
-)
-    requires { ⌜ Allowed machine ⌝ }
-    requires { ⌜ Plannable (now sizes) (now es) (now table) rank purpose ⌝ }
-    ensures { λ _. ⌜ now (blocks .exit) ≡ cutBlocks machine (now (sizes .entry)) (now (es .entry)) (now (table .entry)) rank purpose ⌝ }
-{
-    if keeps_order(sizes, table, rank) {
-        *blocks = *es;
-        return;
-    }
-    let mut bytes = [0u64; 512];
-    byte_table_into(sizes, table, rank, &mut bytes);
-    if fits_whole(machine, es, &bytes, sizes.len(), rank) {
-        *blocks = *es;
-        return;
-    }
-    let costs = compute_costs(table, sizes.len(), rank);
-    let mut ranks = [[0u64; 64]; 8];
-    plan_ranks_into(sizes, table, rank, &mut ranks);
-    cut_blocks(
-        machine,
-        es,
-        &bytes,
-        sizes,
-        table,
-        &costs,
-        ranks,
-        rank,
-        purpose,
-        blocks,
-    );
 }
 
 // The plan of a layout that is not refused, made in arrays of zeros: its axes are fused, and cut if there are more than 1,024 cells. So few

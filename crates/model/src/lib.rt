@@ -2,6 +2,7 @@
 // copy. Strides and byte strides stand in flat tables, operand k's for axis i at place k * 64 + i.
 use block::compute_blocks_at;
 use decline::declines_tiles;
+use fuse::compute_costs;
 use l1::L1Sets;
 use layout::sizes::magnitude;
 use region::Tail;
@@ -22,6 +23,10 @@ ghost use Rattle.strided.specs.Region.{region};
 ghost use Rattle.model.specs.Plannable.{Plannable, Products, Tables};
 ghost use Rattle.model.specs.ByteRows.{byteRows};
 ghost use Rattle.model.specs.Exits.{increasing, inOrder, exits};
+
+mod ranks;
+
+use ranks::plan_ranks_into;
 
 // Operand k's byte strides, put into the table behind those of the operands before it: stride size times element size.
 fn put_bytes<'a>(
@@ -46,7 +51,7 @@ fn put_bytes<'a>(
 }
 
 // The byte strides of every operand, written into a table of zeros.
-pub fn byte_table_into<'a>(
+fn byte_table_into<'a>(
     sizes: &'a [u64],
     strides: &'a [i64; 512],
     rank: usize,
@@ -108,7 +113,7 @@ fn all_grow<'a>(sizes: &'a [u64], strides: &'a [i64; 512], rank: usize) -> bool
 }
 
 // Whether no axis is cut whatever the extents: there is none, or every operand's strides grow. This takes no table.
-pub fn keeps_order<'a>(sizes: &'a [u64], strides: &'a [i64; 512], rank: usize) -> bool
+fn keeps_order<'a>(sizes: &'a [u64], strides: &'a [i64; 512], rank: usize) -> bool
     requires { ⌜ (length (now sizes) ≤ 8) × (rank ≤ 64) ⌝ }
     ensures { λ r. ⌜ r ≡ inOrder (now (sizes .entry)) (now (strides .entry)) rank ⌝ }
 {
@@ -119,7 +124,7 @@ pub fn keeps_order<'a>(sizes: &'a [u64], strides: &'a [i64; 512], rank: usize) -
 }
 
 // Whether the whole fits the cache, so that no axis is cut either.
-pub fn fits_whole<'a>(
+fn fits_whole<'a>(
     machine: Machine,
     extents: &'a [u64; 64],
     bytes: &'a [u64; 512],
@@ -166,14 +171,14 @@ fn fit_for<'a>(
 
 // The block sizes of a plan whose total is above 1,024 and which neither of the tests above keeps whole, written into `blocks`. `bytes`, `costs`
 // and `ranks` are those of the plan's axes.
-pub fn cut_blocks<'a>(
+fn cut_blocks<'a>(
     machine: Machine,
     extents: &'a [u64; 64],
     bytes: &'a [u64; 512],
     sizes: &'a [u64],
     strides: &'a [i64; 512],
     costs: &'a [u64; 64],
-    ranks: [[u64; 64]; 8],
+    ranks: [[u8; 64]; 8],
     rank: usize,
     purpose: Purpose,
     blocks: &mut [u64; 64],
@@ -190,10 +195,51 @@ pub fn cut_blocks<'a>(
         offset: 0,
         rank,
     };
-    compute_blocks_at(machine, all, blocks, bytes, costs, &ranks);
+    compute_blocks_at(machine, all, blocks, bytes, costs, ranks);
     if declines_tiles(machine, sizes, strides, extents, blocks, rank) {
         *blocks = *extents;
         return;
     }
     fit_for(machine, blocks, bytes, sizes, strides, rank, purpose);
+}
+
+// The blocks of a plan whose total is above 1,024, from its arrays. The tests that keep every axis whole come before what they can spare.
+pub fn block_sizes<'a>(
+    machine: Machine,
+    sizes: &'a [u64],
+    es: &'a [u64; 64],
+    table: &'a [i64; 512],
+    rank: usize,
+    purpose: Purpose,
+    blocks: &mut [u64; 64],
+)
+    requires { ⌜ Allowed machine ⌝ }
+    requires { ⌜ Plannable (now sizes) (now es) (now table) rank purpose ⌝ }
+    ensures { λ _. ⌜ now (blocks .exit) ≡ cutBlocks machine (now (sizes .entry)) (now (es .entry)) (now (table .entry)) rank purpose ⌝ }
+{
+    if keeps_order(sizes, table, rank) {
+        *blocks = *es;
+        return;
+    }
+    let mut bytes = [0u64; 512];
+    byte_table_into(sizes, table, rank, &mut bytes);
+    if fits_whole(machine, es, &bytes, sizes.len(), rank) {
+        *blocks = *es;
+        return;
+    }
+    let costs = compute_costs(table, sizes.len(), rank);
+    let mut ranks = [[0u8; 64]; 8];
+    plan_ranks_into(sizes, table, rank, &mut ranks);
+    cut_blocks(
+        machine,
+        es,
+        &bytes,
+        sizes,
+        table,
+        &costs,
+        ranks,
+        rank,
+        purpose,
+        blocks,
+    );
 }

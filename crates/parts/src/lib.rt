@@ -72,7 +72,7 @@ pub extern "C" fn parts_ranks<'a>(
     strides: &'a [i64],
     kind: u64,
     chosen: u64,
-    ranks: &mut [[u64; 64]; 8],
+    ranks: &mut [[u8; 64]; 8],
 ) -> u64
     ensures { λ r. ⌜ Part (countsRefused (now (extents .entry)) (now (sizes .entry)) (now (strides .entry)) (purposeOf kind chosen)) (padded 8 (replicate 64 0) (map (padded 64 0) (rankTable (now (strides .entry)) (length (now (extents .entry))) (length (now (sizes .entry)))))) (now (ranks .entry)) (now (ranks .exit)) r ⌝ }
 {
@@ -80,7 +80,7 @@ pub extern "C" fn parts_ranks<'a>(
     match checked {
         Answer::Refused(refusal) => number(refusal),
         Answer::Served => {
-            *ranks = [[0u64; 64]; 8];
+            *ranks = [[0u8; 64]; 8];
             rank_table_into(strides, extents.len(), sizes.len(), ranks);
             0
         }

@@ -28,7 +28,7 @@ impl Parts {
     /// Arrays before a call, and after one that is refused.
     fn held() -> Parts {
         Parts {
-            ranks: [[HELD; 64]; 8],
+            ranks: [[HELD as u8; 64]; 8],
             weights: [HELD; 64],
             order: [HELD as usize; 64],
         }
@@ -43,7 +43,9 @@ impl Parts {
         };
         let given = rows(&layout.strides);
         for (row, strides) in parts.ranks.iter_mut().zip(&given) {
-            *row = padded(original::index_order(strides));
+            for (place, rank) in row.iter_mut().zip(original::index_order(strides)) {
+                *place = u8::try_from(rank).expect("a rank is at most 64");
+            }
         }
         let weights = original::compute_importance(&layout.extents, &lead_first(layout));
         parts.weights[..weights.len()].copy_from_slice(&weights);

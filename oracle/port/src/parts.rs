@@ -6,7 +6,7 @@ use crate::gougelily::{Block, Plan, State};
 use crate::{Flat, Strides};
 
 /// The ranks, a row of 64 per operand.
-pub type Ranks = [[u64; 64]; 8];
+pub type Ranks = [[u8; 64]; 8];
 
 /// Whether the library is linked; if not, what to do.
 pub fn linked() -> Result<(), String> {

@@ -67,7 +67,7 @@ module _ (t : ℕ) where
   returns : lts.Need-returns (callees t) (Asked t) reads.Post
   returns c =
       let a = c .before .before .args in
-      sym (cut-empty (a .machine) (a .bytes .now) (a .tail .operands) (a .costs .now) (a .ranks .now) (a .tail .offset) (a .tail .rank) (a .blocks .now) (c .if1 .taken))
+      sym (cut-empty (a .machine) (a .bytes .now) (a .tail .operands) (a .costs .now) (a .t6) (a .tail .offset) (a .tail .rank) (a .blocks .now) (c .if1 .taken))
 
   memory-region-requires : lts.Need-memory-region-requires (callees t) (Asked t) reads.Post
   memory-region-requires c κs = (c .before .before .before .pre .1 .0, omega arith)
@@ -76,14 +76,14 @@ module _ (t : ℕ) where
   returns-2 c =
       let a = c .before .before .before .before .before .before .args in
       let small : region (a .machine) (a .bytes .now) (a .tail .operands) (a .blocks .now) (a .tail .offset) (axes (a .tail)) ≤ a .machine .cache = omega arith in
-      sym (cut-fits (a .machine) (a .bytes .now) (a .tail .operands) (a .costs .now) (a .ranks .now) (a .tail .offset) (a .tail .rank) (a .blocks .now) (omega arith) small)
+      sym (cut-fits (a .machine) (a .bytes .now) (a .tail .operands) (a .costs .now) (a .t6) (a .tail .offset) (a .tail .rank) (a .blocks .now) (omega arith) small)
 
   keeps-first-requires : lts.Need-keeps-first-requires (callees t) (Asked t) reads.Post
   keeps-first-requires c κs = omega arith
 
   -- the arguments, from where the first axis is tested
   abbrev start : lts.After-keeps-first (callees t) (Asked t) reads.Post → lts.Start (callees t) (Asked t) reads.Post
-  start k = k .before .before .before .before .before .before .before
+  start k = k .before .before .before .before .before .before .before .before
 
   -- there the tail has an axis, and its region is too large
   some : (k : lts.After-keeps-first (callees t) (Asked t) reads.Post) → start k .args .tail .offset < start k .args .tail .rank
@@ -108,7 +108,7 @@ module _ (t : ℕ) where
       let k = c .before .before .before .before in
       let a = start k .args in
       c .compute-blocks-at .ensures
-      ∙ sym (cut-keeps (a .machine) (a .bytes .now) (a .tail .operands) (a .costs .now) (a .ranks .now) (a .tail .offset) (a .tail .rank) (a .blocks .now) (some k) (big k)
+      ∙ sym (cut-keeps (a .machine) (a .bytes .now) (a .tail .operands) (a .costs .now) (a .t6) (a .tail .offset) (a .tail .rank) (a .blocks .now) (some k) (big k)
       (sym (k .keeps-first .ensures) ∙ c .before .before .before .if3 .taken))
 
   least-byte-requires : lts.Need-least-byte-requires (callees t) (Asked t) reads.Post
@@ -123,7 +123,7 @@ module _ (t : ℕ) where
       let k = m .before .before in
       let a = start k .args in
       c .set-ones .ensures
-      ∙ sym (cut-flat (a .machine) (a .bytes .now) (a .tail .operands) (a .costs .now) (a .ranks .now) (a .tail .offset) (a .tail .rank) (a .blocks .now) (some k) (big k)
+      ∙ sym (cut-flat (a .machine) (a .bytes .now) (a .tail .operands) (a .costs .now) (a .t6) (a .tail .offset) (a .tail .rank) (a .blocks .now) (some k) (big k)
       (sym (k .keeps-first .ensures) ∙ m .before .if3 .left) (subst (λ (x : ℕ). a .machine .cache < x) (m .least-byte .ensures) (c .before .before .if4 .taken)))
 
   shrink-requires : lts.Need-shrink-requires (callees t) (Asked t) reads.Post
@@ -135,7 +135,7 @@ module _ (t : ℕ) where
       let k = m .before .before in
       let a = start k .args in
       c .shrink .ensures
-      ∙ sym (cut-less (a .machine) (a .bytes .now) (a .tail .operands) (a .costs .now) (a .ranks .now) (a .tail .offset) (a .tail .rank) (a .blocks .now) (some k) (big k)
+      ∙ sym (cut-less (a .machine) (a .bytes .now) (a .tail .operands) (a .costs .now) (a .t6) (a .tail .offset) (a .tail .rank) (a .blocks .now) (some k) (big k)
       (sym (k .keeps-first .ensures) ∙ m .before .if3 .left) (subst (λ (x : ℕ). x ≤ a .machine .cache) (m .least-byte .ensures) (c .before .before .if4 .left)))
 
 pub +compute-blocks-at-spec : {M : Type 1} → statement M

@@ -32,9 +32,6 @@ loop-holds c = (omega arith, every-none _)
 mul-if2 : tie.Need-mul-if2 Inv-loop μ-loop
 mul-if2 c = omega arith
 
-mul-if2-2 : tie.Need-mul-if2-2 Inv-loop μ-loop
-mul-if2-2 c = omega arith
-
 index-1-if2 : tie.Need-index-1-if2 Inv-loop μ-loop
 index-1-if2 c = omega arith
 
@@ -79,7 +76,6 @@ keeps-first-spec =
     least-rank-requires
     loop-holds
     mul-if2
-    mul-if2-2
     index-1-if2
     index-2-if2
     returns

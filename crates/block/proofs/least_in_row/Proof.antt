@@ -16,9 +16,6 @@ Inv-loop tail row first m₀ i₀ m i = (tail .offset < i) × (i ≤ tail .rank)
 abbrev μ-loop : tie.MeasureT-loop
 μ-loop tail row first m₀ i₀ m i = tail .rank - i
 
-mul-m : tie.Need-mul-m Inv-loop μ-loop
-mul-m c = omega arith
-
 element-copy-out-m : tie.Need-element-copy-out-m Inv-loop μ-loop
 element-copy-out-m c = omega arith
 
@@ -27,9 +24,6 @@ add-i c = omega arith
 
 loop-holds : tie.Need-loop-holds Inv-loop μ-loop
 loop-holds c = (omega arith, omega arith, sym (least-one _ _))
-
-mul-x : tie.Need-mul-x Inv-loop μ-loop
-mul-x c = omega arith
 
 element-copy-out-x : tie.Need-element-copy-out-x Inv-loop μ-loop
 element-copy-out-x c = omega arith
@@ -58,11 +52,9 @@ least-in-row-spec =
     (tie.spec
     Inv-loop
     μ-loop
-    mul-m
     element-copy-out-m
     add-i
     loop-holds
-    mul-x
     element-copy-out-x
     add-i-2
     loop-less

@@ -16,7 +16,7 @@ use Rattle.model.proofs.cut_blocks.Tie as tie
 
 compute-blocks-at-requires : tie.Need-compute-blocks-at-requires
 compute-blocks-at-requires c κs =
-    let s = c .before .before .before .before in
+    let s = c .before .before .before in
     let a = s .args in
     let p = s .pre .1 .0 in (
       s .pre .0,
@@ -28,7 +28,7 @@ compute-blocks-at-requires c κs =
 
 declines-tiles-requires : tie.Need-declines-tiles-requires
 declines-tiles-requires c κs =
-    let s = c .before .before .before .before .before .before in
+    let s = c .before .before .before .before .before in
     let a = s .args in
     (s .pre .0, within-reach (a .sizes .now) (a .extents .now) (a .strides .now) (a .rank) (a .purpose) (s .pre .1 .0))
 
@@ -38,20 +38,20 @@ same s = let a = s .args in same-bytes (a .sizes .now) (a .strides .now) (a .ran
 
 -- the blocks that cutting gives
 cut : (c : tie.After-compute-blocks-at)
-    → let a = c .before .before .before .before .before .args in
-    c .compute-blocks-at .last .1 .1 .0 ≡ cutting (a .machine) (a .bytes .now) (length (a .sizes .now)) (a .costs .now) (a .t7) 0 (a .rank) (a .extents .now)
+    → let a = c .before .before .before .before .args in
+    c .compute-blocks-at .last .1 .1 .0 ≡ cutting (a .machine) (a .bytes .now) (length (a .sizes .now)) (a .costs .now) (a .ranks) 0 (a .rank) (a .extents .now)
 cut c =
-    let a = c .before .before .before .before .before .args in
-    c .compute-blocks-at .ensures ∙ ap (λ (n : ℕ). cutting (a .machine) (a .bytes .now) (length (a .sizes .now)) (a .costs .now) (a .t7) 0 n (a .extents .now)) (sub-zero (a .rank))
+    let a = c .before .before .before .before .args in
+    c .compute-blocks-at .ensures ∙ ap (λ (n : ℕ). cutting (a .machine) (a .bytes .now) (length (a .sizes .now)) (a .costs .now) (a .ranks) 0 n (a .extents .now)) (sub-zero (a .rank))
 
 returns : tie.Need-returns
 returns c =
     let d = c .before .before in
     let r = d .before .before in
-    let s = r .before .before .before .before .before in
+    let s = r .before .before .before .before in
     let a = s .args in
     let t = s .pre .1 .1 .0 in
-    whole-declined (a .machine) (a .sizes .now) (a .extents .now) (a .strides .now) (a .rank) (a .purpose) (a .bytes .now) (same s) (a .costs .now) (t .costs) (a .t7) (t .ranks) (r .compute-blocks-at .last .1 .1 .0) (cut r) (s .pre .1 .1 .1)
+    whole-declined (a .machine) (a .sizes .now) (a .extents .now) (a .strides .now) (a .rank) (a .purpose) (a .bytes .now) (same s) (a .costs .now) (t .costs) (a .ranks) (t .ranks) (r .compute-blocks-at .last .1 .1 .0) (cut r) (s .pre .1 .1 .1)
     (sym (d .declines-tiles .ensures) ∙ c .before .if1 .taken)
 
 fit-for-requires : tie.Need-fit-for-requires
@@ -62,10 +62,10 @@ returns-2 c =
     let e = c .before .before in
     let d = e .before in
     let r = d .before .before in
-    let s = r .before .before .before .before .before in
+    let s = r .before .before .before .before in
     let a = s .args in
     let t = s .pre .1 .1 .0 in
-    whole-fitted (a .machine) (a .sizes .now) (a .extents .now) (a .strides .now) (a .rank) (a .purpose) (a .bytes .now) (same s) (a .costs .now) (t .costs) (a .t7) (t .ranks) (r .compute-blocks-at .last .1 .1 .0) (cut r) (s .pre .1 .1 .1)
+    whole-fitted (a .machine) (a .sizes .now) (a .extents .now) (a .strides .now) (a .rank) (a .purpose) (a .bytes .now) (same s) (a .costs .now) (t .costs) (a .ranks) (t .ranks) (r .compute-blocks-at .last .1 .1 .0) (cut r) (s .pre .1 .1 .1)
     (sym (d .declines-tiles .ensures) ∙ e .if1 .left) (c .fit-for .ensures)
 
 pub cut-blocks-spec : {M : Type 1} → statement M

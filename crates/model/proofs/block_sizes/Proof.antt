@@ -1,4 +1,4 @@
--- `kernel::block_sizes` meets its contract: each test that keeps the axes whole is a case of `cutBlocks`, and the tables are those that cutting
+-- `model::block_sizes` meets its contract: each test that keeps the axes whole is a case of `cutBlocks`, and the tables are those that cutting
 -- asks for. Assumes nothing.
 use mathlib.Core.Path.{refl, sym, ap, _∙_}
 use mathlib.Core.List.{List}
@@ -9,12 +9,12 @@ use borrow.Author.Needs.{needs}
 use Rattle.strided.specs.Costs.{costs}
 use Rattle.laws.specs.Base.Arrays.{getD-padded}
 use Rattle.laws.specs.Plan.Ranks.{ranks-same}
 use Rattle.model.specs.Plannable.{Bytes}
 use Rattle.model.proofs.Filled.{rows-read}
 use Rattle.model.proofs.Rooms.{products, same-bytes}
 use Rattle.model.proofs.Whole.{whole-in-order, whole-exits, exits-fits, exits-not}
-use Rattle.kernel.proofs.block_sizes.Statement.{statement}
-use Rattle.kernel.proofs.block_sizes.Tie as tie
+use Rattle.model.proofs.block_sizes.Statement.{statement}
+use Rattle.model.proofs.block_sizes.Tie as tie
 
 keeps-order-requires : tie.Need-keeps-order-requires
 keeps-order-requires c κs = search needs

@@ -1,8 +1,8 @@
--- `kernel::ranks_into` meets its contract: each way out rewrites by the test that led there. Assumes nothing.
+-- `model::ranks::ranks_into` meets its contract: each way out rewrites by the test that led there. Assumes nothing.
 use borrow.Author.Needs.{needs}
 use borrow.Author.Tests.{eq-eqb, ne-eqb}
-use Rattle.kernel.proofs.ranks_into.Statement.{statement}
-use Rattle.kernel.proofs.ranks_into.Tie as tie
+use Rattle.model.proofs.ranks.ranks_into.Statement.{statement}
+use Rattle.model.proofs.ranks.ranks_into.Tie as tie
 
 ones-into-requires : tie.Need-ones-into-requires
 ones-into-requires c κs = search needs

@@ -1,4 +1,4 @@
--- `kernel::plan_ranks_into` meets its contract. The invariant: the first k rows are the operands' ranks, the others 0. Assumes nothing.
+-- `model::ranks::plan_ranks_into` meets its contract. The invariant: the first k rows are the operands' ranks, the others 0. Assumes nothing.
 use mathlib.Core.Path.{_≡_, sym, _∙_, ap}
 use mathlib.Core.Bool.{cond}
 use mathlib.Core.List.{List, [], map}
@@ -12,8 +12,8 @@ use Rattle.strided.specs.Base.{padded, run}
 use Rattle.strided.specs.Ranks.{ranks}
 use Rattle.laws.specs.Base.Filling.{fill-none, fill-next, fill-here}
 use Rattle.laws.specs.Plan.Ranks.{rankRow, ranks-rows}
-use Rattle.kernel.proofs.plan_ranks_into.Statement.{statement}
-use Rattle.kernel.proofs.plan_ranks_into.Tie as tie
+use Rattle.model.proofs.ranks.plan_ranks_into.Statement.{statement}
+use Rattle.model.proofs.ranks.plan_ranks_into.Tie as tie
 
 -- the row of operand k, as an array
 abbrev rowOf : List ℕ → List ℤ → ℕ → ℕ → List ℕ

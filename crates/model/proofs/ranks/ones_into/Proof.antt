@@ -1,4 +1,4 @@
--- `kernel::ones_into` meets its contract. The invariant: the first i places hold 1, the others 0. Assumes nothing.
+-- `model::ranks::ones_into` meets its contract. The invariant: the first i places hold 1, the others 0. Assumes nothing.
 use mathlib.Core.Path.{_≡_, ap, _∙_}
 use mathlib.Core.List.{map}
 use Prim.Native.Nat.{ℕ, _-_, _≤_, _<_}
@@ -6,8 +6,8 @@ use native.Mathlib.Omega.{arith}
 use borrow.Author.Needs.{needs}
 use Rattle.strided.specs.Base.{padded, run}
 use Rattle.laws.specs.Base.Filling.{rows-alike, fill-none, fill-next}
-use Rattle.kernel.proofs.ones_into.Statement.{statement}
-use Rattle.kernel.proofs.ones_into.Tie as tie
+use Rattle.model.proofs.ranks.ones_into.Statement.{statement}
+use Rattle.model.proofs.ranks.ones_into.Tie as tie
 
 -- the rank of each axis
 abbrev one : ℕ → ℕ
@@ -21,9 +21,6 @@ abbrev μ-loop : tie.MeasureT-loop
 
 loop-holds : tie.Need-loop-holds Inv-loop μ-loop
 loop-holds c = (omega arith, c .pre .1 ∙ fill-none 64 0)
-
-mul-row : tie.Need-mul-row Inv-loop μ-loop
-mul-row c = search needs
 
 element-write-row : tie.Need-element-write-row Inv-loop μ-loop
 element-write-row c = search needs
@@ -54,7 +51,6 @@ ones-into-spec =
     Inv-loop
     μ-loop
     loop-holds
-    mul-row
     element-write-row
     add-i
     loop-less
