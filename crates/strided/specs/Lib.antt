@@ -22,5 +22,6 @@ pub mod Bulk
 pub mod Mark
 pub mod Digits
 pub mod Text
+pub mod Memory
 pub mod Demand3
 pub mod Figures
