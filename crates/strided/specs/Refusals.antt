@@ -46,7 +46,7 @@ pub record Row : Type 0 where
   pub refusal : Refusal
 
 -- "the least number wins": the rows of an entry stand in the order of their numbers, and the first that applies refuses. "except that 12
--- comes first and 13 follows 7": so they stand in the text's list. 24 stands "after 4"
+-- comes first and 13 follows 7": so they stand in the text's list. 24 stands "after 4". specs/Rows has the numbers of every entry
 abbrev pub refusedBy : List Row → Option Refusal
 refusedBy [] = none
 refusedBy (r ∷ rs) = cond (r .applies) (some (r .refusal)) (refusedBy rs)
