@@ -5,6 +5,7 @@ ghost use mathlib.Core.Path.{_≡_};
 ghost use Rattle.strided.specs.Memory.{purposeOf};
 use strided::Purpose;
 
+pub mod checks;
 pub mod indices;
 pub mod many;
 pub mod marks;
