@@ -113,6 +113,16 @@ int64_t gougelily_plan(const uint64_t *extents, size_t extent_count, const uint6
                        uint64_t blocks[GOUGELILY_MAX_RANK], int64_t plan_strides[GOUGELILY_PLAN_STRIDES]);
 
 /*
+ * Whether a layout can be planned for a purpose, without planning it.
+ *
+ * Takes a layout and purpose as gougelily_plan does.
+ * Answers 0 if there is a plan, on any machine within its bounds.
+ * Refuses 1, 2, 3, 4, 5, 6, 7: what gougelily_plan refuses on such a machine.
+ */
+int64_t gougelily_check_layout(const uint64_t *extents, size_t extent_count, const uint64_t *sizes, size_t size_count,
+                               const int64_t *strides, size_t stride_count, uint64_t purpose, uint64_t chosen);
+
+/*
  * The original index of a plan index: which cell of the layout a walk is at.
  *
  * Takes a layout and purpose as gougelily_plan does (no machine: axes and
@@ -273,6 +283,13 @@ static inline int64_t gougelily_plan_layout(const gougelily_layout_t *layout, co
                           layout->stride_count, layout->purpose, layout->chosen, machine->line, machine->cache,
                           machine->way, machine->live, &plan->rank, &plan->operands, plan->extents, plan->blocks,
                           plan->strides);
+}
+
+/* gougelily_check_layout */
+static inline int64_t gougelily_check(const gougelily_layout_t *layout)
+{
+    return gougelily_check_layout(layout->extents, layout->rank, layout->sizes, layout->operands, layout->strides,
+                                  layout->stride_count, layout->purpose, layout->chosen);
 }
 
 /* gougelily_original_index */

@@ -2,7 +2,8 @@
  * The library as a C program meets it, to be run under the sanitizers. Every
  * argument that is a pointer is lent from memory of its own, with guard bytes on
  * one side and a page that cannot be touched on the other. Checked are:
- * - known layouts and texts, and one call for each refusal;
+ * - known layouts and texts, and one call for each refusal; a layout's check is
+ *   what planning it for the fixed machine answers;
  * - layouts at random: a walk meets every cell once, at the offsets that its
  *   original index tells, and the index maps are inverse; many steps in one call
  *   hand out the blocks of single steps;
@@ -116,7 +117,23 @@ static int64_t plan_on(const struct layout *l, gougelily_machine_t m, gougelily_
     return answer;
 }
 
-static int64_t plan_of(const struct layout *l, gougelily_plan_t *p) { return plan_on(l, fixed, p); }
+static int64_t check_of(const struct layout *l)
+{
+    const gougelily_layout_t v = view(l);
+    const uint64_t *e = lend(l->extents, l->rank * 8), *z = lend(l->sizes, l->operands * 8);
+    const int64_t *s = lend(l->strides, l->stride_count * 8);
+    int64_t answer = gougelily_check_layout(e, l->rank, z, l->operands, s, l->stride_count, l->purpose, l->chosen);
+    CHECK(answer <= 0 && answer >= -7 && answer == gougelily_check(&v));
+    settle(3, 0);
+    return answer;
+}
+
+static int64_t plan_of(const struct layout *l, gougelily_plan_t *p)
+{
+    int64_t answer = plan_on(l, fixed, p);
+    CHECK(answer == check_of(l));
+    return answer;
+}
 
 static int64_t index_of(const struct layout *l, int original, const uint64_t *counters, size_t count,
                         gougelily_index_t *x)
@@ -663,6 +680,7 @@ int main(int argc, char **argv)
         walk_layout(&l);
         one_number_changed(&l);
         garbage_plan();
+        refusals_met += plan_of(&g, &p) < 0;
         refusals_met += plan_on(&g, any_machine(), &p) < 0;
         make_wild(counters, 4);
         size_t count = below(5);

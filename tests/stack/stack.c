@@ -80,6 +80,7 @@ static const uint64_t zeros[64];
 static void plan_deep(void) { answer = gougelily_plan_layout(&deep, &fixed, &plan); }
 static void plan_transposed(void) { answer = gougelily_plan_layout(&transposed, &fixed, &plan); }
 static void plan_wide(void) { answer = gougelily_plan_layout(&wide, &fixed, &plan); }
+static void check(void) { answer = gougelily_check(&wide); }
 static void begin(void) { answer = gougelily_begin_walk(&plan, starts, plan.operands, &walk); }
 static void step(void) { answer = gougelily_next_block(&plan, &walk, &block); }
 static void find(void) { answer = gougelily_find_original(&wide, zeros, plan.rank, &told); }
@@ -156,6 +157,7 @@ int main(void)
         {"plan by value, the same", plan_value},
         {"gougelily_plan, a transpose of 1,000", plan_transposed},
         {"gougelily_plan, 64 axes, 8 operands", plan_wide},
+        {"gougelily_check_layout", check},
         {"gougelily_original_index", find},
         {"gougelily_plan_index", find_back},
         {"gougelily_begin", begin},

@@ -12,6 +12,7 @@ use lib.Seq.{paste, length-paste, length-take-le}
 use Rattle.strided.specs.Begin.{begunAt}
 use Rattle.strided.specs.Step.{stepped, walkAfter, Reached}
 use Rattle.strided.specs.Bulk.{handing, nextBlocks, lengthsOf, offsetsOf, laidOn, keptBy, severalOf}
+use Rattle.strided.specs.Memory.{walkOf}
 use Rattle.strided.specs.declared.Outcome.the-variants.{Block, Ended}
 use Rattle.strided.specs.declared.Plan.{Plan}
 use Rattle.strided.specs.declared.Walk.{Walk}
@@ -22,7 +23,6 @@ use Rattle.laws.specs.Walk.Steps.{step-at}
 use Rattle.advance.specs.Axis.{widthsTo, startsTo}
 use Rattle.advance.specs.Carry.{Roomy, Tiled, AdvancedTo}
 use Rattle.advance.specs.Blocks.{lengthOf, firstsOf}
-use Rattle.states.specs.Reaches.{walkOf}
 use Rattle.walk.specs.Lent.{Taken, overStep}
 use Rattle.walk.proofs.Stepping.{zs, r, runs, operands-few, tiled-here, roomy-here, block-step, ended-step}
 use Rattle.bulk.specs.Blocks.{handed, HasRoom, Wrote}

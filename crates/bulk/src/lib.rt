@@ -9,7 +9,7 @@ ghost use mir.Syntax.{w64};
 ghost use mir.Val.{SFits};
 ghost use Rattle.advance.specs.Stretch.{addedAt, added};
 ghost use Rattle.strided.specs.Bulk.{roomFor, SteppedMany, steppedMany};
-ghost use Rattle.states.specs.Reaches.{planOf, walkOf};
+ghost use Rattle.strided.specs.Memory.{planOf, walkOf};
 ghost use Rattle.walk.specs.Lent.{Taken};
 ghost use Rattle.bulk.specs.Blocks.{notSeveral, handed, HasRoom, Wrote};
 use advance::advance;

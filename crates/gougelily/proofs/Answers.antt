@@ -8,6 +8,7 @@ use lib.IntN.{ℤ, pos}
 use lib.ListN.{length}
 use Rattle.strided.specs.Refusals.{negated}
 use Rattle.strided.specs.Bulk.{lengthsOf, offsetsOf, roomFor, laidOn, SteppedMany, steppedMany}
+use Rattle.strided.specs.Memory.{flag, WalkMemory, walkMemory, Handed, markCode, ManyMemory, manyMemory, StepsMany}
 use Rattle.strided.specs.declared.Refusal.{Refusal}
 use Rattle.strided.specs.declared.Answer.{Answer}
 use Rattle.strided.specs.declared.Answer.the-variants.{Served, Refused}
@@ -17,8 +18,6 @@ use Rattle.strided.specs.declared.Walk.{Walk}
 use Rattle.strided.specs.declared.Stepped.{Stepped}
 use Rattle.strided.specs.declared.Marked.{Marked}
 use Rattle.laws.specs.Walk.Bulk.{blocks-few, blocks-none}
-use Rattle.walk.specs.Memory.{flag, WalkMemory, walkMemory}
-use Rattle.gougelily.specs.Handed.{Handed, markCode, ManyMemory, manyMemory, StepsMany}
 
 -- a call's result x at an argument u, which is v
 pub called : {U X : Type 0} (f : U → X) {u v : U} {x : X} → x ≡ f u → u ≡ v → x ≡ f v

@@ -1,6 +1,6 @@
 // Index finding from C.
 ghost use Rattle.strided.specs.Index.{toldOriginal, toldPlan};
-ghost use Rattle.gougelily.specs.Handed.{purposeOf, Tells};
+ghost use Rattle.strided.specs.Memory.{purposeOf, Tells};
 use crate::purpose_of;
 use finding::original_index;
 use finding::plan_index;

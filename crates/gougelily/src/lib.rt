@@ -1,10 +1,11 @@
-// THE LIBRARY that programs in C and other languages link: every public entry as a C function on numbers and slices. include/gougelily.h
+// THE LIBRARY that programs in C and other languages link: the public entries as C functions on numbers and slices. include/gougelily.h
 // declares them. None has a precondition on its numbers. Each answers 0 or more, or the refusal's number negated, and then every lent byte
 // is as it was.
 ghost use mathlib.Core.Path.{_≡_};
-ghost use Rattle.gougelily.specs.Handed.{purposeOf};
+ghost use Rattle.strided.specs.Memory.{purposeOf};
 use strided::Purpose;
 
+pub mod checks;
 pub mod indices;
 pub mod many;
 pub mod marks;

@@ -1,8 +1,6 @@
 // Many steps of a walk in one call from C.
 ghost use Rattle.strided.specs.Bulk.{steppedMany};
-ghost use Rattle.states.specs.Reaches.{planOf};
-ghost use Rattle.walk.specs.Memory.{walkIn};
-ghost use Rattle.gougelily.specs.Handed.{StepsMany};
+ghost use Rattle.strided.specs.Memory.{planOf, walkIn, StepsMany};
 use bulk::step_many_on;
 use layout::negated;
 use strided::Outcome;

@@ -1,7 +1,7 @@
 // The repeat mark from C.
 ghost use mathlib.Core.Path.{_≡_};
 ghost use Rattle.strided.specs.Mark.{marked};
-ghost use Rattle.gougelily.specs.Handed.{markCode};
+ghost use Rattle.strided.specs.Memory.{markCode};
 use layout::negated;
 use mark::repeat_mark;
 use strided::Answer;

@@ -1,7 +1,7 @@
 // Planning from C: rows 1 to 7 and 24, then the plan, made where the caller wants it.
 ghost use Rattle.strided.specs.Machine.{machineOf};
 ghost use Rattle.strided.specs.Plan.{planned};
-ghost use Rattle.gougelily.specs.Handed.{purposeOf, Plans};
+ghost use Rattle.strided.specs.Memory.{purposeOf, Plans};
 use crate::purpose_of;
 use kernel::Aim;
 use kernel::plan_into;

@@ -1,9 +1,7 @@
 // A walk from C: its beginning, and one step of a state that is lent.
 ghost use Rattle.strided.specs.Begin.{begunAt};
 ghost use Rattle.strided.specs.Step.{stepped};
-ghost use Rattle.states.specs.Reaches.{planOf};
-ghost use Rattle.walk.specs.Memory.{walkIn, Steps};
-ghost use Rattle.gougelily.specs.Handed.{Begins};
+ghost use Rattle.strided.specs.Memory.{planOf, walkIn, Steps, Begins};
 use layout::negated;
 use states::begin_on;
 use strided::Answer;

@@ -1,6 +1,6 @@
 -- A plan in lent arrays: the zeros that it is made in, and what the arrays hold when it is made. Assumes nothing.
 use mathlib.Core.Path.{_≡_}
-use mathlib.Core.List.{List, [], _∷_}
+use mathlib.Core.List.{List}
 use Prim.Native.Nat.{ℕ}
 use lib.IntN.{ℤ, pos}
 use lib.ListN.{length, replicate}
@@ -18,14 +18,3 @@ pub record Zeros (E : List ℕ) (S : List ℤ) : Type 0 where
 pub record Made (mc : Machine) (es sizes : List ℕ) (ss : List ℤ) (u : Purpose) (rank : ℕ) (E B : List ℕ) (S : List ℤ) : Type 0 where
   pub is : _≡_ {A = Plan} (record { rank = rank; operands = length sizes; extents = E; blocks = B; strides = S })
       (planFrom mc es sizes (planAxes es (length sizes) ss u) u)
-
--- a plan in lent memory, as a C function has it: its two numbers in arrays of one place, and its arrays
-pub record PlanMemory : Type 0 where
-  pub rank : List ℕ
-  pub operands : List ℕ
-  pub extents : List ℕ
-  pub blocks : List ℕ
-  pub strides : List ℤ
-
-abbrev pub planMemory : Plan → PlanMemory
-planMemory p = record { rank = p .rank ∷ []; operands = p .operands ∷ []; extents = p .extents; blocks = p .blocks; strides = p .strides }

@@ -17,8 +17,8 @@
 --   the Z figures: number of blocks, sum of their lengths              Walk/Totals        blocks-number, blocks-total, cells-total, plan-cells
 --   chain: the successor hands out the blocks in order                 Walk/Chain         chain
 --   reach: the counters that a walk comes to                           Walk/Reach         reach, state-nth
---   row 9, exact                                                       Walk/Row9          row9-exact
---   row 10, exact                                                      Walk/Row10         row10-exact
+--   row 9 applies exactly if some offset leaves 64-bit signed          Walk/Row9          row9-leaves; of one operand row9-exact
+--   row 10 refuses exactly the states that no begun walk reaches       Walk/Row10         row10-refused, row10-exact
 --   many steps in one call, and many such calls: the walk's blocks     Walk/Bulk          first-blocks, calls-are, hands-block, place-block
 --   demand 3                                                           Demand3/Whole      demand3, exactly-one
 --   a text says one thing at most                                      Text/Once          in-form-once

@@ -2,12 +2,12 @@
 -- Assumes nothing.
 use mathlib.Core.Path.{_≡_, refl, _∙_}
 use lib.IntN.{ℤ}
+use Rattle.strided.specs.Step.{leftBy, left}
+use Rattle.strided.specs.Memory.{keptStep, StepMemory, stepMemory, Steps}
 use Rattle.strided.specs.declared.Outcome.{Outcome}
 use Rattle.strided.specs.declared.Outcome.the-variants.{Block, Ended, Rejected}
 use Rattle.strided.specs.declared.Walk.{Walk}
 use Rattle.strided.specs.declared.Stepped.{Stepped}
-use Rattle.walk.specs.Lent.{leftBy, left}
-use Rattle.walk.specs.Memory.{keptStep, StepMemory, stepMemory, Steps}
 use Rattle.parts.specs.States.{withState}
 
 -- memory has the state after a block alone, where the two are the same

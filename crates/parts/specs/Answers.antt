@@ -1,11 +1,9 @@
--- What a C function of a part answers: the purpose that its two numbers tell, the refusal's number or 0, and the lent memory.
+-- What a C function of a part answers: the refusal's number or 0, and the lent memory.
 -- Assumes nothing.
 use mathlib.Core.Path.{_≡_}
-use mathlib.Core.Bool.{cond}
 use mathlib.Core.List.{List}
 use mathlib.Core.Option.{Option, none, some}
 use Prim.Native.Nat.{ℕ}
-use lib.Dec.{eqb}
 use lib.IntN.{ℤ}
 use lib.ListN.{length}
 use Rattle.strided.specs.Layout.{noAxis, axesOf, extents}
@@ -15,12 +13,7 @@ use Rattle.strided.specs.Costs.{costs}
 use Rattle.strided.specs.Plan.{strideTable}
 use Rattle.strided.specs.Refusals.{number, refusedBy, countRows}
 use Rattle.strided.specs.declared.Purpose.{Purpose}
-use Rattle.strided.specs.declared.Purpose.the-variants.{Pointwise, PointwiseInto, Fold}
 use Rattle.strided.specs.declared.Refusal.{Refusal}
-
--- 0 is pointwise with no chosen operand, 1 pointwise into the chosen one, and any other number a fold
-abbrev pub purposeOf : ℕ → ℕ → Purpose
-purposeOf kind chosen = cond (eqb kind 0) Pointwise (cond (eqb kind 1) (PointwiseInto chosen) (Fold chosen))
 
 -- the parts are there for every layout whose counts are right: they are refused by rows 1 to 4 alone
 abbrev pub countsRefused : List ℕ → List ℕ → List ℤ → Purpose → Option Refusal

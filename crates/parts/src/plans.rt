@@ -2,8 +2,8 @@
 ghost use Rattle.strided.specs.Machine.{machineOf};
 ghost use Rattle.strided.specs.Refusals.{planningRefused};
 ghost use Rattle.strided.specs.Plan.{planned};
-ghost use Rattle.kernel.specs.Made.{planMemory};
-ghost use Rattle.parts.specs.Answers.{purposeOf, Part};
+ghost use Rattle.strided.specs.Memory.{planMemory, purposeOf};
+ghost use Rattle.parts.specs.Answers.{Part};
 use crate::purpose_of;
 use kernel::plan;
 use layout::number;

@@ -2,10 +2,8 @@
 // each call, since they take it by value. They answer 1 for a block and 0 for the end, or a refusal's number negated, and then every lent
 // byte is as it was.
 ghost use mathlib.Core.Path.{_≡_};
-ghost use Rattle.strided.specs.Step.{stepped};
-ghost use Rattle.states.specs.Reaches.{planOf};
-ghost use Rattle.walk.specs.Memory.{walkIn, Steps};
-ghost use Rattle.walk.specs.Lent.{left};
+ghost use Rattle.strided.specs.Step.{stepped, left};
+ghost use Rattle.strided.specs.Memory.{planOf, walkIn, Steps};
 ghost use Rattle.parts.specs.States.{withState};
 use layout::negated;
 use strided::Outcome;

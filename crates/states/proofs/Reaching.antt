@@ -17,6 +17,7 @@ use Rattle.strided.specs.Refusals.{row5, row6, row9, leaves}
 use Rattle.strided.specs.Walk.{cutAxes}
 use Rattle.strided.specs.Begin.{planRow, planRows, beginRefused}
 use Rattle.strided.specs.Step.{blank, blankZ, insideb, onStartb, zerosb, startsFrom, isNone, mayBegin, tidy}
+use Rattle.strided.specs.Memory.{planOf, walkOf}
 use Rattle.strided.specs.declared.Plan.{Plan}
 use Rattle.strided.specs.declared.Walk.{Walk}
 use Rattle.laws.specs.Base.Layouts.{true-within}
@@ -25,7 +26,7 @@ use Rattle.laws.specs.Base.Tests.{and-both}
 use Rattle.laws.specs.Refusals.Zeros.{no-zero-of}
 use Rattle.layout.specs.Laid.{rowAt, Laid}
 use Rattle.states.specs.Starts.{leavesAt, someLeave, Begins}
-use Rattle.states.specs.Reaches.{standing, mayStart, planOf, walkOf, Arrays, reaches}
+use Rattle.states.specs.Reaches.{standing, mayStart, Arrays, reaches}
 use Rattle.states.proofs.Blanks.{within-inside, blank-zeros}
 use Rattle.states.proofs.Table.{laid, row6-is, cut-length}
 

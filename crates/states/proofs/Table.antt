@@ -20,6 +20,7 @@ use Rattle.strided.specs.declared.Walk.{Walk}
 use Rattle.strided.specs.declared.Begun.{Begun}
 use Rattle.strided.specs.declared.Answer.the-variants.{Served, Refused}
 use Rattle.strided.specs.Refusals.{answered}
+use Rattle.strided.specs.Memory.{planOf}
 use Rattle.laws.specs.Base.Refusals.{NoneApplies, none-applies}
 use Rattle.laws.specs.Base.Tests.{or-none}
 use Rattle.laws.specs.Refusals.Rows.{Past, served-none}
@@ -28,7 +29,6 @@ use Rattle.laws.specs.Refusals.Rows.{unless-passes}
 use Rattle.laws.specs.Refusals.Zeros.{no-zero-of}
 use Rattle.layout.specs.Laid.{rowAt, Laid, farAt}
 use Rattle.states.specs.Starts.{leavesAt, someLeave, Standing, Begins}
-use Rattle.states.specs.Reaches.{planOf}
 
 -- the part of an array that the code cuts off has the length that it was cut with
 pub cut-length : {A : Type 0} (n : ℕ) (l : List A) → n ≤ length l → n ≡ length (take n l)

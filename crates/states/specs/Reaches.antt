@@ -22,13 +22,6 @@ standing ended es bs c = cond (not ended) (insideb (cutAxes es bs) c && onStartb
 unfoldable pub mayStart : List ℕ → List ℤ → ℕ → Bool
 mayStart es ss operands = not (row5 es .applies) && not (row6 es operands (rowAt es ss 64) .applies)
 
--- a plan and a walk out of their parts
-abbrev pub planOf : ℕ → ℕ → List ℕ → List ℕ → List ℤ → Plan
-planOf rank operands e b s = record { rank = rank; operands = operands; extents = e; blocks = b; strides = s }
-
-abbrev pub walkOf : Bool → List ℕ → List ℤ → Walk
-walkOf ended c o = record { ended = ended; counters = c; offsets = o }
-
 -- what rows 1 and 2 let through, and the arrays' sizes
 pub record Arrays (rank operands : ℕ) (e b : List ℕ) (s : List ℤ) (c : List ℕ) (o : List ℤ) : Type 0 where
   pub axes : rank ≤ 64

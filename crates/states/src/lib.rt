@@ -9,7 +9,7 @@ ghost use Rattle.strided.specs.Base.{padded};
 ghost use Rattle.strided.specs.Layout.{hasZero};
 ghost use Rattle.strided.specs.Refusals.{answered};
 ghost use Rattle.strided.specs.Begin.{beginRefused, begunAt, begunOr, noWalk};
-ghost use Rattle.states.specs.Reaches.{planOf};
+ghost use Rattle.strided.specs.Memory.{planOf};
 use layout::has_zero;
 use layout::operands_wrong;
 use layout::rank_over;

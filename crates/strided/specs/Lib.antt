@@ -1,5 +1,6 @@
--- The definitions of document 01, a file for each of its sections and in its order. `Base` has their common words, `Figures` the marked
--- figures with the one theorem of this crate.
+-- Every definition that the contract of a public entry cites: those of document 01, a file for each of its sections and in its order, and in
+-- `Memory` what C functions make of them. `Base` has their common words. The theorems of this crate are computed: `Rows`, in which order the
+-- rows of each entry are told, and `Figures`, the marked figures.
 pub mod Base
 pub mod Layout
 pub mod Machine
@@ -22,5 +23,7 @@ pub mod Bulk
 pub mod Mark
 pub mod Digits
 pub mod Text
+pub mod Rows
+pub mod Memory
 pub mod Demand3
 pub mod Figures

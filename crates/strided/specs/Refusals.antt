@@ -1,10 +1,11 @@
 -- "Refused layouts and calls": the rows with their numbers, "the least number wins", and what planning refuses. The other entries put the
 -- rows they check into lists of their own.
 -- Assumes nothing.
+use mathlib.Core.Path.{_≡_}
 use mathlib.Core.Bool.{Bool, false, cond, _&&_, _||_, not}
 use mathlib.Core.List.{List, [], _∷_, _++_}
 use mathlib.Core.Option.{Option, none, some}
-use Prim.Native.Nat.{ℕ, _+_, _-_, _*_}
+use Prim.Native.Nat.{ℕ, _+_, _-_, _*_, _<_}
 use lib.Dec.{ltb, leb, eqb}
 use lib.IntN.{ℤ, pos, negℤ, _+ℤ_, _-ℤ_}
 use lib.ListN.{length, getD}
@@ -16,7 +17,7 @@ use Rattle.strided.specs.declared.Answer.{Answer}
 use Rattle.strided.specs.declared.Answer.the-variants.{Served, Refused}
 use Rattle.strided.specs.Base.{some-of}
 use Rattle.strided.specs.Machine.{allowed}
-use Rattle.strided.specs.Layout.{strideRow, chosen, total, hasZero, within, reach, reachDown, inI64, maxU, maxI}
+use Rattle.strided.specs.Layout.{strideRow, chosen, total, hasZero, Within, within, dot, reach, reachDown, inI64, maxU, maxI}
 
 -- "Where an answer is an enum, a definition gives this paper's number"
 abbrev pub number : Refusal → ℕ
@@ -46,7 +47,7 @@ pub record Row : Type 0 where
   pub refusal : Refusal
 
 -- "the least number wins": the rows of an entry stand in the order of their numbers, and the first that applies refuses. "except that 12
--- comes first and 13 follows 7": so they stand in the text's list. 24 stands "after 4"
+-- comes first and 13 follows 7": so they stand in the text's list. 24 stands "after 4". specs/Rows has the numbers of every entry
 abbrev pub refusedBy : List Row → Option Refusal
 refusedBy [] = none
 refusedBy (r ∷ rs) = cond (r .applies) (some (r .refusal)) (refusedBy rs)
@@ -97,13 +98,22 @@ row7 es sizes strides =
 abbrev pub row8 : ℕ → List ℤ → Row
 row8 operands starts = record { applies = not (eqb (length starts) operands); refusal = StartCount }
 
--- 9, "some offset from the start leaves 64-bit signed": the least or the greatest offset does (crate laws: exactly if some offset does)
+-- 9, "some offset from the start leaves 64-bit signed": the least or the greatest offset does (crate laws: it applies exactly if
+-- `OffsetLeaves` below)
 abbrev pub leaves : List ℕ → List ℤ → ℤ → Bool
 leaves es ts z = not (inI64 (z -ℤ pos (reachDown es ts)) && inI64 (z +ℤ pos (reach es ts - reachDown es ts)))
 
 abbrev pub row9 : List ℕ → ℕ → (ℕ → List ℤ) → List ℤ → Row
 row9 es operands strides starts =
     record { applies = someOperand es (λ k. leaves es (strides k) (getD starts k (pos 0))) operands; refusal = Offsets }
+
+-- an operand and an index of the extents at which its offset from the start leaves 64-bit signed. With a zero extent there is no index
+pub record OffsetLeaves (es : List ℕ) (operands : ℕ) (strides : ℕ → List ℤ) (starts : List ℤ) : Type 0 where
+  pub operand : ℕ
+  pub there : operand < operands
+  pub index : List ℕ
+  pub inside : Within es index
+  pub outside : inI64 (getD starts operand (pos 0) +ℤ dot index (strides operand)) ≡ false
 
 -- 10, "step on a state no begun walk reaches": specs/Step
 

@@ -16,6 +16,7 @@ use Rattle.strided.specs.Begin.{planExtents, planBlocks, planRows, begin
 use Rattle.strided.specs.declared.Refusal.{Refusal}
 use Rattle.strided.specs.declared.Refusal.the-variants.{State}
 use Rattle.strided.specs.declared.Answer.the-variants.{Served}
+use Rattle.strided.specs.declared.Outcome.{Outcome}
 use Rattle.strided.specs.declared.Outcome.the-variants.{Block, Ended, Rejected}
 use Rattle.strided.specs.declared.Plan.{Plan}
 use Rattle.strided.specs.declared.Walk.{Walk}
@@ -144,6 +145,15 @@ unfoldable pub stepped : Plan → Walk → Stepped
 stepped p w =
     let taken : Stepped = handedOut (step (planCutAxes p) (planRows p) (mayBegin p) (unpacked p w)) in
     stepOr (refusedBy (stepRows p)) (cond (tidy p w) taken (notStepped State))
+
+-- "A lent step answers what one by value answers and leaves the state that one returns, or, if refused, the state it was lent."
+abbrev pub leftBy : Outcome → Walk → Walk → Walk
+leftBy Block returned lent = returned
+leftBy Ended returned lent = returned
+leftBy (Rejected r) returned lent = lent
+
+abbrev pub left : Stepped → Walk → Walk
+left s lent = leftBy (s .answer) (s .walk) lent
 
 -- ---- the states that a begun walk reaches
 

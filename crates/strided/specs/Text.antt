@@ -198,9 +198,13 @@ layoutRowsOf p =
     row1 (p .rank) ∷ row2 (p .operands) ∷ row4 (p .operands) (p .purpose) ∷ row5 (p .extents)
     ∷ row6 (p .extents) (p .operands) (strideRow (stridesOf p) (p .rank)) ∷ row7 (p .extents) (sizesOf p) (strideRow (stridesOf p) (p .rank)) ∷ []
 
+-- and the rows of the text itself
+abbrev pub outputRows : Parsed → ℕ → List Row
+outputRows p room = row13 (p .extents) ∷ row14 (printedOf p) room ∷ []
+
 -- those, then 13, then 14: the output is asked for only where none before applies
 unfoldable pub textRefused : Parsed → ℕ → Option Refusal
-textRefused p room = first (refusedBy (layoutRowsOf p)) (refusedBy (row13 (p .extents) ∷ row14 (printedOf p) room ∷ []))
+textRefused p room = first (refusedBy (layoutRowsOf p)) (refusedBy (outputRows p room))
 
 -- "gets a signed 64-bit number: the output's length, or the refusal's number negated", and the lent bytes afterwards
 pub record Listing : Type 0 where

@@ -19,6 +19,7 @@ use Rattle.strided.specs.Fuse.{planAxes}
 use Rattle.strided.specs.Plan.{planned}
 use Rattle.strided.specs.Begin.{beginRefused}
 use Rattle.strided.specs.Text.{Parsed, InForm, Listing, sizesOf, stridesOf, printed, printedOf, row13, row14, refusing, listingOr, textRefused, listed, zeroStarts}
+use Rattle.strided.specs.Memory.{planOf}
 use Rattle.strided.specs.declared.Purpose.{Purpose}
 use Rattle.strided.specs.declared.Planned.{Planned}
 use Rattle.strided.specs.declared.Plan.{Plan}
@@ -31,7 +32,6 @@ use Rattle.laws.specs.Refusals.Record.{planning-fixed}
 use Rattle.laws.specs.Text.Begins.{planned-begins}
 use Rattle.laws.specs.Text.Planning.{as-planning}
 use Rattle.advance.specs.Plans.{Sized}
-use Rattle.states.specs.Reaches.{planOf}
 use Rattle.kernel.specs.Made.{Made}
 use Rattle.reading.specs.Lines.{Arrays}
 use Rattle.reading.specs.Texts.{Says}

@@ -3,10 +3,10 @@
 use mathlib.Core.Path.{_≡_, ap, _∙_}
 use lib.IntN.{ℤ, pos}
 use Rattle.strided.specs.Refusals.{negated}
+use Rattle.strided.specs.Memory.{stepCode, keptStep, StepMemory, stepMemory, Steps}
 use Rattle.strided.specs.declared.Refusal.{Refusal}
 use Rattle.strided.specs.declared.Outcome.the-variants.{Block, Ended, Rejected}
 use Rattle.strided.specs.declared.Stepped.{Stepped}
-use Rattle.walk.specs.Memory.{stepCode, keptStep, StepMemory, stepMemory, Steps}
 
 -- an answer that is known
 pub step-refused : {s : Stepped} {old : StepMemory} {r : Refusal} {n : ℤ} → s .answer ≡ Rejected r → n ≡ negated r → Steps s old old n

@@ -15,6 +15,7 @@ use Rattle.strided.specs.Refusals.{refusedBy, row1, row2}
 use Rattle.strided.specs.Walk.{lengthAt, runStrides}
 use Rattle.strided.specs.Begin.{planExtents, planRows, beginRefused, begunAt}
 use Rattle.strided.specs.Step.{planCutAxes, unpacked, packed, reachable, mayBegin, tidy, step, stepRunning, over, refused, handedOut, notStepped, stepRows, stepped}
+use Rattle.strided.specs.Memory.{walkOf}
 use Rattle.strided.specs.declared.Refusal.the-variants.{Rank, Operands, State}
 use Rattle.strided.specs.declared.Outcome.the-variants.{Block, Rejected}
 use Rattle.strided.specs.declared.Plan.{Plan}
@@ -31,7 +32,7 @@ use Rattle.advance.specs.Blocks.{lengthOf, firstsOf}
 use Rattle.advance.specs.Plans.{C, O, length-is, firsts-are, first-start}
 use Rattle.advance.specs.Plans as plans
 use Rattle.advance.specs.Reached.{widths-pos, tiled, roomy, advanced}
-use Rattle.states.specs.Reaches.{Arrays, walkOf, reaches}
+use Rattle.states.specs.Reaches.{Arrays, reaches}
 use Rattle.walk.specs.Lent.{Taken, overStep}
 
 -- ---- the rows

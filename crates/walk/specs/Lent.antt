@@ -33,12 +33,3 @@ abbrev pub Answers : Plan → Walk → Outcome → Type 0
 Answers p w Block = Taken p w × (w .ended ≡ false)
 Answers p w Ended = overStep w ≡ stepped p w
 Answers p w (Rejected r) = notStepped r ≡ stepped p w
-
--- "A lent step .. leaves the state that one returns, or, if refused, the state it was lent."
-abbrev pub leftBy : Outcome → Walk → Walk → Walk
-leftBy Block returned lent = returned
-leftBy Ended returned lent = returned
-leftBy (Rejected r) returned lent = lent
-
-abbrev pub left : Stepped → Walk → Walk
-left s lent = leftBy (s .answer) (s .walk) lent

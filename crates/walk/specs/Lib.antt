@@ -1,3 +1,2 @@
--- What a step by value and a lent one leave; a walk in lent memory.
+-- What the functions of a step ask and leave.
 pub mod Lent
-pub mod Memory

@@ -1,9 +1,9 @@
 // One step of a walk by value, on any plan and any state; and the same on a state that is lent.
 ghost use mathlib.Core.Path.{_≡_};
 ghost use mathlib.Core.Bool.{false};
-ghost use Rattle.strided.specs.Step.{notStepped, stepped};
-ghost use Rattle.states.specs.Reaches.{planOf, walkOf};
-ghost use Rattle.walk.specs.Lent.{Taken, Answers, overStep, left};
+ghost use Rattle.strided.specs.Step.{notStepped, stepped, left};
+ghost use Rattle.strided.specs.Memory.{planOf, walkOf};
+ghost use Rattle.walk.specs.Lent.{Taken, Answers, overStep};
 use advance::advance;
 use advance::firsts;
 use advance::length_of;

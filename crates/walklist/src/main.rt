@@ -2,6 +2,7 @@
 // of its refusal, are printed. A read or a write that fails is told on standard error.
 ghost use mathlib.Core.Path.{_≡_};
 ghost use lib.ListN.{length, replicate};
+ghost use Rattle.strided.specs.Text.{Prints};
 ghost use Rattle.walklist.specs.Printing.{Received, Printing};
 use layout::magnitude;
 use libc::STDERR_FILENO;
@@ -55,15 +56,23 @@ fn complain(message: &[u8]) {
     io::write_all(STDERR_FILENO, message);
 }
 
-// Prints what is printed for a text, in one write.
+// Hands the lines that are printed for a text to `write`. No other function writes to standard output, and a text is asked for so that no
+// other bytes can be handed over.
+fn write_lines<'a>(text: &'a [u8], lines: &'a [u8])
+    requires { ⌜ Prints (now text) (now lines) ⌝ }
+{
+    if io::write_all(STDOUT_FILENO, lines) {
+        return;
+    }
+    complain(b"walklist: cannot write standard output\n");
+}
+
+// Prints what is printed for a text.
 fn print_text(bytes: &[u8], out: &mut [u8])
     requires { ⌜ now out ≡ replicate 65536 0 ⌝ }
 {
     let n = list_text(bytes, out);
-    if io::write_all(STDOUT_FILENO, &out[..n]) {
-        return;
-    }
-    complain(b"walklist: cannot write standard output\n");
+    write_lines(bytes, &out[..n]);
 }
 
 fn main() {

@@ -5,7 +5,7 @@ ghost use Prim.Native.Nat.{_+_, _*_, _≤_, _<_};
 ghost use lib.ListN.{length};
 ghost use Rattle.strided.specs.Base.{over, run};
 ghost use Rattle.strided.specs.Text.{printedPlan, filling};
-ghost use Rattle.states.specs.Reaches.{planOf};
+ghost use Rattle.strided.specs.Memory.{planOf};
 ghost use Rattle.writing.specs.Put.{Wrote};
 ghost use Rattle.writing.specs.Line.{longest};
 ghost use Rattle.writing.specs.Plan.{Printable, measured, columnTo, axisAt, restFrom, listedIn};

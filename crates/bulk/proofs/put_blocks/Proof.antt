@@ -1,6 +1,6 @@
 -- `bulk::put_blocks` meets its contract. Assumes nothing.
+use Rattle.strided.specs.Memory.{planOf, walkOf}
 use Rattle.bulk.proofs.Turns.{Turned, turned-none, turned-roomy, turned-few, turned-place, turned-places, turned-many, turned-long, turned-next, wrote-last, wrote-full}
-use Rattle.states.specs.Reaches.{planOf, walkOf}
 use Rattle.walk.proofs.Stepping.{axes-few, widths-here, roomy-here, start-here}
 use Rattle.advance.proofs.Dot.{roomy-offset}
 use Rattle.advance.proofs.Stretches.{Stretched, along-at, moves-fit, moves-long, paced-on, ahead-fits, ahead-advanced, stays-roomy, stays-tiled, then-advanced}

@@ -36,6 +36,16 @@ module _ (t : ℕ → Bool) where
   some-of-found i n h z =
       let e : n ≡ (n - suc i) + suc i = omega arith in ap (some-of t 0) e ∙ some-of-on (suc i) (n - suc i) (some-of-suc i ∙ rw z)
 
+  -- where some pass, one of them
+  pub some-of-where : (n : ℕ) → some-of t 0 n ≡ true → (i : ℕ) × (i < n) × (t i ≡ true)
+  some-of-where zero h = absurd (false≢true (sym some-of-empty ∙ h))
+  some-of-where (suc n) h = go (t n) refl (sym (some-of-suc n) ∙ h) (some-of-where n)
+    where
+      go : (b : Bool) → t n ≡ b → cond b true (some-of t 0 n) ≡ true → (some-of t 0 n ≡ true → (i : ℕ) × (i < n) × (t i ≡ true))
+          → (i : ℕ) × (i < suc n) × (t i ≡ true)
+      go true q e f = (n, omega arith, q)
+      go false q e f = let r = f e in (r .0, omega (arith, r .1), r .2)
+
   -- where none passes, each fails; and back
   pub some-of-at : (n : ℕ) → some-of t 0 n ≡ false → (i : ℕ) → i < n → t i ≡ false
   some-of-at n z i h = go (t i) refl

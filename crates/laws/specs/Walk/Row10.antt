@@ -1,7 +1,7 @@
 -- ROW 10, EXACT: "step on a state no begun walk reaches": a state is refused with 10 exactly if no begun walk of that plan reaches it.
 -- Assumes nothing.
 use mathlib.Core.Path.{_≡_, refl, sym, ap, _∙_}
-use mathlib.Core.Logic.{_↔_}
+use mathlib.Core.Logic.{_↔_, _⊎_, inl, inr, ⊎-elim}
 use mathlib.Core.Bool.{Bool, true, false, not, Bool·not-not}
 use mathlib.Core.List.{List}
 use mathlib.Core.Option.{Option, none, some}
@@ -57,12 +57,10 @@ module _ (p : Plan) (w : Walk) (z : Sized p w) (ok : refusedBy (stepRows p) ≡ 
       differ none zs r h = let y : _≡_ {A = ℕ} 0 1 = cc h in omega arith
       differ (some c) zs r h = let y : _≡_ {A = ℕ} 0 1 = cc h in omega arith
 
-  -- a state that is not refused is reached
-  taken-reached : (stepped p w .answer ≡ Rejected State → ⊥) → Reached p w
-  unfolding stepped begunAt
-  taken-reached h =
-      let t : tidy p w ≡ true = tidy-of (tidy p w) refl in
-      let c : reachable (planCutAxes p) (planRows p) (mayBegin p) (unpacked p w) ≡ true = reachable-of (reachable (planCutAxes p) (planRows p) (mayBegin p) (unpacked p w)) refl t in
+  -- a state that passes the test is reached
+  tested-reached : tidy p w ≡ true → reachable (planCutAxes p) (planRows p) (mayBegin p) (unpacked p w) ≡ true → Reached p w
+  unfolding begunAt
+  tested-reached t c =
       let b : Begun (planCutAxes p) (planRows p) (mayBegin p) (unpacked p w) = reach-state (planCutAxes p) (planRows p) (mayBegin p) (axes-wide (planExtents p) _) (unpacked p w) .1 c in
       let zs : List ℤ = b .starts in
       let n : beginRefused p zs ≡ none = none-of (beginRefused p zs) (b .may) in
@@ -78,17 +76,22 @@ module _ (p : Plan) (w : Walk) (z : Sized p w) (ok : refusedBy (stepRows p) ≡ 
         steps = b .n;
         comes = back ∙ ap packed (b .comes) ∙ sym (walk-state p zs r (b .n));
       }
+
+  -- and one that does not is refused
+  either : (stepped p w .answer ≡ Rejected State) ⊎ Reached p w
+  unfolding stepped
+  either = go (tidy p w) refl (reachable (planCutAxes p) (planRows p) (mayBegin p) (unpacked p w)) refl
     where
-      tidy-of : (b : Bool) → tidy p w ≡ b → tidy p w ≡ true
-      tidy-of true e = e
-      tidy-of false e = absurd (h (rw (ok, e)))
+      go : (a : Bool) → tidy p w ≡ a → (b : Bool) → reachable (planCutAxes p) (planRows p) (mayBegin p) (unpacked p w) ≡ b
+          → (stepped p w .answer ≡ Rejected State) ⊎ Reached p w
+      go true t true c = inr (tested-reached t c)
+      go true t false c = inl (rw (ok, t, c))
+      go false t b c = inl (rw (ok, t))
 
-      reachable-of : (b : Bool) → reachable (planCutAxes p) (planRows p) (mayBegin p) (unpacked p w) ≡ b → tidy p w ≡ true
-          → reachable (planCutAxes p) (planRows p) (mayBegin p) (unpacked p w) ≡ true
-      reachable-of true e t = e
-      reachable-of false e t = absurd (h (rw (ok, t, e)))
+-- ROW 10, where rows 1 and 2 pass: a state is refused with 10 exactly if no begun walk of the plan reaches it; and taken exactly if one does
+module _ (p : Plan) (w : Walk) (z : Sized p w) (ok : refusedBy (stepRows p) ≡ none) where
+  pub row10-refused : (stepped p w .answer ≡ Rejected State) ↔ (Reached p w → ⊥)
+  row10-refused = (λ h q. reached-taken p w z ok q h, λ n. ⊎-elim (λ h. h) (λ q. absurd (n q)) (either p w z ok))
 
--- ROW 10: what the first two rows let by is refused with 10 exactly if no begun walk of the plan reaches the state
-pub row10-exact : (p : Plan) (w : Walk) → Sized p w → refusedBy (stepRows p) ≡ none
-    → (stepped p w .answer ≡ Rejected State → ⊥) ↔ Reached p w
-row10-exact p w z ok = (taken-reached p w z ok, reached-taken p w z ok)
+  pub row10-exact : (stepped p w .answer ≡ Rejected State → ⊥) ↔ Reached p w
+  row10-exact = (λ n. ⊎-elim (λ h. absurd (n h)) (λ q. q) (either p w z ok), reached-taken p w z ok)

@@ -8,8 +8,9 @@ use Rattle.strided.specs.Layout.{extents}
 use Rattle.strided.specs.Fuse.{planAxes}
 use Rattle.strided.specs.Plan.{strideTable}
 use Rattle.strided.specs.Refusals.{answered}
+use Rattle.strided.specs.Memory.{purposeOf}
 use Rattle.strided.specs.declared.Answer.the-variants.{Served}
-use Rattle.parts.specs.Answers.{purposeOf, countsRefused}
+use Rattle.parts.specs.Answers.{countsRefused}
 use Rattle.parts.proofs.Laws.{answer-of, part-refused, part-served, counts-fit}
 use Rattle.parts.proofs.parts_axes.Statement.{statement}
 use Rattle.parts.proofs.parts_axes.Tie as tie

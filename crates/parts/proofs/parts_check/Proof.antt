@@ -2,7 +2,7 @@
 use borrow.Author.Needs.{needs}
 use mathlib.Core.Path.{_∙_}
 use Rattle.strided.specs.Refusals.{layoutRefused}
-use Rattle.parts.specs.Answers.{purposeOf}
+use Rattle.strided.specs.Memory.{purposeOf}
 use Rattle.parts.proofs.Laws.{answer-of, told-refused, told-served}
 use Rattle.parts.proofs.parts_check.Statement.{statement}
 use Rattle.parts.proofs.parts_check.Tie as tie

@@ -4,8 +4,9 @@ use mathlib.Core.Path.{_≡_, refl, ap, _∙_}
 use lib.ListN.{length}
 use Rattle.strided.specs.Base.{padded}
 use Rattle.strided.specs.Refusals.{answered}
+use Rattle.strided.specs.Memory.{purposeOf}
 use Rattle.strided.specs.declared.Answer.the-variants.{Served}
-use Rattle.parts.specs.Answers.{purposeOf, countsRefused, fusedExtents}
+use Rattle.parts.specs.Answers.{countsRefused, fusedExtents}
 use Rattle.parts.proofs.Laws.{answer-of, part-refused, part-served, counts-fit}
 use Rattle.parts.proofs.parts_fused.Statement.{statement}
 use Rattle.parts.proofs.parts_fused.Tie as tie

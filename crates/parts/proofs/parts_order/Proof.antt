@@ -5,8 +5,9 @@ use lib.ListN.{length}
 use Rattle.strided.specs.Base.{padded}
 use Rattle.strided.specs.Order.{loopOrder}
 use Rattle.strided.specs.Refusals.{answered}
+use Rattle.strided.specs.Memory.{purposeOf}
 use Rattle.strided.specs.declared.Answer.the-variants.{Served}
-use Rattle.parts.specs.Answers.{purposeOf, countsRefused}
+use Rattle.parts.specs.Answers.{countsRefused}
 use Rattle.parts.proofs.Laws.{answer-of, part-refused, part-served, counts-fit}
 use Rattle.parts.proofs.parts_order.Statement.{statement}
 use Rattle.parts.proofs.parts_order.Tie as tie

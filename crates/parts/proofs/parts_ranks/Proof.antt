@@ -2,8 +2,9 @@
 use borrow.Author.Needs.{needs}
 use mathlib.Core.Path.{_≡_, refl}
 use Rattle.strided.specs.Refusals.{answered}
+use Rattle.strided.specs.Memory.{purposeOf}
 use Rattle.strided.specs.declared.Answer.the-variants.{Served}
-use Rattle.parts.specs.Answers.{purposeOf, countsRefused}
+use Rattle.parts.specs.Answers.{countsRefused}
 use Rattle.parts.proofs.Laws.{answer-of, part-refused, part-served, counts-fit}
 use Rattle.parts.proofs.parts_ranks.Statement.{statement}
 use Rattle.parts.proofs.parts_ranks.Tie as tie

@@ -6,8 +6,9 @@ use Rattle.strided.specs.Base.{padded}
 use Rattle.strided.specs.Layout.{lead}
 use Rattle.strided.specs.Weights.{weights}
 use Rattle.strided.specs.Refusals.{answered}
+use Rattle.strided.specs.Memory.{purposeOf}
 use Rattle.strided.specs.declared.Answer.the-variants.{Served}
-use Rattle.parts.specs.Answers.{purposeOf, countsRefused}
+use Rattle.parts.specs.Answers.{countsRefused}
 use Rattle.parts.proofs.Laws.{answer-of, part-refused, part-served, counts-fit}
 use Rattle.parts.proofs.parts_weights.Statement.{statement}
 use Rattle.parts.proofs.parts_weights.Tie as tie

@@ -1,8 +1,8 @@
 -- `states::begin_on` meets its contract. Assumes nothing.
 use Prim.Native.Nat.{_≤_}
 use lib.ListN.{length}
+use Rattle.strided.specs.Memory.{planOf}
 use Rattle.strided.specs.declared.Plan.{Plan}
-use Rattle.states.specs.Reaches.{planOf}
 use Rattle.states.proofs.Table.{begun-refused, served-axes, served-starts, begun-served}
 use native.Mathlib.Omega.{arith}
 use mathlib.Core.Path.{_≡_, sym, _∙_}

@@ -2,9 +2,9 @@
 use mathlib.Core.Path.{_≡_, refl}
 use lib.ListN.{length}
 use borrow.Author.Needs.{needs}
+use Rattle.strided.specs.Memory.{planOf, walkOf}
 use Rattle.strided.specs.declared.Plan.{Plan}
 use Rattle.strided.specs.declared.Walk.{Walk}
-use Rattle.states.specs.Reaches.{planOf, walkOf}
 use Rattle.walk.specs.Lent.{Taken}
 use Rattle.walk.proofs.Stepping.{rank-rejected, operands-rejected, state-rejected, arrays, taken, ended-step}
 use Rattle.walk.proofs.answer_of.Statement.{statement}

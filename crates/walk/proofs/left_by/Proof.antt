@@ -1,8 +1,8 @@
 -- `walk::left_by` meets its contract: each answer by itself. Assumes nothing.
 use mathlib.Core.Path.{sym, ap}
 use borrow.Author.Needs.{needs}
+use Rattle.strided.specs.Step.{leftBy}
 use Rattle.strided.specs.declared.Outcome.{Outcome}
-use Rattle.walk.specs.Lent.{leftBy}
 use Rattle.walk.proofs.left_by.Statement.{statement}
 use Rattle.walk.proofs.left_by.Tie as tie
 

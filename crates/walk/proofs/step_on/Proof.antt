@@ -1,10 +1,10 @@
 -- `walk::step_on` meets its contract: the answer decides, and the block is that at the counters. Assumes nothing.
 use borrow.Author.Needs.{needs}
 use mathlib.Core.Path.{_≡_, _∙_, subst}
+use Rattle.strided.specs.Memory.{planOf}
 use Rattle.strided.specs.declared.Outcome.{Outcome}
 use Rattle.strided.specs.declared.Outcome.the-variants.{Block, Ended, Rejected}
 use Rattle.strided.specs.declared.Plan.{Plan}
-use Rattle.states.specs.Reaches.{planOf}
 use Rattle.walk.specs.Lent.{Answers}
 use Rattle.walk.proofs.Stepping.{taken-parts, stepped-parts}
 use Rattle.walk.proofs.step_on.Statement.{statement}

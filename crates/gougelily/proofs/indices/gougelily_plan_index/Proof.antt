@@ -3,9 +3,9 @@ use borrow.Author.Needs.{needs}
 use mathlib.Core.Path.{_≡_, refl, _∙_}
 use mir.Facts.{toZ-ofZ}
 use Rattle.strided.specs.Index.{toldPlan}
+use Rattle.strided.specs.Memory.{purposeOf, indexMemory}
 use Rattle.strided.specs.declared.Purpose.{Purpose}
 use Rattle.strided.specs.declared.Told.{Told}
-use Rattle.gougelily.specs.Handed.{purposeOf, indexMemory}
 use Rattle.gougelily.proofs.Answers.{called, handed-refused, handed-served}
 use Rattle.gougelily.proofs.indices.gougelily_plan_index.Statement.{statement}
 use Rattle.gougelily.proofs.indices.gougelily_plan_index.Tie as tie

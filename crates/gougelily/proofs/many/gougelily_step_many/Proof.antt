@@ -9,10 +9,9 @@ use mir.Facts.{toZ-ofZ, toZ-pos}
 use mir.Syntax.{w64}
 use mir.Val.{SFits}
 use Rattle.strided.specs.Bulk.{SteppedMany, steppedMany}
+use Rattle.strided.specs.Memory.{planOf, walkIn}
 use Rattle.strided.specs.declared.Plan.{Plan}
 use Rattle.strided.specs.declared.Walk.{Walk}
-use Rattle.states.specs.Reaches.{planOf}
-use Rattle.walk.specs.Memory.{walkIn}
 use Rattle.gougelily.proofs.Answers.{many-count, many-refused, many-ended, many-blocks}
 use Rattle.gougelily.proofs.many.gougelily_step_many.Statement.{statement}
 use Rattle.gougelily.proofs.many.gougelily_step_many.Tie as tie

@@ -7,13 +7,13 @@ use mir.Facts.{toZ-ofZ}
 use Rattle.strided.specs.Machine.{machineOf}
 use Rattle.strided.specs.Plan.{planned}
 use Rattle.strided.specs.Refusals.{planningRefused}
+use Rattle.strided.specs.Memory.{planMemory}
 use Rattle.strided.specs.declared.Planned.{Planned}
 use Rattle.laws.specs.Refusals.Accepted.{accepted}
 use Rattle.laws.specs.Refusals.Record.{planning-allowed, planning-layout}
 use Rattle.laws.specs.Refusals.Rows.{served-none, refused-some}
 use Rattle.laws.specs.Plan.Answers.{planned-refused}
 use Rattle.kernel.proofs.Plans.{serves}
-use Rattle.kernel.specs.Made.{planMemory}
 use Rattle.gougelily.proofs.Answers.{called, handed-refused, handed-served}
 use Rattle.gougelily.proofs.plans.gougelily_plan.Statement.{statement}
 use Rattle.gougelily.proofs.plans.gougelily_plan.Tie as tie

@@ -3,8 +3,8 @@ use borrow.Author.Needs.{needs}
 use mathlib.Core.Path.{_∙_}
 use mathlib.Core.List.{[], _∷_}
 use mir.Facts.{toZ-ofZ}
+use Rattle.strided.specs.Memory.{walkMemory}
 use Rattle.strided.specs.declared.Begun.{Begun}
-use Rattle.walk.specs.Memory.{walkMemory}
 use Rattle.gougelily.proofs.Answers.{handed-refused, handed-served}
 use Rattle.gougelily.proofs.walks.gougelily_begin.Statement.{statement}
 use Rattle.gougelily.proofs.walks.gougelily_begin.Tie as tie

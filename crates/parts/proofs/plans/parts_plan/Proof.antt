@@ -4,11 +4,10 @@ use mathlib.Core.Path.{_≡_, sym, ap, _∙_}
 use Rattle.strided.specs.Machine.{machineOf}
 use Rattle.strided.specs.Plan.{planned}
 use Rattle.strided.specs.Refusals.{answered, planningRefused}
+use Rattle.strided.specs.Memory.{planMemory, purposeOf}
 use Rattle.strided.specs.declared.Answer.{Answer}
 use Rattle.strided.specs.declared.Planned.{Planned}
 use Rattle.laws.specs.Plan.Answers.{planned-answer}
-use Rattle.kernel.specs.Made.{planMemory}
-use Rattle.parts.specs.Answers.{purposeOf}
 use Rattle.parts.proofs.Laws.{part-refused, part-served}
 use Rattle.parts.proofs.plans.parts_plan.Statement.{statement}
 use Rattle.parts.proofs.plans.parts_plan.Tie as tie

@@ -2,10 +2,9 @@
 use borrow.Author.Needs.{needs}
 use mathlib.Core.Path.{ap, ap₂, _∙_}
 use mir.Facts.{toZ-ofZ}
-use Rattle.strided.specs.Step.{stepped}
+use Rattle.strided.specs.Step.{stepped, left}
 use Rattle.strided.specs.declared.Plan.{Plan}
 use Rattle.strided.specs.declared.Walk.{Walk}
-use Rattle.walk.specs.Lent.{left}
 use Rattle.walk.proofs.Answered.{steps-of}
 use Rattle.parts.specs.declared.steps.Moved.{Moved}
 use Rattle.parts.specs.States.{withState}

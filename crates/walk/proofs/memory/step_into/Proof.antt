@@ -3,13 +3,12 @@ use borrow.Author.Needs.{needs}
 use mathlib.Core.Path.{_≡_, refl, sym, ap, _∙_, subst}
 use mir.Facts.{toZ-ofZ}
 use Rattle.strided.specs.Step.{stepped}
+use Rattle.strided.specs.Memory.{planOf, walkIn}
 use Rattle.strided.specs.declared.Outcome.{Outcome}
 use Rattle.strided.specs.declared.Outcome.the-variants.{Block, Ended, Rejected}
 use Rattle.strided.specs.declared.Plan.{Plan}
 use Rattle.strided.specs.declared.Walk.{Walk}
-use Rattle.states.specs.Reaches.{planOf}
 use Rattle.walk.specs.Lent.{Answers}
-use Rattle.walk.specs.Memory.{walkIn}
 use Rattle.walk.proofs.Answered.{step-refused, step-ended, steps-of}
 use Rattle.walk.proofs.Stepping.{running, taken-parts}
 use Rattle.walk.proofs.memory.step_into.Statement.{statement}

@@ -7,8 +7,8 @@ use lib.ListN.{length}
 use mir.Syntax.{w64}
 use mir.Facts.{toZ-pos}
 use Rattle.strided.specs.Text.{printedPlan, Listing}
+use Rattle.strided.specs.Memory.{planOf}
 use Rattle.strided.specs.declared.Plan.{Plan}
-use Rattle.states.specs.Reaches.{planOf}
 use Rattle.writing.proofs.Axes.{more-measured, fits-measured, listed-full, listed-filled}
 use borrow.Author.Needs.{needs}
 use Rattle.writing.proofs.plan.list.Statement.{statement}

@@ -5,8 +5,8 @@ use mathlib.Core.Path.{_≡_, subst}
 use Prim.Native.Nat.{ℕ, _+_}
 use lib.ListN.{length}
 use Rattle.strided.specs.Text.{printedPlan}
+use Rattle.strided.specs.Memory.{planOf}
 use Rattle.strided.specs.declared.Plan.{Plan}
-use Rattle.states.specs.Reaches.{planOf}
 use Rattle.writing.specs.Plan.{measured, restFrom}
 use Rattle.writing.proofs.Axes.{measured-more, printed-length}
 use Rattle.writing.proofs.Walks.{printable-ready}

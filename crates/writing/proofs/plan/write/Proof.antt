@@ -4,8 +4,8 @@
 use native.Mathlib.Omega.{arith}
 use mathlib.Core.Path.{sym}
 use Rattle.strided.specs.Base.{over, run}
+use Rattle.strided.specs.Memory.{planOf}
 use Rattle.strided.specs.declared.Plan.{Plan}
-use Rattle.states.specs.Reaches.{planOf}
 use Rattle.writing.specs.Plan.{restFrom}
 use Rattle.writing.proofs.Axes.{lineAt, printed-parts, printed-length}
 use Rattle.writing.proofs.Walks.{printable-ready}

@@ -1,0 +1,27 @@
+// The check of a layout from C.
+ghost use mathlib.Core.Path.{_≡_};
+ghost use lib.IntN.{pos};
+ghost use Rattle.strided.specs.Refusals.{answered, layoutRefused};
+ghost use Rattle.strided.specs.Memory.{purposeOf, codeOr};
+use crate::purpose_of;
+use layout::check_layout;
+use layout::negated;
+use strided::Answer;
+
+// 0 if a layout can be planned for a purpose on an allowed machine: rows 1 to 7.
+#[no_mangle]
+pub extern "C" fn gougelily_check_layout<'a>(
+    extents: &'a [u64],
+    sizes: &'a [u64],
+    strides: &'a [i64],
+    purpose: u64,
+    chosen: u64,
+) -> i64
+    ensures { λ r. ⌜ r ≡ codeOr (answered (layoutRefused (now (extents .entry)) (now (sizes .entry)) (now (strides .entry)) (purposeOf purpose chosen))) (pos 0) ⌝ }
+{
+    let answer = check_layout(extents, sizes, strides, purpose_of(purpose, chosen));
+    match answer {
+        Answer::Refused(refusal) => negated(refusal),
+        Answer::Served => 0,
+    }
+}
