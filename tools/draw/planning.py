@@ -1,4 +1,4 @@
-"""Document 01's rules from a layout to the axes of its plan, and from a plan index back to the original one.
+"""The papers' rules from a layout to the axes of its plan, and from a plan index back to the original one.
 
 Ranks, weights, loop order and fusing are here. Block sizes are not: they are taken from walklist's lines A. Python's whole numbers are exact, so
 the 64-bit limits of the rules are written out.
@@ -57,11 +57,14 @@ def weights(layout):
 
 
 def fusing_order(layout):
-    """The axes in the order they are fused in: as given up to a total of 1,024, else the loop order, innermost first."""
+    """The axes in the order they are fused in: as given up to a total of 1,024, else the loop order, innermost first.
+
+    That is weight falling, on equal weight extent falling, and on equal extents the lower axis first (document 02, ask 9).
+    """
     if prod(layout.extents) <= SMALL:
         return list(range(layout.rank))
     by = weights(layout)
-    return sorted(range(layout.rank), key=lambda axis: (-by[axis], axis))
+    return sorted(range(layout.rank), key=lambda axis: (-by[axis], -layout.extents[axis], axis))
 
 
 def joins(extent, before, stride):
