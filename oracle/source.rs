@@ -1,5 +1,5 @@
 // Shared by the build scripts: finds the original sources, compares a shim's
-// constants with the original ones, and makes the counted copies.
+// constants with the original ones, and makes the changed and the counted copies.
 
 use std::path::PathBuf;
 
@@ -32,19 +32,40 @@ pub fn module(package: &str, file: &str) -> String {
     format!("#[path = {path:?}]\n#[allow(dead_code, unused_imports)]\npub(crate) mod {name};\n")
 }
 
-/// A module declaration for a changed copy, written to the build folder.
+/// A module declaration that compiles a changed copy under the original's name;
+/// without changes it compiles the original where it lies.
+pub fn changed_module(package: &str, file: &str, changes: &[(&str, &str)]) -> String {
+    if changes.is_empty() {
+        return module(package, file);
+    }
+    let name = file.strip_suffix(".rs").expect("a Rust file");
+    copied_module(package, file, name, changes, "")
+}
+
+/// A module declaration for a counted copy.
 pub fn counted_module(package: &str, file: &str, changes: &[(&str, &str)], doors: &str) -> String {
     let name = format!("{}_counted", file.strip_suffix(".rs").expect("a Rust file"));
-    let copy = counted(&text(package, file), changes).unwrap_or_else(|error| {
+    copied_module(package, file, &name, changes, doors)
+}
+
+/// A module declaration for a changed copy, written to the build folder.
+fn copied_module(
+    package: &str,
+    file: &str,
+    name: &str,
+    changes: &[(&str, &str)],
+    doors: &str,
+) -> String {
+    let copy = changed(&text(package, file), changes).unwrap_or_else(|error| {
         panic!("{package}/src/{file}: {error}");
     });
     let path = PathBuf::from(env("OUT_DIR")).join(format!("{name}.rs"));
     std::fs::write(&path, copy + doors).expect("the build folder takes files");
-    format!("#[path = {path:?}]\n#[allow(dead_code, unused_imports)]\nmod {name};\n")
+    format!("#[path = {path:?}]\n#[allow(dead_code, unused_imports)]\npub(crate) mod {name};\n")
 }
 
 /// The text with each change made. Each text to change occurs exactly once.
-pub fn counted(text: &str, changes: &[(&str, &str)]) -> Result<String, String> {
+pub fn changed(text: &str, changes: &[(&str, &str)]) -> Result<String, String> {
     let mut out = text.to_string();
     for (from, to) in changes {
         let found = text.matches(from).count();
@@ -99,9 +120,10 @@ pub fn same_definition(original: &str, shim: &str, name: &str) -> Result<(), Str
 
 /// Ends the build if the shim differs from the original in one of the names.
 pub fn require_same_definitions(package: &str, file: &str, names: &[&str]) {
-    println!("cargo:rerun-if-changed=src/lib.rs");
+    let path = format!("../{package}/src/lib.rs");
+    println!("cargo:rerun-if-changed={path}");
     let original = text(package, file);
-    let shim = std::fs::read_to_string("src/lib.rs").expect("the shim's lib.rs");
+    let shim = std::fs::read_to_string(path).expect("the shim's lib.rs");
     for name in names {
         if let Err(error) = same_definition(&original, &shim, name) {
             panic!("{package}/src/{file}: {error}");
@@ -110,9 +132,9 @@ pub fn require_same_definitions(package: &str, file: &str, names: &[&str]) {
 }
 
 /// Writes the module declarations that the shim's lib.rs includes.
-pub fn write_modules(modules: &str) {
+pub fn write_modules(package: &str, modules: &str) {
     println!("cargo:rerun-if-changed=../source.rs");
-    println!("cargo:rerun-if-changed=build.rs");
+    println!("cargo:rerun-if-changed=../{package}/build.rs");
     let path = PathBuf::from(env("OUT_DIR")).join("originals.rs");
     std::fs::write(path, modules).expect("the build folder takes files");
 }

@@ -1,12 +1,34 @@
-// Build script of the shim: compiles the original planner files where they
-// lie, checks the shim's constants against the originals, and makes the
-// counted copies of block.rs and fuse.rs that no plan is made with.
+// Build script of the shim: compiles the original planner files, with the changes
+// that document 02 asks for, checks the shim's constants against the originals, and
+// makes the counted copies of block.rs and fuse.rs that no plan is made with. The
+// package strided-unchanged runs it too, and gets the files without the changes.
 
 #[path = "../source.rs"]
 #[allow(dead_code)]
 mod source;
 
 const PACKAGE: &str = "strided-basic";
+
+/// Changes that document 02 asks for: the file, the text, and what stands for it.
+/// Ask 9: on equal weight the larger extent comes first; the sort is stable, so on
+/// equal extents the lower axis does.
+const ASKED_CHANGES: &[(&str, &str, &str)] = &[
+    (
+        "fuse.rs",
+        "pub fn sort_by_importance(importance: &[u64]) -> InlineVec<usize> {",
+        "pub fn sort_by_importance(importance: &[u64], dims: &[usize]) -> InlineVec<usize> {",
+    ),
+    (
+        "fuse.rs",
+        "indices.sort_by(|&a, &b| importance[b].cmp(&importance[a]));",
+        "indices.sort_by(|&a, &b| (importance[b], dims[b]).cmp(&(importance[a], dims[a])));",
+    ),
+    (
+        "order.rs",
+        "sort_by_importance(&importance)",
+        "sort_by_importance(&importance, dims)",
+    ),
+];
 
 /// Changes of the counted copy of block.rs: the text, and what stands for it.
 const BLOCK_CHANGES: &[(&str, &str)] = &[
@@ -141,11 +163,15 @@ fn main() {
         "raw_ops.rs",
         &["RAW_FUSED_RANK_LIMIT", "MAX_MOVING_AXES"],
     );
+    let unchanged = std::env::var("CARGO_PKG_NAME").as_deref() == Ok("strided-unchanged");
+    let asked = if unchanged { &[] } else { ASKED_CHANGES };
     let mut modules = String::new();
     for file in ["block.rs", "fuse.rs", "inline.rs", "kernel.rs", "order.rs"] {
-        modules += &source::module(PACKAGE, file);
+        let here = asked.iter().filter(|(changed, _, _)| *changed == file);
+        let changes: Vec<(&str, &str)> = here.map(|&(_, from, to)| (from, to)).collect();
+        modules += &source::changed_module(PACKAGE, file, &changes);
     }
     modules += &source::counted_module(PACKAGE, "block.rs", BLOCK_CHANGES, BLOCK_DOORS);
     modules += &source::counted_module(PACKAGE, "fuse.rs", FUSE_CHANGES, "");
-    source::write_modules(&modules);
+    source::write_modules(PACKAGE, &modules);
 }

@@ -5,12 +5,14 @@
 #[allow(dead_code)]
 mod source;
 
+const PACKAGE: &str = "strided-view";
+
 fn main() {
     source::require_same_definitions(
-        "strided-view",
+        PACKAGE,
         "lib.rs",
         &["INLINE_RANK", "StrideVec", "AxisVec", "Result<T>"],
     );
-    let modules = source::module("strided-view", "auxiliary.rs");
-    source::write_modules(&modules.replace("pub(crate) mod", "pub mod"));
+    let modules = source::module(PACKAGE, "auxiliary.rs");
+    source::write_modules(PACKAGE, &modules.replace("pub(crate) mod", "pub mod"));
 }

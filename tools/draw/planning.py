@@ -1,4 +1,4 @@
-"""Document 01's rules from a layout to the axes of its plan, and from a plan index back to the original one.
+"""The papers' rules from a layout to the axes of its plan, and from a plan index back to the original one.
 
 Ranks, weights, loop order and fusing are here. Block sizes are not: they are taken from walklist's lines A. Python's whole numbers are exact, so
 the 64-bit limits of the rules are written out.
@@ -57,9 +57,9 @@ def weights(layout):
 
 
 def loop_order(layout):
-    """The axes by falling weight, the lower axis first on ties; the first one is innermost."""
+    """The axes with weight falling, on equal weight extent falling, on equal extents the lower axis first (document 02, ask 9); the first is innermost."""
     by = weights(layout)
-    return sorted(range(layout.rank), key=lambda axis: (-by[axis], axis))
+    return sorted(range(layout.rank), key=lambda axis: (-by[axis], -layout.extents[axis], axis))
 
 
 def fusing_order(layout):

@@ -89,6 +89,14 @@ class Planning(unittest.TestCase):
                           (("L,F,2,1,0", "E,33,32", "O,8,32,1"), [(1056, [1])])):
             self.assertEqual([(axis.extent, axis.strides) for axis in plan_axes(layout_of(*text))], due)
 
+    def test_equal_weights(self):
+        for text, due in ((("L,P,4,1,-", "E,3,9,5,9", "O,8,2,2,1,-2"), [(5, [1]), (9, [2]), (9, [-2]), (3, [2])]),
+                          (("L,F,2,3,2", "E,4,257", "O,8,1,4", "O,8,257,1", "O,8,0,0"), [(257, [4, 1, 0]), (4, [1, 257, 0])]),
+                          (("L,F,2,3,2", "E,4,256", "O,8,1,4", "O,8,256,1", "O,8,0,0"), [(4, [1, 256, 0]), (256, [4, 1, 0])])):
+            self.assertEqual([(axis.extent, axis.strides) for axis in plan_axes(layout_of(*text))], due)
+        layout = layout_of("L,P,3,1,-", "E,2,1,600", "O,8,0,5,0")
+        self.assertEqual(original_index(layout, plan_axes(layout), [700]), (1, 0, 100))
+
     def test_an_extent_beyond_isize_joins_only_beside_zeros(self):
         wide = [PlanAxis(2**63, [1], [0]), PlanAxis(1, [-(2**63)], [1])]
         self.assertEqual([axis.extent for axis in fuse(wide)], [2**63, 1])

@@ -1,7 +1,8 @@
 -- What holds of the definitions of crate strided, whatever the code. A folder for each part of document 01; the main theorems:
 --   what a layout has that planning does not refuse, and back          Refusals/Accepted  accepted, accepted-back
 --   row 24: the test is the claim; an allowed record changes no other row  Refusals/Record  allowed-true, allowed-back, planning-as, planning-layout
---   the loop order and the order of fusing are permutations, sorted    Order/Permutation  fusing-permutes, loop-sorted
+--   the loop order and the order of fusing are permutations            Order/Permutation  fusing-permutes
+--   the loop order is the one that is sorted                           Order/Sorted       loop-order-is
 --   sums and products over axes do not depend on the order             Order/Folds        picked-fold
 --   the plan keeps the total                                           Fuse/Maps          plan-total
 --   the index maps stay in range, undo each other, keep the offsets    Fuse/Maps          plan-in, orig-in, orig-plan, plan-orig, same-dot

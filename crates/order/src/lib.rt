@@ -14,7 +14,7 @@ ghost use Rattle.auxiliary.specs.Fitting.{Fitting};
 // A layout with no more cells than this is walked as it is given: finding a better order would cost more than it gains.
 pub const SMALL_TENSOR_THRESHOLD: u64 = 1024;
 
-// The axes of a layout by falling weight, where the lead is the chosen operand, or operand 0 if none is.
+// The axes of a layout by falling weight, where the lead is the chosen operand, or operand 0 if none is; on equal weight the longer first.
 pub fn compute_order(
     extents: &[u64],
     strides: &[i64],
@@ -25,7 +25,7 @@ pub fn compute_order(
     ensures { λ r. ⌜ r ≡ padded 64 0 (loopOrder (now (extents .entry)) operands (now (strides .entry)) purpose) ⌝ }
 {
     let importance = compute_importance(extents, strides, operands, lead(purpose));
-    sort_by_importance(&importance, extents.len())
+    sort_by_importance(&importance, extents)
 }
 
 // The axes as they are given.

@@ -213,6 +213,15 @@ figures =
     ∷ refusedOn (machineOf 64 32768 4096 17) (2 ∷ []) (8 ∷ []) (whole (1 ∷ [])) Pointwise 24
     ∷ refusedOn (machineOf 64 32768 4096 0) (2 ∷ []) (8 ∷ []) (whole (1 ∷ [])) (Fold 1) 4
     ∷ refusedOn (machineOf 64 32768 4096 0) (2 ^ 32 ∷ 2 ^ 32 ∷ []) (1 ∷ []) (whole (0 ∷ 0 ∷ [])) Pointwise 24
+    -- 53 to 57: equal weights, from the words of ask 9. Axis 2 weighs most; the other three weigh the same, and of those of extent 9 the lower
+    -- comes first. Two operands that lie across each other, summed into one cell: the longer axis runs inside, but up to a total of 1,024 the
+    -- axes are as given. Where nothing moves, the axis of extent 1 comes last, the other two fuse, and the longer one is quickest
+    ∷ planIs (3 ∷ 9 ∷ 5 ∷ 9 ∷ []) (8 ∷ []) (pos 2 ∷ pos 2 ∷ pos 1 ∷ negsuc 1 ∷ []) Pointwise
+    (5 ∷ 9 ∷ 9 ∷ 3 ∷ []) (5 ∷ 9 ∷ 9 ∷ 3 ∷ []) (pos 1 ∷ pos 2 ∷ negsuc 1 ∷ pos 2 ∷ [])
+    ∷ planIs (4 ∷ 257 ∷ []) (8 ∷ 8 ∷ 8 ∷ []) (whole (1 ∷ 4 ∷ 257 ∷ 1 ∷ 0 ∷ 0 ∷ [])) (Fold 2) (257 ∷ 4 ∷ []) (257 ∷ 4 ∷ []) (whole (4 ∷ 1 ∷ []))
+    ∷ planIs (4 ∷ 256 ∷ []) (8 ∷ 8 ∷ 8 ∷ []) (whole (1 ∷ 4 ∷ 256 ∷ 1 ∷ 0 ∷ 0 ∷ [])) (Fold 2) (4 ∷ 256 ∷ []) (4 ∷ 256 ∷ []) (whole (1 ∷ 4 ∷ []))
+    ∷ planIs (2 ∷ 1 ∷ 600 ∷ []) (8 ∷ []) (whole (0 ∷ 5 ∷ 0 ∷ [])) Pointwise (1200 ∷ []) (1200 ∷ []) (whole (0 ∷ []))
+    ∷ indexIs (2 ∷ 1 ∷ 600 ∷ []) (8 ∷ []) (whole (0 ∷ 5 ∷ 0 ∷ [])) Pointwise (700 ∷ []) (1 ∷ 0 ∷ 100 ∷ [])
     ∷ []
 
 -- ---- what the definitions give

@@ -8,6 +8,7 @@ use port::{Flat, Strides};
 use std::fmt::Write as _;
 use strided_basic as original;
 use tools::answer::{lead_first, rows, Axes};
+use tools::branches::order_by_extent;
 use tools::generate::{any_stride, Random};
 use tools::layout::Layout;
 
@@ -180,10 +181,12 @@ fn with_any_strides(layout: &Layout, random: &mut Random) -> Layout {
     layout
 }
 
-/// Compares the layouts of each kind and tells how many.
+/// Compares the layouts of each kind and tells how many, and on how many of them
+/// the unchanged Rust has another loop order.
 pub fn compare(task: &Task, report: &mut String) -> Result<(), String> {
+    let mut others = 0;
     for &(name, kind) in &task.kinds {
-        let (mut refused, mut wide, mut any, mut wrong) = (0, 0, 0, 0);
+        let (mut refused, mut wide, mut any, mut wrong, mut other) = (0, 0, 0, 0, 0);
         task.layouts(kind, |turn, layout, random| {
             compare_layout(layout)?;
             if turn % ANY_STRIDES == 0 {
@@ -197,15 +200,22 @@ pub fn compare(task: &Task, report: &mut String) -> Result<(), String> {
             }
             refused += u64::from(layout.refusal().is_some());
             wide += u64::from(layout.extents.len() >= 60);
+            let ordered = !layout.refusal().is_some_and(|row| row < 5);
+            other += u64::from(ordered && caught(|| order_by_extent(layout))?);
             Ok(())
         })?;
         let count = task.count;
         writeln!(
             report,
             "{count:10}  {name}; {refused} refused, {wide} of rank 60 up; \
-             {any} with any strides, {wrong} with a wrong count of them"
+             {any} with any strides, {wrong} with a wrong count of them; \
+             {other} in another loop order than the unchanged Rust's"
         )
         .expect("a String takes all");
+        others += other;
+    }
+    if task.whole && others == 0 {
+        return Err("parts: the same, but every loop order is the unchanged Rust's".to_string());
     }
     Ok(())
 }

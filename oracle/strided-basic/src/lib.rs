@@ -1,6 +1,7 @@
-//! Shim of strided-basic: the original planner files behind a small public
-//! face. Only this file is a stand-in; the build fails if a constant here
-//! differs from the original's.
+//! Shim of strided-basic: the original planner files, with the changes that
+//! document 02 asks for, behind a small public face. Only this file is a
+//! stand-in; the build fails if a constant here differs from the original's. The
+//! package strided-unchanged is the same without the changes.
 
 include!(concat!(env!("OUT_DIR"), "/originals.rs"));
 

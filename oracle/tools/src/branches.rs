@@ -7,6 +7,7 @@ use crate::layout::{Layout, Purpose};
 use std::collections::BTreeSet;
 use strided_basic as original;
 use strided_basic::probe::{Event, Seen};
+use strided_unchanged as unchanged;
 
 /// Declares the branches with the names they are counted under.
 macro_rules! branches {
@@ -48,6 +49,8 @@ branches! {
     WidthOneCapped = "weights of width 1 with a cap",
     LeadMoved = "lead other than operand 0",
     OrderChanged = "loop order other than as given",
+    OrderByExtent = "loop order other than the unchanged Rust's",
+    SmallAsGiven = "total at most 1,024, where the loop order is another one",
     FuseBothZero = "fusing, both strides zero",
     FuseNegative = "fusing, a negative stride",
     FuseBrokenStride = "fusing broken by a stride",
@@ -171,6 +174,9 @@ pub fn study(layout: &Layout, steps: u64) -> Study {
     );
     let moved = axes.ordered_extents != layout.extents || axes.ordered_strides != layout.strides;
     note(Branch::OrderChanged, moved);
+    let other = order_by_extent(layout);
+    note(Branch::OrderByExtent, axes.large() && other);
+    note(Branch::SmallAsGiven, !axes.large() && other);
 
     let ordered = rows(&axes.ordered_strides);
     let (fused, seen) = original::probe::fuse(&axes.ordered_extents, &ordered);
@@ -214,6 +220,14 @@ pub fn study(layout: &Layout, steps: u64) -> Study {
         branches: found,
         plan: Some(plan),
     }
+}
+
+/// Whether the unchanged Rust has another loop order: extents decide between axes
+/// of equal weight, which it takes as they come.
+pub fn order_by_extent(layout: &Layout) -> bool {
+    let (extents, strides) = (&layout.extents, rows(&layout.strides));
+    original::compute_order(extents, &strides, layout.chosen)
+        != unchanged::compute_order(extents, &strides, layout.chosen)
 }
 
 /// The destination that blocks are fitted for, if they are.

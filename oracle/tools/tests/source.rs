@@ -33,7 +33,7 @@ fn definitions_that_differ_are_told() {
 
 #[test]
 fn a_change_has_exactly_one_place() {
-    assert_eq!(source::counted("a b c", &[("b", "x")]).unwrap(), "a x c");
-    assert!(source::counted("a b b", &[("b", "x")]).is_err());
-    assert!(source::counted("a b c", &[("d", "x")]).is_err());
+    assert_eq!(source::changed("a b c", &[("b", "x")]).unwrap(), "a x c");
+    assert!(source::changed("a b b", &[("b", "x")]).is_err());
+    assert!(source::changed("a b c", &[("d", "x")]).is_err());
 }

@@ -1,21 +1,26 @@
 -- `order::compute_order` meets its contract, by what its callees ensure: the weights read from the array are those of the list. Assumes nothing.
 use mathlib.Core.Path.{_≡_, _∙_, ap}
+use mathlib.Core.Bool.{_&&_, _||_}
 use mathlib.Core.List.{List}
 use Prim.Native.Nat.{ℕ, _≤_}
 use native.Mathlib.Omega.{arith}
+use lib.Dec.{ltb, leb, eqb}
 use lib.ListN.{length, getD}
 use borrow.Author.Needs.{needs}
 use Rattle.strided.specs.Base.{padded}
 use Rattle.strided.specs.Layout.{lead}
-use Rattle.strided.specs.Order.{orderTo, loopOrder}
+use Rattle.strided.specs.Order.{follows, orderTo, loopOrder}
 use Rattle.strided.specs.Weights.{weights}
 use Rattle.laws.specs.Base.Filling.{read-padded}
 use Rattle.laws.specs.Order.Tries.{weights-long}
 use Rattle.order.proofs.compute_order.Statement.{statement}
 use Rattle.order.proofs.compute_order.Tie as tie
 
-order-padded : (ws : List ℕ) (n : ℕ) → length ws ≤ 64 → orderTo (λ (i : ℕ). getD (padded 64 0 ws) i 0) n ≡ orderTo (λ (i : ℕ). getD ws i 0) n
-order-padded ws n h = λ j. orderTo (λ (i : ℕ). read-padded 64 0 ws h i j) n
+-- axes are compared by the array's weights as by the list's
+order-padded : (ws es : List ℕ) (n : ℕ) → length ws ≤ 64 → orderTo (follows (padded 64 0 ws) es) n ≡ orderTo (follows ws es) n
+order-padded ws es n h =
+    λ j. let w : ℕ → ℕ = λ i. read-padded 64 0 ws h i j in
+    orderTo (λ x y. ltb (w x) (w y) || (eqb (w x) (w y) && leb (getD es x 0) (getD es y 0))) n
 
 lead-requires : tie.Need-lead-requires
 lead-requires c κs = search needs
@@ -39,8 +44,8 @@ returns c =
     let w : i .compute-importance .result ≡ padded 64 0 ws =
     i .compute-importance .ensures ∙ ap (λ (k : ℕ). padded 64 0 (weights es (a .operands) (a .strides .now) k)) (l .lead .ensures) in
     c .sort-by-importance .ensures
-    ∙ ap (λ (v : List ℕ). padded 64 0 (orderTo (λ (i : ℕ). getD v i 0) (length es))) w
-    ∙ ap (padded 64 0) (order-padded ws (length es) long)
+    ∙ ap (λ (v : List ℕ). padded 64 0 (orderTo (follows v es) (length es))) w
+    ∙ ap (padded 64 0) (order-padded ws es (length es) long)
 
 pub compute-order-spec : {M : Type 1} → statement M
 compute-order-spec =
