@@ -2,6 +2,7 @@
 // Axes are named by an order, and operand k's stride on axis a stands at k * pitch + a: the pitch is the rank for a layout's own strides, 64
 // for a plan's. So a layout's axes are fused where they stand, and only the plan's strides are written.
 use layout::magnitude;
+use layout::sizes::least;
 ghost use mathlib.Core.Path.{_≡_};
 ghost use mathlib.Core.Bool.{_&&_};
 ghost use Prim.Native.Nat.{_+_, _-_, _*_, _/_, _^_, _<_, _≤_, min};
@@ -241,12 +242,6 @@ pub fn plan_axes(
 }
 
 // ---- costs
-
-fn least(a: u64, b: u64) -> u64
-    ensures { λ r. ⌜ r ≡ min a b ⌝ }
-{
-    if a < b { a } else { b }
-}
 
 // The least size of the strides of an axis.
 fn least_size(strides: &[i64; 512], operands: usize, axis: usize) -> u64

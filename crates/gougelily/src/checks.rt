@@ -3,9 +3,9 @@ ghost use mathlib.Core.Path.{_≡_};
 ghost use lib.IntN.{pos};
 ghost use Rattle.strided.specs.Refusals.{answered, layoutRefused};
 ghost use Rattle.strided.specs.Memory.{purposeOf, codeOr};
-use crate::purpose_of;
 use layout::check_layout;
 use layout::negated;
+use layout::purpose_of;
 use strided::Answer;
 
 // 0 if a layout can be planned for a purpose on an allowed machine: rows 1 to 7.

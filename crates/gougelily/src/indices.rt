@@ -1,10 +1,10 @@
 // Index finding from C.
 ghost use Rattle.strided.specs.Index.{toldOriginal, toldPlan};
 ghost use Rattle.strided.specs.Memory.{purposeOf, Tells};
-use crate::purpose_of;
 use finding::original_index;
 use finding::plan_index;
 use layout::negated;
+use layout::purpose_of;
 use strided::Answer;
 
 // The original index of a plan index.

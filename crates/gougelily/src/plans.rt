@@ -2,11 +2,11 @@
 ghost use Rattle.strided.specs.Machine.{machineOf};
 ghost use Rattle.strided.specs.Plan.{planned};
 ghost use Rattle.strided.specs.Memory.{purposeOf, Plans};
-use crate::purpose_of;
 use kernel::Aim;
 use kernel::plan_into;
 use layout::check_planning;
 use layout::negated;
+use layout::purpose_of;
 use strided::Answer;
 use strided::Machine;
 

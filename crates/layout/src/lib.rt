@@ -1,9 +1,9 @@
 // What a layout is refused for: rows 1 to 7 of the refusal table, with 24 among them where it is to be planned. Beside it what all later
-// crates read off a layout: the size of a stride, the total, the reach, the lead, and the number of a refusal.
+// crates read off a layout: the size of a stride, the total, the reach, the lead, the purpose, and the number of a refusal.
 ghost use mathlib.Core.Path.{_≡_};
 ghost use Rattle.strided.specs.Layout.{lead};
 ghost use Rattle.strided.specs.Refusals.{number, negated, refusedBy, answered, countRows, spanRows, layoutRefused, planningRefused};
-ghost use Rattle.strided.specs.Machine.{allowed};
+ghost use Rattle.strided.specs.Memory.{purposeOf};
 ghost use Rattle.layout.specs.Laid.{Laid};
 ghost use lib.ListN.{length};
 use strided::Answer;
@@ -68,6 +68,19 @@ pub fn lead(purpose: Purpose) -> u64
         Purpose::PointwiseInto(k) => k,
         Purpose::Fold(k) => k,
     }
+}
+
+// The purpose that two numbers tell: 0 for pointwise with no chosen operand, 1 for pointwise into the chosen one, any other for a fold by it.
+pub fn purpose_of(kind: u64, chosen: u64) -> Purpose
+    ensures { λ r. ⌜ r ≡ purposeOf kind chosen ⌝ }
+{
+    if kind == 0 {
+        return Purpose::Pointwise;
+    }
+    if kind == 1 {
+        return Purpose::PointwiseInto(chosen);
+    }
+    Purpose::Fold(chosen)
 }
 
 // Rows 1 to 4, the least number first. Row 3 multiplies counts that rows 1 and 2 let through.

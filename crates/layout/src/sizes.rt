@@ -46,6 +46,13 @@ pub fn add_cap(a: u64, b: u64, cap: u64) -> u64
     a + b
 }
 
+// The lesser of two numbers.
+pub fn least(a: u64, b: u64) -> u64
+    ensures { λ r. ⌜ r ≡ min a b ⌝ }
+{
+    if a < b { a } else { b }
+}
+
 // One less, and 0 of 0.
 pub fn less_one(e: u64) -> u64
     ensures { λ r. ⌜ r ≡ e - 1 ⌝ }

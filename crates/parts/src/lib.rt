@@ -27,6 +27,7 @@ use layout::check_counts;
 use layout::check_layout;
 use layout::lead;
 use layout::number;
+use layout::purpose_of;
 use order::compute_order;
 use order::fusing_order;
 use strided::Answer;
@@ -34,18 +35,6 @@ use strided::Purpose;
 
 pub mod plans;
 pub mod steps;
-
-fn purpose_of(kind: u64, chosen: u64) -> Purpose
-    ensures { λ r. ⌜ r ≡ purposeOf kind chosen ⌝ }
-{
-    if kind == 0 {
-        return Purpose::Pointwise;
-    }
-    if kind == 1 {
-        return Purpose::PointwiseInto(chosen);
-    }
-    Purpose::Fold(chosen)
-}
 
 // Rows 1 to 7.
 #[no_mangle]

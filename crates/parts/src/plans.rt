@@ -4,9 +4,9 @@ ghost use Rattle.strided.specs.Refusals.{planningRefused};
 ghost use Rattle.strided.specs.Plan.{planned};
 ghost use Rattle.strided.specs.Memory.{planMemory, purposeOf};
 ghost use Rattle.parts.specs.Answers.{Part};
-use crate::purpose_of;
 use kernel::plan;
 use layout::number;
+use layout::purpose_of;
 use strided::Answer;
 use strided::Machine;
 

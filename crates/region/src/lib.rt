@@ -1,6 +1,8 @@
 // The memory region of a tile: an estimate of the bytes that it touches, in whole cache lines of a machine. Strides below a line fill
 // contiguous lines, larger ones multiply them. Numbers above twice the machine's cache are not told apart: no limit that regions are held
 // against is greater.
+use layout::sizes::least;
+use layout::sizes::less_one;
 use strided::Machine;
 ghost use mathlib.Core.Path.{_≡_};
 ghost use Prim.Native.Nat.{_+_, _-_, _*_, _/_, _<_, _≤_, min};
@@ -16,12 +18,6 @@ pub struct Tail {
     pub rank: usize,
 }
 
-fn least(a: u64, b: u64) -> u64
-    ensures { λ r. ⌜ r ≡ min a b ⌝ }
-{
-    if a < b { a } else { b }
-}
-
 // A sum and a product, saturated at `top`, which is at most 2,097,153: one above twice the largest cache.
 pub fn sat_add(a: u64, b: u64, top: u64) -> u64
     requires { ⌜ top ≤ 2097153 ⌝ }
@@ -35,12 +31,6 @@ pub fn sat_mul(a: u64, b: u64, top: u64) -> u64
     ensures { λ r. ⌜ r ≡ min (a * b) top ⌝ }
 {
     least(least(a, top) * least(b, top), top)
-}
-
-pub fn less_one(b: u64) -> u64
-    ensures { λ r. ⌜ r ≡ b - 1 ⌝ }
-{
-    if b == 0 { 0 } else { b - 1 }
 }
 
 // What an axis whose byte stride s is below a line adds to C. A block that is cut here is above every limit already; the sum of 64 such

@@ -1,7 +1,7 @@
 // The blocks of a tail shortened until their region fits the cache: halving, then single steps of 1, most of which are one jump. The block
 // to shorten is the one with the greatest score.
+use layout::sizes::less_one;
 use region::Tail;
-use region::less_one;
 use region::memory_region;
 use strided::Machine;
 ghost use mathlib.Core.Path.{_≡_};

@@ -1,7 +1,7 @@
--- `gougelily::purpose_of` meets its contract. Assumes nothing.
+-- `layout::purpose_of` meets its contract. Assumes nothing.
 use borrow.Author.Tests.{eq-eqb, ne-eqb}
-use Rattle.gougelily.proofs.purpose_of.Statement.{statement}
-use Rattle.gougelily.proofs.purpose_of.Tie as tie
+use Rattle.layout.proofs.purpose_of.Statement.{statement}
+use Rattle.layout.proofs.purpose_of.Tie as tie
 
 returns : tie.Need-returns
 returns c = simp (eq-eqb _ _ (c .if1 .taken))
