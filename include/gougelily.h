@@ -21,8 +21,9 @@
  * (to no element it may be NULL), and memory that a call writes is no part of
  * another argument.
  *
- * No function keeps anything between calls, or allocates. walklist takes some
- * 32 KB of stack and planning 23, the others less.
+ * No function keeps anything between calls, or allocates. Planning takes 9 to
+ * 15 KB of stack, and up to 125 where some 50 axes are kept whole one after
+ * another; walklist some 30, up to 70; the others less than 12.
  */
 #ifndef GOUGELILY_H
 #define GOUGELILY_H
