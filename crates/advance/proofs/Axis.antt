@@ -4,7 +4,7 @@ use mathlib.Core.Path.{_≡_, refl, sym, ap, subst, _∙_}
 use mathlib.Core.List.{List}
 use mathlib.Core.Bool.{Bool, true, false, cond}
 use Prim.Native.Nat.{ℕ, _+_, _-_, _*_, _/_, _%_, _≤_, _<_}
-use native.Mathlib.Nat.{lt-of-le-of-lt, div-mul-le-self, div-add-mod', add-div-right, mul-div-cancel, zero-div, zero-mul}
+use native.Mathlib.Nat.{lt-of-le-of-lt, div-mul-le-self, div-add-mod', mod-lt, add-div-right, add-mul-div-right, mul-div-cancel, div-eq-of-lt, div-one, mul-one, zero-div, zero-mul}
 use native.Mathlib.Omega.{arith}
 use lib.Arith.{digits-div}
 use lib.ListN.{getD}
@@ -25,16 +25,29 @@ by-test P false x y p q = q refl
 pub start-start : (w at : ℕ) → 0 < w → startOf w (startOf w at) ≡ startOf w at
 start-start w at h = ap (λ (q : ℕ). q * w) (mul-div-cancel (at / w) h)
 
-start-zero : (w : ℕ) → startOf w 0 ≡ 0
+pub start-zero : (w : ℕ) → startOf w 0 ≡ 0
 start-zero w = ap (λ (q : ℕ). q * w) (zero-div w) ∙ zero-mul w
 
--- one ahead, in the same tile
-start-next : (w at : ℕ) → at - startOf w at < w - 1 → startOf w (at + 1) ≡ startOf w at
-start-next w at h =
+-- tiles of 1; and an axis of one tile
+pub start-one : (at : ℕ) → startOf 1 at ≡ at
+start-one at = ap (λ (q : ℕ). q * 1) (div-one at) ∙ mul-one at
+
+pub start-whole : (w at : ℕ) → at < w → startOf w at ≡ 0
+start-whole w at h = ap (λ (q : ℕ). q * w) (div-eq-of-lt h) ∙ zero-mul w
+
+-- j ahead, in the same tile
+pub start-on : (w at j : ℕ) → 0 < w → j < w - (at - startOf w at) → startOf w (at + j) ≡ startOf w at
+start-on w at j p h =
     let e = div-add-mod' at w in
-    let r : at % w + 1 < w = omega (arith, e, h) in
-    let q : at + 1 ≡ at / w * w + (at % w + 1) = omega (arith, e) in
+    let l = mod-lt at p in
+    let r : at % w + j < w = omega (arith, e, h, l) in
+    let q : at + j ≡ at / w * w + (at % w + j) = omega (arith, e) in
     ap (λ (x : ℕ). x * w) (ap (λ (x : ℕ). x / w) q ∙ digits-div (at / w) r)
+
+-- j tiles ahead, from the start of one
+pub start-tiles : (w at j : ℕ) → 0 < w → at ≡ startOf w at → startOf w (at + j * w) ≡ at + j * w
+start-tiles w at j p h =
+    ap (λ (x : ℕ). x * w) (add-mul-div-right at j p) ∙ (let g : (at / w + j) * w ≡ at + j * w = omega (arith, h) in g)
 
 -- the next tile
 start-tile : (w at : ℕ) → 0 < w → startOf w (startOf w at + w) ≡ startOf w at + w
@@ -58,7 +71,7 @@ module _ (extent w at : ℕ) (pos : 0 < w) (h : at < extent) where
   inside-lands =
       by-test (Lands extent w) (ltb (at - startOf w at) (w - 1)) (cond (ltb at (extent - 1)) (ahead (at + 1) (startOf w at)) (back (startOf w at))) (back (startOf w at))
       (λ u. by-test (Lands extent w) (ltb at (extent - 1)) (ahead (at + 1) (startOf w at)) (back (startOf w at))
-      (λ v. record { below = omega (arith, ltb-true at (extent - 1) v); start = sym (start-next w at (ltb-true (at - startOf w at) (w - 1) u)) })
+      (λ v. record { below = omega (arith, ltb-true at (extent - 1) v); start = sym (start-on w at 1 pos (let l = ltb-true (at - startOf w at) (w - 1) u in omega (arith, l))) })
       (λ v. back-lands))
       (λ u. back-lands)
 

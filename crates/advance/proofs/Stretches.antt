@@ -190,14 +190,14 @@ module _ {rank operands axis by : ℕ} {e w : List ℕ} {s d : List ℤ} {t c : 
     on-first : axis ≡ 0 → Advanced
     on-first i =
         let z : ltb 0 axis ≡ false = le-ltb 0 axis (omega (arith, i)) in
-        tile-done {inner = 1} (record { most = omega (arith, there); one = y .along .alone i }) (r .counted) (r .axes)
+        tile-done {inner = 1} (record { most = omega (arith, there); one = y .along .alone i })
         (ends true 1 1 rank operands e w s c o 1 t c o (begins true 1 1 rank operands e w s c o t r q) (omega arith))
         refl (subst (Moved false) i (carried false z))
 
     on-second : axis ≡ 1 → Advanced
     on-second i =
         let z : ltb 0 axis ≡ true = lt-ltb 0 axis (omega (arith, i)) in
-        inside-done (single-all rank w) (r .counted) (r .axes) (subst (Moved true) i (carried true z)) refl
+        inside-done (single-all rank w) (subst (Moved true) i (carried true z)) refl
 
     advanced : Advanced
     advanced = by-lt 0 axis (λ g. on-second (omega (arith, g, y .along .most))) (λ g. on-first (omega (arith, g)))

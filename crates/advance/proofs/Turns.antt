@@ -1,26 +1,25 @@
 -- Laws of a carry: what holds before each turn of its loop, and what a turn and the end make of it.
 -- Assumes nothing.
-use mathlib.Core.Path.{_≡_, refl, sym, ap, _∙_, subst}
+use mathlib.Core.Path.{_≡_, refl, sym, ap, ap₂, _∙_, subst}
 use mathlib.Core.Bool.{Bool, true, false, cond}
 use mathlib.Core.List.{List}
-use Prim.Native.Nat.{ℕ, zero, suc, _+_, _-_, _*_, _≤_, _<_}
-use native.Mathlib.Nat.{div-one, mul-one}
+use Prim.Native.Nat.{ℕ, zero, suc, _+_, _-_, _≤_, _<_}
 use native.Mathlib.Numerals.{add-one}
 use native.Mathlib.Omega.{arith}
 use lib.IntN.{ℤ, pos}
 use lib.ListN.{length, getD, set, length-set}
-use lib.Seq.{getD-set-same, getD-set-other}
+use lib.Seq.{getD-set-same, getD-set-other, set-getD}
 use borrow.Author.Tests.{le-ltb}
 use Rattle.advance.specs.declared.Aim.{Aim}
 use Rattle.advance.specs.Axis.{startOf, back, insideAim, aimOf}
 use Rattle.advance.specs.Moves.{shifted, movedAt, Shifts}
 use Rattle.advance.specs.Carry.{Carried, carryOf, startAt, nextOf, Roomy, Tiled, Single, CarriedTo, AdvancedTo}
-use Rattle.advance.specs.Filled.{by-lt, set-self, filled-above}
-use Rattle.advance.proofs.Axis.{Lands, aim-lands}
+use Rattle.advance.specs.Filled.{by-lt, filled-above}
+use Rattle.advance.proofs.Axis.{start-one, Lands, aim-lands}
 use Rattle.advance.proofs.Dot.{roomy-shifts, roomy-moved, start-stays}
 
 -- a counter and its tile's start are set together
-tiled-set : (rank : ℕ) (w c t : List ℕ) → length c ≡ 64 → rank ≤ 64 → Tiled rank w c t → (i v s : ℕ) → i < rank → s ≡ startOf (getD w i 0) v → Tiled rank w (set c i v) (set t i s)
+pub tiled-set : (rank : ℕ) (w c t : List ℕ) → length c ≡ 64 → rank ≤ 64 → Tiled rank w c t → (i v s : ℕ) → i < rank → s ≡ startOf (getD w i 0) v → Tiled rank w (set c i v) (set t i s)
 tiled-set rank w c t lc a p i v s h e =
     record {
       placed = length-set t i s ∙ p .placed;
@@ -146,48 +145,54 @@ single-more n rank w s h e =
       one = λ i p q. by-lt i n (λ l. subst (λ (j : ℕ). getD w j 0 ≡ 1) (let g : n - 1 ≡ i = omega arith in g) e) (λ l. s .one i l q);
     }
 
-still-aim : (extent at : ℕ) → aimOf true extent 1 at ≡ back at
+pub still-aim : (extent at : ℕ) → aimOf true extent 1 at ≡ back at
 unfolding aimOf insideAim
-still-aim extent at =
-    let e : startOf 1 at ≡ at = ap (λ (q : ℕ). q * 1) (div-one at) ∙ mul-one at in
-    rw (e, le-ltb (at - at) (1 - 1) (omega arith))
+still-aim extent at = rw (start-one at, le-ltb (at - at) (1 - 1) (omega arith))
+
+-- a carry passes over axes that aim at where they are
+pub passed : (inside : Bool) (e w : List ℕ) (m n i : ℕ) (c : List ℕ) → ((j : ℕ) → i ≤ j → j < i + m → aimOf inside (getD e j 0) (getD w j 0) (getD c j 0) ≡ back (getD c j 0))
+    → carryOf inside e w (m + n) i c ≡ carryOf inside e w n (i + m) c
+unfolding carryOf
+passed inside e w zero n i c h = let a : 0 + n ≡ n = omega arith in let b : i ≡ i + 0 = omega arith in ap₂ (λ (x y : ℕ). carryOf inside e w x y c) a b
+passed inside e w (suc m) n i c h =
+    let z : suc m + n ≡ suc (m + n) = omega arith in
+    let b : suc i + m ≡ i + suc m = omega arith in
+    rw (z, h i (omega arith) (omega arith), set-getD c i 0)
+    (passed inside e w m n (suc i) c (λ j p q. h j (omega arith) (omega arith)) ∙ ap (λ (x : ℕ). carryOf inside e w n x c) b)
 
 module _ (e w : List ℕ) where
-  still : (n i : ℕ) (c : List ℕ) → ((j : ℕ) → i ≤ j → j < i + n → getD w j 0 ≡ 1) → i + n ≤ length c → carryOf true e w n i c ≡ record { more = false; counters = c }
-  unfolding carryOf
-  still zero i c h l = refl
-  still (suc n) i c h l =
-      let a : aimOf true (getD e i 0) (getD w i 0) (getD c i 0) ≡ back (getD c i 0) =
-      ap (λ (v : ℕ). aimOf true (getD e i 0) v (getD c i 0)) (h i (omega arith) (omega arith)) ∙ still-aim (getD e i 0) (getD c i 0) in
-      rw (a, set-self 0 c i (omega arith)) (still n (suc i) c (λ j p q. h j (omega arith) (omega arith)) (omega arith))
+  -- inside a tile, over axes whose blocks are 1
+  pub passed-single : (m n i : ℕ) (c : List ℕ) → ((j : ℕ) → i ≤ j → j < i + m → getD w j 0 ≡ 1) → carryOf true e w (m + n) i c ≡ carryOf true e w n (i + m) c
+  passed-single m n i c h =
+      passed true e w m n i c (λ j p q. ap (λ (v : ℕ). aimOf true (getD e j 0) v (getD c j 0)) (h j p q) ∙ still-aim (getD e j 0) (getD c j 0))
 
-  inner-only : (m n i : ℕ) (c : List ℕ) → ((j : ℕ) → i + m ≤ j → j < i + m + n → getD w j 0 ≡ 1) → i + m + n ≤ length c → carryOf true e w m i c ≡ carryOf true e w (m + n) i c
+  pub inner-only : (m n i : ℕ) (c : List ℕ) → ((j : ℕ) → i + m ≤ j → j < i + m + n → getD w j 0 ≡ 1) → carryOf true e w m i c ≡ carryOf true e w (m + n) i c
   unfolding carryOf
-  inner-only zero n i c h l =
-      let z : 0 + n ≡ n = omega arith in
-      sym (ap (λ (k : ℕ). carryOf true e w k i c) z ∙ still n i c (λ j p q. h j (omega arith) (omega arith)) (omega arith))
-  inner-only (suc m) n i c h l =
+  inner-only zero n i c h =
+      let z : 0 + n ≡ n + 0 = omega arith in
+      sym (ap (λ (k : ℕ). carryOf true e w k i c) z ∙ passed-single n 0 i c (λ j p q. h j (omega arith) (omega arith)))
+  inner-only (suc m) n i c h =
       let z : suc m + n ≡ suc (m + n) = omega arith in
       let a : Aim = aimOf true (getD e i 0) (getD w i 0) (getD c i 0) in
       rw z (ap (λ (r : Carried). cond (a .more) (record { more = true; counters = set c i (a .to) }) r)
-      (inner-only m n (suc i) (set c i (a .to)) (λ j p q. h j (omega arith) (omega arith)) (subst (λ (k : ℕ). suc i + m + n ≤ k) (sym (length-set c i (a .to))) (omega arith))))
+      (inner-only m n (suc i) (set c i (a .to)) (λ j p q. h j (omega arith) (omega arith))))
 
   -- a carry inside a tile over the axes before n is one over all
-  inner-all : (n rank : ℕ) (c : List ℕ) → Single n rank w → rank ≤ length c → carryOf true e w (n - 1) 1 c ≡ carryOf true e w (rank - 1) 1 c
-  inner-all n zero c s l = let z : n - 1 ≡ 0 - 1 = omega (arith, s .most) in ap (λ (k : ℕ). carryOf true e w k 1 c) z
-  inner-all n (suc rank) c s l =
+  inner-all : (n rank : ℕ) (c : List ℕ) → Single n rank w → carryOf true e w (n - 1) 1 c ≡ carryOf true e w (rank - 1) 1 c
+  inner-all n zero c s = let z : n - 1 ≡ 0 - 1 = omega (arith, s .most) in ap (λ (k : ℕ). carryOf true e w k 1 c) z
+  inner-all n (suc rank) c s =
       let z : (n - 1) + (suc rank - 1 - (n - 1)) ≡ suc rank - 1 = omega (arith, s .most) in
-      inner-only (n - 1) (suc rank - 1 - (n - 1)) 1 c (λ j p q. s .one j (omega arith) (omega (arith, s .most))) (omega (arith, s .most))
+      inner-only (n - 1) (suc rank - 1 - (n - 1)) 1 c (λ j p q. s .one j (omega arith) (omega (arith, s .most)))
       ∙ ap (λ (k : ℕ). carryOf true e w k 1 c) z
 
 -- ---- the next block
 
-module _ {rank operands : ℕ} {e w : List ℕ} {s : List ℤ} {c : List ℕ} {o : List ℤ} {m : Bool} {t′ c′ : List ℕ} {o′ : List ℤ} {inner : ℕ} (u : Single inner rank w) (l : length c ≡ 64) (few : rank ≤ 64) (p : CarriedTo true 1 inner rank operands e w s c o m t′ c′ o′) where
+module _ {rank operands : ℕ} {e w : List ℕ} {s : List ℤ} {c : List ℕ} {o : List ℤ} {m : Bool} {t′ c′ : List ℕ} {o′ : List ℤ} {inner : ℕ} (u : Single inner rank w) (p : CarriedTo true 1 inner rank operands e w s c o m t′ c′ o′) where
   abbrev X : Carried
   X = carryOf true e w (rank - 1) 1 c
 
   all : carryOf true e w (inner - 1) 1 c ≡ X
-  all = inner-all e w inner rank c u (omega (arith, l, few))
+  all = inner-all e w inner rank c u
 
   answer : m ≡ X .more
   answer = p .answer ∙ ap (λ (x : Carried). x .more) all

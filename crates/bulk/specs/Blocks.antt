@@ -2,9 +2,10 @@
 -- Assumes nothing.
 use mathlib.Core.Path.{_≡_}
 use mathlib.Core.List.{List}
-use Prim.Native.Nat.{ℕ, _*_, _≤_}
+use Prim.Native.Nat.{ℕ, _+_, _*_, _^_, _≤_, _<_}
 use lib.IntN.{ℤ}
-use lib.ListN.{length}
+use lib.ListN.{length, take}
+use Rattle.strided.specs.Base.{over, run}
 use Rattle.strided.specs.Begin.{noWalk}
 use Rattle.strided.specs.Bulk.{nextBlocks, lengthsOf, offsetsOf, laidOn, severalOf}
 use Rattle.strided.specs.declared.Refusal.{Refusal}
@@ -12,6 +13,7 @@ use Rattle.strided.specs.declared.Outcome.the-variants.{Block, Rejected}
 use Rattle.strided.specs.declared.Plan.{Plan}
 use Rattle.strided.specs.declared.Walk.{Walk}
 use Rattle.strided.specs.declared.Several.{Several}
+use Rattle.walker.specs.Stretch.{movedOn, RowsFit}
 
 -- "A refusal carries its number and nothing else."
 abbrev pub notSeveral : Refusal → Several
@@ -31,3 +33,17 @@ pub record Wrote (n : ℕ) (p : Plan) (w : Walk) (ls : List ℕ) (os : List ℤ)
   pub several : r ≡ severalOf p w (nextBlocks n p w)
   pub lengths : ls′ ≡ laidOn (lengthsOf (nextBlocks n p w)) ls
   pub offsets : os′ ≡ laidOn (offsetsOf (p .operands) (nextBlocks n p w)) os
+
+-- the offsets of n blocks of a stretch, from those in `o` on by the moves `d`
+abbrev pub rowAt : ℕ → List ℤ → List ℤ → ℕ → List ℤ
+rowAt operands d o j = movedOn j (take operands o) (take operands d)
+
+abbrev pub rowsFor : ℕ → ℕ → List ℤ → List ℤ → List ℤ
+rowsFor n operands d o = over (run 0 n) (rowAt operands d o)
+
+-- what writing them asks, from block `at` of a slice on
+pub record MayPut (n operands at : ℕ) (d o os : List ℤ) : Type 0 where
+  pub some : 1 ≤ n
+  pub small : at + n < 2 ^ 64
+  pub room : (at + n) * operands ≤ length os
+  pub rows : RowsFit n operands d o

@@ -1,24 +1,17 @@
 // Many steps of a walk in one call, for hosts that pay for every call: row 10 is checked once, and the next blocks are written as numbers.
 ghost use mathlib.Core.Path.{_≡_};
 ghost use mathlib.Core.Bool.{false};
-ghost use Prim.Native.Nat.{ℕ, _+_, _≤_, _<_};
+ghost use Prim.Native.Nat.{ℕ, _+_, _*_, _≤_, _<_};
 ghost use lib.IntN.{pos};
-ghost use lib.ListN.{length, getD};
+ghost use lib.ListN.{length, getD, replicate};
 ghost use lib.Seq.{paste};
 ghost use mir.Syntax.{w64};
 ghost use mir.Val.{SFits};
-ghost use Rattle.advance.specs.Stretch.{addedAt, added};
 ghost use Rattle.strided.specs.Bulk.{roomFor, SteppedMany, steppedMany};
 ghost use Rattle.strided.specs.Memory.{planOf, walkOf};
 ghost use Rattle.walk.specs.Lent.{Taken};
-ghost use Rattle.bulk.specs.Blocks.{notSeveral, handed, HasRoom, Wrote};
-use advance::advance;
-use advance::inner_axes;
-use advance::length_of;
-use advance::stretch::ahead;
-use advance::stretch::along;
-use advance::stretch::moves;
-use advance::stretch::pace;
+ghost use Rattle.walker.specs.Way.{added, MayMove};
+ghost use Rattle.bulk.specs.Blocks.{notSeveral, handed, HasRoom, Wrote, rowsFor, MayPut};
 use advance::tile_starts;
 use advance::widths;
 use strided::Outcome;
@@ -27,6 +20,9 @@ use strided::Refusal;
 use strided::Several;
 use strided::Walk;
 use walk::answer_of;
+use walker::moves_of;
+use walker::next_stretch;
+use walker::way_of;
 
 // "A refusal carries its number and nothing else."
 fn rejected(refusal: Refusal) -> Several
@@ -80,7 +76,8 @@ fn put_moving<'a>(
     o: &mut [i64; 8],
     offsets: &mut [i64],
 )
-    requires { ⌜ (operands ≤ 8) × (length (now d) ≡ 8) × (length (now o) ≡ 8) × (at + operands ≤ length (now offsets)) × ((k : ℕ) → k < operands → SFits w64 (addedAt (now d) (now o) k)) ⌝ }
+    requires { ⌜ MayMove operands (now d) (now o) ⌝ }
+    requires { ⌜ at + operands ≤ length (now offsets) ⌝ }
     ensures { λ _. ⌜ (now (offsets .exit) ≡ paste (now (offsets .entry)) at (now (o .entry)) operands) × (now (o .exit) ≡ added operands (now (d .entry)) (now (o .entry))) ⌝ }
 {
     let mut k = 0;
@@ -104,7 +101,40 @@ fn put_staying(operands: usize, at: usize, o: &mut [i64; 8], offsets: &mut [i64]
     put_moving(operands, at, &still, &mut *o, &mut *offsets);
 }
 
-// Writes the next blocks, at most `room`, from a state that runs. It checks nothing.
+// The length of `count` blocks, from place `at` on.
+fn put_lengths(count: usize, at: usize, size: u64, lengths: &mut [u64])
+    requires { ⌜ at + count ≤ length (now lengths) ⌝ }
+    ensures { λ _. ⌜ now (lengths .exit) ≡ paste (now (lengths .entry)) at (replicate count size) count ⌝ }
+{
+    let mut j: usize = 0;
+    while j < count {
+        lengths[at + j] = size;
+        j += 1;
+    }
+}
+
+// The offsets of `count` blocks, from block `at` on: those of the first stand in `o`, and each moves on by its place of `d`.
+fn put_rows<'a>(
+    count: usize,
+    operands: usize,
+    at: usize,
+    d: &'a [i64; 8],
+    o: &mut [i64; 8],
+    offsets: &mut [i64],
+)
+    requires { ⌜ MayPut count operands at (now d) (now o) (now offsets) ⌝ }
+    ensures { λ _. ⌜ now (offsets .exit) ≡ paste (now (offsets .entry)) (at * operands) (rowsFor count operands (now (d .entry)) (now (o .entry))) (count * operands) ⌝ }
+{
+    let last = count - 1;
+    let mut j: usize = 0;
+    while j < last {
+        put_moving(operands, (at + j) * operands, d, &mut *o, &mut *offsets);
+        j += 1;
+    }
+    put_staying(operands, (at + last) * operands, &mut *o, &mut *offsets);
+}
+
+// Writes the next blocks, at most `room`, from a state that runs, stretch by stretch. It checks nothing.
 fn put_blocks<'a>(
     room: usize,
     rank: usize,
@@ -122,28 +152,32 @@ fn put_blocks<'a>(
     ensures { λ r. ⌜ Wrote room (planOf rank operands (now (e .entry)) (now (b .entry)) (now (s .entry))) (walkOf false counters start) (now (lengths .entry)) (now (offsets .entry)) r (now (lengths .exit)) (now (offsets .exit)) ⌝ }
 {
     let w = widths(rank, e, b);
-    let inner = inner_axes(rank, &w);
-    let axis = along(inner);
-    let by = pace(axis, rank, e, &w);
-    let d = moves(operands, axis, by, s);
+    let y = way_of(rank, operands, e, &w);
+    let d = moves_of(y, s);
     let mut c = counters;
     let mut o = start;
+    let mut first = start;
     let mut t = tile_starts(rank, &w, &c);
     let mut n: usize = 0;
     while n < room {
-        let length = length_of(rank, e, &w, &c);
-        lengths[n] = length;
-        let near = ahead(axis, by, e, &w, &mut t, &mut c);
-        if near {
-            put_moving(operands, n * operands, &d, &mut o, &mut *offsets);
-            n += 1;
-        } else {
-            put_staying(operands, n * operands, &mut o, &mut *offsets);
-            n += 1;
-            let more = advance(rank, inner, operands, e, &w, s, &mut t, &mut c, &mut o);
-            if !more {
-                return blocks_written(n, true, c, o);
-            }
+        let x = next_stretch(
+            y,
+            (room - n) as u64,
+            e,
+            &w,
+            s,
+            &mut t,
+            &mut c,
+            &mut o,
+            &mut first,
+        );
+        let count = x.count as usize;
+        put_lengths(count, n, x.length, &mut *lengths);
+        put_rows(count, operands, n, &d, &mut first, &mut *offsets);
+        n += count;
+        let more = x.more;
+        if !more {
+            return blocks_written(n, true, c, o);
         }
     }
     blocks_written(n, false, c, o)

@@ -12,3 +12,4 @@ pub mod Steps
 pub mod Row9
 pub mod Row10
 pub mod Bulk
+pub mod Placed

@@ -2,9 +2,9 @@
 -- Assumes nothing.
 use mathlib.Core.Path.{_≡_, refl, sym, ap, ap₂, _∙_, subst}
 use mathlib.Core.Bool.{Bool, true, false, cond, _&&_, not, false≢true}
-use mathlib.Core.List.{List}
+use mathlib.Core.List.{List, []}
 use mathlib.Core.Option.{Option, none, some}
-use Prim.Native.Nat.{ℕ, _≤_, _<_}
+use Prim.Native.Nat.{ℕ, _+_, _≤_, _<_}
 use native.Mathlib.Omega.{arith}
 use lib.Dec.{ltb, eqb}
 use lib.IntN.{ℤ, pos}
@@ -14,18 +14,22 @@ use Rattle.strided.specs.Base.{padded}
 use Rattle.strided.specs.Refusals.{refusedBy, row1, row2}
 use Rattle.strided.specs.Walk.{lengthAt, runStrides}
 use Rattle.strided.specs.Begin.{planExtents, planRows, beginRefused, begunAt}
-use Rattle.strided.specs.Step.{planCutAxes, unpacked, packed, reachable, mayBegin, tidy, step, stepRunning, over, refused, handedOut, notStepped, stepRows, stepped}
+use Rattle.strided.specs.Step.{planCutAxes, unpacked, packed, reachable, mayBegin, tidy, step, stepRunning, over, refused, handedOut, notStepped, stepRows, stepped, walkAfter}
+use Rattle.strided.specs.Bulk.{nextBlocks}
 use Rattle.strided.specs.Memory.{walkOf}
 use Rattle.strided.specs.declared.Refusal.the-variants.{Rank, Operands, State}
-use Rattle.strided.specs.declared.Outcome.the-variants.{Block, Rejected}
+use Rattle.strided.specs.declared.Answer.the-variants.{Served}
+use Rattle.strided.specs.declared.Outcome.the-variants.{Block, Ended, Rejected}
 use Rattle.strided.specs.declared.Plan.{Plan}
 use Rattle.strided.specs.declared.Walk.{Walk}
 use Rattle.strided.specs.declared.Stepped.{Stepped}
+use Rattle.laws.specs.Base.Arrays.{length-padded}
 use Rattle.laws.specs.Base.Refusals.{NoneApplies, none-applies}
 use Rattle.laws.specs.Base.Tests.{and-both, or-none}
-use Rattle.laws.specs.Walk.States.{stateAfter}
+use Rattle.laws.specs.Walk.States.{stateAfter, begin}
 use Rattle.laws.specs.Walk.Row10.{Sized, row10-exact}
-use Rattle.laws.specs.Walk.Steps.{Ready, ready, served-walk, at, step-at, walk-state}
+use Rattle.laws.specs.Walk.Bulk.{walk-more, blocks-none}
+use Rattle.laws.specs.Walk.Steps.{Ready, ready, none-of, served-walk, at, raw, begun-walk, step-at, walk-state}
 use Rattle.advance.specs.Axis.{widthsTo, startOf, startsTo}
 use Rattle.advance.specs.Carry.{Roomy, Tiled, AdvancedTo}
 use Rattle.advance.specs.Blocks.{lengthOf, firstsOf}
@@ -115,6 +119,22 @@ module _ (p : Plan) (w : Walk) where
 
 -- ---- a state that is taken
 
+-- the beginning of a walk
+pub begun-taken : (p : Plan) (zs : List ℤ) → Ready p zs → plans.Sized p → Taken p (begunAt p zs .walk)
+unfolding begunAt
+begun-taken p zs r z =
+    let e = begun-walk p zs r in
+    let served : begunAt p zs .answer ≡ Served = rw (none-of (beginRefused p zs) (r .may)) in
+    record {
+      extents-all = z .extents-all;
+      blocks-all = z .blocks-all;
+      strides-all = z .strides-all;
+      counters-all = ap (λ (v : Walk). length (v .counters)) e ∙ length-padded {A = ℕ} 0 64 (at p zs r (begin (planCutAxes p)) .counters);
+      offsets-all = ap (λ (v : Walk). length (v .offsets)) e ∙ length-padded {A = ℤ} (pos 0) 8 (at p zs r (begin (planCutAxes p)) .offsets);
+      rows = r .taken;
+      reached = record { starts = zs; begins = served; steps = 0; comes = refl };
+    }
+
 module _ (p : Plan) (w : Walk) (k : Taken p w) where
   abbrev pub zs : List ℤ
   zs = k .reached .starts
@@ -146,6 +166,27 @@ module _ (p : Plan) (w : Walk) (k : Taken p w) where
       go : (m : Option (List ℕ)) → stateAfter (planCutAxes p) (k .reached .steps) ≡ m → w ≡ packed (at p zs r m) → overStep w ≡ stepped p w
       go none g q = sym (subst (λ (v : Walk). stepped p v ≡ overStep v) (sym q) (step-at p zs r (k .reached .steps) none g))
       go (some c) g q = absurd (false≢true (sym (ap (λ (v : Walk). v .ended) q) ∙ h))
+
+  pub ended-none : w .ended ≡ true → (m : ℕ) → nextBlocks m p w ≡ []
+  ended-none h m =
+      let e : Ended ≡ stepped p w .answer = ap (λ (s : Stepped). s .answer) (ended-step h {s = overStep w} refl) in
+      blocks-none p m w (λ a. let z : _≡_ {A = ℕ} 0 1 = cc (e, a) in omega arith)
+
+  -- the state after n steps is taken too
+  pub taken-after : (n : ℕ) → Taken p (walkAfter p n w)
+  taken-after n =
+      let steps : ℕ = k .reached .steps + n in
+      let e : walkAfter p n w ≡ walkAfter p steps (begunAt p zs .walk) = ap (walkAfter p n) (k .reached .comes) ∙ sym (walk-more p (k .reached .steps) n (begunAt p zs .walk)) in
+      let f : walkAfter p n w ≡ packed (at p zs r (stateAfter (planCutAxes p) steps)) = e ∙ walk-state p zs r steps in
+      record {
+        extents-all = k .extents-all;
+        blocks-all = k .blocks-all;
+        strides-all = k .strides-all;
+        counters-all = ap (λ (v : Walk). length (v .counters)) f ∙ length-padded {A = ℕ} 0 64 (at p zs r (stateAfter (planCutAxes p) steps) .counters);
+        offsets-all = ap (λ (v : Walk). length (v .offsets)) f ∙ length-padded {A = ℤ} (pos 0) 8 (at p zs r (stateAfter (planCutAxes p) steps) .offsets);
+        rows = k .rows;
+        reached = record { starts = zs; begins = k .reached .begins; steps = steps; comes = e };
+      }
 
   -- what a running state has
   pub record Runs : Type 0 where
@@ -201,6 +242,22 @@ module _ (p : Plan) (w : Walk) (k : Taken p w) where
         (subst (λ (g : Walk). 0 < p .rank → getD (g .counters) 0 0 ≡ startOf (getD ws 0 0) (getD (g .counters) 0 0)) (sym (q .here))
         (first-start p zs r sized (k .reached .steps) (q .c) (q .is)))
 
+    -- the block that it is at
+    step-here : stepped p w ≡ handedOut (raw p zs r (some (q .c)))
+    step-here = ap (stepped p) (q .here) ∙ step-at p zs r (k .reached .steps) (some (q .c)) (q .is)
+
+    pub block-here : stepped p w .answer ≡ Block
+    block-here = ap (λ (s : Stepped). s .answer) step-here
+
+    pub offsets-here : stepped p w .offsets ≡ w .offsets
+    offsets-here = ap (λ (s : Stepped). s .offsets) step-here ∙ ap (λ (v : Walk). v .offsets) (sym (q .here))
+
+    pub length-here : (v : List ℕ) → v ≡ ws → lengthOf (p .rank) (p .extents) v (w .counters) ≡ stepped p w .length
+    length-here v is =
+        ap₂ (λ (u : List ℕ) (g : Walk). lengthOf (p .rank) (p .extents) u (g .counters)) is (q .here)
+        ∙ length-is p zs r sized (k .reached .steps) (q .c) (q .is)
+        ∙ sym (ap (λ (s : Stepped). s .length) step-here)
+
     -- THE STEP, out of what the functions on arrays gave
     pub block-step : (v : List ℕ) → v ≡ ws → {n : ℕ} {ts : List ℤ} {more : Bool} {t′ c′ : List ℕ} {o′ : List ℤ}
         → n ≡ lengthOf (p .rank) (p .extents) v (w .counters) → ts ≡ firstsOf (p .rank) (p .operands) (p .strides)
@@ -222,8 +279,7 @@ module _ (p : Plan) (w : Walk) (k : Taken p w) where
           strides = first i;
           walk = walk i;
         })
-        ∙ sym (step-at p zs r (k .reached .steps) (some (q .c)) (q .is))
-        ∙ ap (stepped p) (sym (q .here))
+        ∙ sym step-here
 
 -- ---- a state that runs, put together anew from its parts
 

@@ -1,8 +1,8 @@
--- Lists: a claim on each element, the elements by number, and runs of numbers.
+-- Lists: a claim on each element, the elements by number, lists joined, and runs of numbers.
 -- Assumes nothing.
-use mathlib.Core.Path.{_≡_, refl, ap, _∙_}
+use mathlib.Core.Path.{_≡_, refl, sym, ap, _∙_}
 use mathlib.Core.Logic.{_↔_}
-use mathlib.Core.List.{List, [], _∷_, _++_, map}
+use mathlib.Core.List.{List, [], _∷_, _++_, map, append-assoc, append-nil}
 use mathlib.Core.Option.{none, some}
 use Prim.Native.Nat.{ℕ, zero, suc, _+_, _≤_, _<_}
 use native.Mathlib.Nat.{zero-add, add-zero, suc-add}
@@ -61,6 +61,29 @@ pub nth-drop : {A : Type 0} (l : List A) (n : ℕ) (x : A) → nth l n ≡ some 
 nth-drop [] n x e = let z : _≡_ {A = ℕ} 0 1 = cc in absurd (omega arith)
 nth-drop (y ∷ l) zero x e = let q : y ≡ x = cc in ap (λ a. a ∷ l) q
 nth-drop (y ∷ l) (suc n) x e = nth-drop l n x e
+
+-- ---- lists joined, and parts of a list
+
+module _ {A B : Type 0} where
+  pub over-append : (xs ys : List A) (f : A → List B) → over (xs ++ ys) f ≡ over xs f ++ over ys f
+  over-append [] ys f = refl
+  over-append (x ∷ xs) ys f = ap (λ (l : List B). f x ++ l) (over-append xs ys f) ∙ sym (append-assoc (f x) (over xs f) (over ys f))
+
+  -- one element more
+  pub over-last : (xs : List A) (x : A) (f : A → List B) → over (xs ++ (x ∷ [])) f ≡ over xs f ++ f x
+  over-last xs x f = over-append xs (x ∷ []) f ∙ ap (λ (l : List B). over xs f ++ l) (append-nil (f x))
+
+  -- elements n, n + 1, .., m of them
+  pub map-part : (f : A → B) (m n : ℕ) (l : List A) → map f (take m (drop n l)) ≡ take m (drop n (map f l))
+  map-part f zero n l = refl
+  map-part f (suc m) zero [] = refl
+  map-part f (suc m) zero (x ∷ l) = ap (λ (r : List B). f x ∷ r) (map-part f m zero l)
+  map-part f (suc m) (suc n) [] = refl
+  map-part f (suc m) (suc n) (x ∷ l) = map-part f (suc m) n l
+
+pub over-map : {A B C : Type 0} (f : A → B) (l : List A) (g : B → List C) → over (map f l) g ≡ over l (λ (x : A). g (f x))
+over-map f [] g = refl
+over-map {A} {B} {C} f (x ∷ l) g = ap (λ (r : List C). g (f x) ++ r) (over-map f l g)
 
 -- ---- runs
 
