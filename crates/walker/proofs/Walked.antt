@@ -7,7 +7,7 @@ use mathlib.Core.List.{List, [], _++_, map, append-nil}
 use Prim.Native.Nat.{ℕ, _+_, _≤_}
 use native.Mathlib.Omega.{arith}
 use lib.IntN.{ℤ, pos, _+ℤ_, _*ℤ_}
-use lib.ListN.{length, getD, drop, length-append, replicate}
+use lib.ListN.{length, getD, take, drop, replicate, length-append, length-map, length-take}
 use mir.Syntax.{w64}
 use mir.Val.{SFits}
 use Rattle.strided.specs.Base.{run}
@@ -18,7 +18,7 @@ use Rattle.strided.specs.declared.Plan.{Plan}
 use Rattle.strided.specs.declared.Walk.{Walk}
 use Rattle.strided.specs.declared.Stepped.{Stepped}
 use Rattle.laws.specs.Walk.Bulk.{walk-more, blocks-more}
-use Rattle.laws.specs.Walk.Placed.{Placed, placedOf, placedWalk, placed-next, placed-over}
+use Rattle.laws.specs.Walk.Placed.{Placed, placedOf, placedWalk, placed-part, placed-next, placed-over}
 use Rattle.laws.specs.Walk.Steps.{Ready}
 use Rattle.advance.specs.Axis.{startsTo}
 use Rattle.advance.specs.Carry.{Tiled}
@@ -135,6 +135,14 @@ module _ {p : Plan} {u : Walk} {y : Way} {w : List ℕ} {n : ℕ} {t c : List �
           placed-next p zs q (r .count) n
           ∙ ap (λ (l : List Placed). l ++ drop (n + r .count) (placedWalk p zs))
           (ap (λ (v : Walk). map (placedOf (p .operands)) (nextBlocks (r .count) p v)) (ap (walkAfter p n) (sym b) ∙ sym (k .state)) ∙ walked-laid)
+
+-- in a walk from the starts zs there are as many
+pub walked-within : {p : Plan} {u : Walk} {y : Way} {w : List ℕ} {n : ℕ} {more : Bool} {t c : List ℕ} {o : List ℤ} → Walked p u y w n more t c o → {zs : List ℤ} → Ready p zs → u ≡ begunAt p zs .walk
+    → n ≤ length (placedWalk p zs)
+walked-within {p} {u} {n = n} k {zs} q b =
+    let e : map (placedOf (p .operands)) (nextBlocks n p u) ≡ take n (placedWalk p zs) = ap (λ (v : Walk). map (placedOf (p .operands)) (nextBlocks n p v)) b ∙ placed-part p zs q n 0 in
+    let f = k .full in
+    omega (arith, ap length e, length-map (nextBlocks n p u) (placedOf (p .operands)), length-take n (placedWalk p zs), f)
 
 -- at its end no block is left
 module _ {p : Plan} {u : Walk} {y : Way} {w : List ℕ} {n : ℕ} {t c : List ℕ} {o : List ℤ} (k : Walked p u y w n false t c o) where

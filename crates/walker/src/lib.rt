@@ -37,6 +37,9 @@ pub struct Next {
     pub more: bool,
 }
 
+// A limit that no stretch passes, for whoever walks to the end.
+pub const ALL: u64 = 18446744073709551615;
+
 // The first axis from 1 on whose blocks are not 1; where there is none, a number from the rank on.
 fn first_cut(rank: usize, w: &[u64; 64]) -> usize
     requires { ⌜ rank ≤ 64 ⌝ }

@@ -3,6 +3,6 @@ pub mod Putting
 pub mod Digits
 pub mod Sign
 pub mod Lines
-pub mod Walks
 pub mod Axes
-pub mod Written
+pub mod Laid
+pub mod Walks

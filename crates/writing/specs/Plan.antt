@@ -4,15 +4,16 @@ use mathlib.Core.Path.{_≡_}
 use mathlib.Core.Bool.{cond}
 use mathlib.Core.List.{List, [], _∷_, _++_, map}
 use mathlib.Core.Option.{none}
-use Prim.Native.Nat.{ℕ, _+_, _*_}
+use Prim.Native.Nat.{ℕ, suc, _+_, _*_}
 use lib.Dec.{ltb}
 use lib.IntN.{ℤ, pos}
 use lib.ListN.{length, getD, drop, replicate}
 use Rattle.strided.specs.Base.{run}
 use Rattle.strided.specs.Begin.{beginRefused}
 use Rattle.strided.specs.Refusals.{refusedBy}
-use Rattle.strided.specs.Text.{axisLine, blockLines, endLine, planWalk, zeroStarts, printedPlan, row14, Listing, listingOr}
+use Rattle.strided.specs.Text.{axisLine, blockLine, blockLines, endLine, planWalk, zeroStarts, printedPlan, row14, Listing, listingOr}
 use Rattle.strided.specs.declared.Plan.{Plan}
+use Rattle.laws.specs.Walk.Placed.{Placed}
 use Rattle.advance.specs.Filled.{filledTo}
 use Rattle.advance.specs.Plans.{Sized}
 use Rattle.writing.specs.declared.plan.Measured.{Measured}
@@ -44,6 +45,11 @@ columnTo axis s n = filledTo (replicate 8 (pos 0)) (strideOn axis s) n
 -- an axis's line, out of the plan's arrays
 abbrev pub axisAt : ℕ → List ℕ → List ℕ → List ℤ → ℕ → List ℕ
 axisAt operands e b s i = axisLine i (getD e i 0) (getD b i 0) (map (strideOn i s) (run 0 operands))
+
+-- the B lines of blocks, numbered from n on
+abbrev pub linesFrom : ℕ → List Placed → List ℕ
+linesFrom n [] = []
+linesFrom n (b ∷ bs) = blockLine n (b .length) (b .offsets) ++ linesFrom (suc n) bs
 
 -- the B lines from block n on, and the Z line
 unfoldable pub restFrom : Plan → ℕ → List ℕ

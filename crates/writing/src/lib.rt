@@ -4,6 +4,7 @@
 pub mod line;
 pub mod number;
 pub mod plan;
+pub mod stretch;
 
 pub use plan::Measured;
 pub use plan::list;

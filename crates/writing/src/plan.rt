@@ -1,5 +1,5 @@
-// The whole output of a plan: its K, A, B and Z lines. The walk runs on local arrays and checks no block again: the precondition says that
-// a walk of the plan begins at the starts 0. Measuring ends at the first block whose line passes the limit.
+// The whole output of a plan: its K, A, B and Z lines. The walk goes in stretches, on local arrays, and checks no block again: the
+// precondition says that a walk of the plan begins at the starts 0. Measuring ends at the first block whose line passes the limit.
 ghost use mathlib.Core.Path.{_≡_};
 ghost use Prim.Native.Nat.{_+_, _*_, _≤_, _<_};
 ghost use lib.ListN.{length};
@@ -7,22 +7,23 @@ ghost use Rattle.strided.specs.Base.{over, run};
 ghost use Rattle.strided.specs.Text.{printedPlan, filling};
 ghost use Rattle.strided.specs.Memory.{planOf};
 ghost use Rattle.writing.specs.Put.{Wrote};
-ghost use Rattle.writing.specs.Line.{longest};
+ghost use Rattle.writing.specs.Line.{figuresLine, longest};
 ghost use Rattle.writing.specs.Plan.{Printable, measured, columnTo, axisAt, restFrom, listedIn};
 use super::line::axis_len;
-use super::line::block_len;
 use super::line::end_len;
 use super::line::put_axis;
-use super::line::put_block;
 use super::line::put_end;
 use super::line::put_rank;
 use super::line::rank_len;
-use advance::advance;
-use advance::inner_axes;
-use advance::length_of;
+use super::stretch::put_stretch;
+use super::stretch::stretch_len;
 use advance::tile_starts;
 use advance::widths;
 use states::no_block;
+use walker::ALL;
+use walker::moves_of;
+use walker::next_stretch;
+use walker::way_of;
 
 // A text's length, or that it is more than the limit.
 pub enum Measured {
@@ -119,6 +120,18 @@ fn put_axes<'a>(
     next
 }
 
+// The Z line behind `used` bytes.
+fn end_within(blocks: u64, cells: u64, used: usize, limit: usize) -> Measured
+    requires { ⌜ used ≤ limit ⌝ }
+    ensures { λ r. ⌜ r ≡ measured (used + length (figuresLine blocks cells)) limit ⌝ }
+{
+    let line = end_len(blocks, cells);
+    if limit - used < line {
+        return Measured::More;
+    }
+    Measured::Fits(used + line)
+}
+
 // The B and Z lines behind `used` bytes. The Z figures are what the loop has counted.
 fn walk_len<'a>(
     rank: usize,
@@ -133,31 +146,31 @@ fn walk_len<'a>(
     requires { ⌜ used ≤ limit ⌝ }
     ensures { λ r. ⌜ r ≡ measured (used + length (restFrom (planOf rank operands (now (e .entry)) (now (b .entry)) (now (s .entry))) 0)) limit ⌝ }
 {
+    if no_block(rank, e) {
+        return end_within(0, 0, used, limit);
+    }
     let w = widths(rank, e, b);
-    let inner = inner_axes(rank, &w);
+    let y = way_of(rank, operands, e, &w);
+    let d = moves_of(y, s);
     let mut c = [0u64; 64];
     let mut o = [0i64; 8];
+    let mut first = [0i64; 8];
     let mut t = tile_starts(rank, &w, &c);
-    let mut more = !no_block(rank, e);
+    let mut more = true;
     let mut total = used;
     let mut blocks: u64 = 0;
     let mut cells: u64 = 0;
     while more {
-        let size = length_of(rank, e, &w, &c);
-        let line = block_len(blocks, size, &o[..operands]);
-        if limit - total < line {
+        let x = next_stretch(y, ALL, e, &w, s, &mut t, &mut c, &mut o, &mut first);
+        let Measured::Fits(n) = stretch_len(x, blocks, operands, &d, first, total, limit) else {
             return Measured::More;
-        }
-        total += line;
-        blocks += 1;
-        cells += size;
-        more = advance(rank, inner, operands, e, &w, s, &mut t, &mut c, &mut o);
+        };
+        total = n;
+        blocks += x.count;
+        cells += x.count * x.length;
+        more = x.more;
     }
-    let line = end_len(blocks, cells);
-    if limit - total < line {
-        return Measured::More;
-    }
-    Measured::Fits(total + line)
+    end_within(blocks, cells, total, limit)
 }
 
 fn put_walk<'a>(
@@ -173,21 +186,26 @@ fn put_walk<'a>(
     requires { ⌜ at + length (restFrom (planOf rank operands (now e) (now b) (now s)) 0) ≤ length (now out) ⌝ }
     ensures { λ r. ⌜ Wrote (now (out .entry)) at (restFrom (planOf rank operands (now (e .entry)) (now (b .entry)) (now (s .entry))) 0) (now (out .exit)) r ⌝ }
 {
+    if no_block(rank, e) {
+        return put_end(out, at, 0, 0);
+    }
     let w = widths(rank, e, b);
-    let inner = inner_axes(rank, &w);
+    let y = way_of(rank, operands, e, &w);
+    let d = moves_of(y, s);
     let mut c = [0u64; 64];
     let mut o = [0i64; 8];
+    let mut first = [0i64; 8];
     let mut t = tile_starts(rank, &w, &c);
-    let mut more = !no_block(rank, e);
+    let mut more = true;
     let mut next = at;
     let mut number: u64 = 0;
     let mut cells: u64 = 0;
     while more {
-        let size = length_of(rank, e, &w, &c);
-        next = put_block(out, next, number, size, &o[..operands]);
-        number += 1;
-        cells += size;
-        more = advance(rank, inner, operands, e, &w, s, &mut t, &mut c, &mut o);
+        let x = next_stretch(y, ALL, e, &w, s, &mut t, &mut c, &mut o, &mut first);
+        next = put_stretch(out, next, x, number, operands, &d, first);
+        number += x.count;
+        cells += x.count * x.length;
+        more = x.more;
     }
     put_end(out, next, number, cells)
 }

@@ -73,13 +73,15 @@ module _ {A B : Type 0} where
   pub over-last : (xs : List A) (x : A) (f : A → List B) → over (xs ++ (x ∷ [])) f ≡ over xs f ++ f x
   over-last xs x f = over-append xs (x ∷ []) f ∙ ap (λ (l : List B). over xs f ++ l) (append-nil (f x))
 
-  -- elements n, n + 1, .., m of them
-  pub map-part : (f : A → B) (m n : ℕ) (l : List A) → map f (take m (drop n l)) ≡ take m (drop n (map f l))
-  map-part f zero n l = refl
-  map-part f (suc m) zero [] = refl
-  map-part f (suc m) zero (x ∷ l) = ap (λ (r : List B). f x ∷ r) (map-part f m zero l)
-  map-part f (suc m) (suc n) [] = refl
-  map-part f (suc m) (suc n) (x ∷ l) = map-part f (suc m) n l
+  pub map-take : (f : A → B) (n : ℕ) (l : List A) → map f (take n l) ≡ take n (map f l)
+  map-take f zero l = refl
+  map-take f (suc n) [] = refl
+  map-take f (suc n) (x ∷ l) = ap (λ (r : List B). f x ∷ r) (map-take f n l)
+
+  pub map-drop : (f : A → B) (n : ℕ) (l : List A) → map f (drop n l) ≡ drop n (map f l)
+  map-drop f zero l = refl
+  map-drop f (suc n) [] = refl
+  map-drop f (suc n) (x ∷ l) = map-drop f n l
 
 pub over-map : {A B C : Type 0} (f : A → B) (l : List A) (g : B → List C) → over (map f l) g ≡ over l (λ (x : A). g (f x))
 over-map f [] g = refl

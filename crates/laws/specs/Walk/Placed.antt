@@ -18,7 +18,7 @@ use Rattle.strided.specs.declared.Plan.{Plan}
 use Rattle.strided.specs.declared.Walk.{Walk}
 use Rattle.strided.specs.declared.Stepped.{Stepped}
 use Rattle.laws.specs.Base.Arrays.{take-counted}
-use Rattle.laws.specs.Base.Lists.{nth-none, map-part}
+use Rattle.laws.specs.Base.Lists.{nth-none, map-take, map-drop}
 use Rattle.laws.specs.Walk.States.{stateAfter}
 use Rattle.laws.specs.Walk.Reach.{state-nth}
 use Rattle.laws.specs.Walk.Machine.{length-offsets}
@@ -55,7 +55,8 @@ module _ (p : Plan) (zs : List ℤ) (r : Ready p zs) where
   placed-part m n =
       ap (map (placedOf (p .operands))) (ap (nextBlocks m p) (walk-state p zs r n) ∙ blocks-from p zs r m n)
       ∙ all-placed (take m (drop n (counters (planCutAxes p))))
-      ∙ map-part (placedFrom p zs) m n (counters (planCutAxes p))
+      ∙ map-take (placedFrom p zs) m (drop n (counters (planCutAxes p)))
+      ∙ ap (take m) (map-drop (placedFrom p zs) n (counters (planCutAxes p)))
 
   -- and so they come next
   pub placed-next : (m n : ℕ) → drop n (placedWalk p zs) ≡ map (placedOf (p .operands)) (nextBlocks m p (walkAfter p n (begunAt p zs .walk))) ++ drop (n + m) (placedWalk p zs)

@@ -23,11 +23,11 @@ rank-len-requires c κs = search needs
 
 axes-len-requires : tie.Need-axes-len-requires
 axes-len-requires c κs =
-    let r = printable-ready _ (c .before .pre) in
+    let r = printable-ready (c .before .pre) in
     (r .axes, r .few)
 
 add-head : tie.Need-add-head
-add-head c = let r = printable-ready _ (c .before .before .pre) in omega arith
+add-head c = let r = printable-ready (c .before .before .pre) in omega arith
 
 returns : tie.Need-returns
 returns c =

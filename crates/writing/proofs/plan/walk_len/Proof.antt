@@ -1,126 +1,165 @@
--- `writing::plan::walk_len` meets its contract: the loop keeps `Walks`, and the sum of what is measured and what is left; a line that
+-- `writing::plan::walk_len` meets its contract: the loop keeps `Walks`, and the sum of what is measured and what is left; a stretch that
 -- passes the limit ends it.
 -- Assumes nothing.
 use borrow.Author.Needs.{needs}
 use native.Mathlib.Omega.{arith}
 use mathlib.Core.Path.{_≡_, refl, sym, _∙_}
-use mathlib.Core.Bool.{true, Bool·not-not}
+use mathlib.Core.Bool.{true, false}
 use Prim.Native.Nat.{_+_, _-_, _≤_}
 use lib.ListN.{length}
-use Rattle.strided.specs.Text.{planWalk}
+use Rattle.strided.specs.Begin.{planExtents}
+use Rattle.strided.specs.Layout.{hasZero}
+use Rattle.strided.specs.declared.Plan.{Plan}
 use Rattle.strided.specs.Memory.{planOf}
+use Rattle.walker.proofs.Walked.{may-move}
 use Rattle.writing.specs.Plan.{restFrom}
-use Rattle.writing.proofs.Walks.{Walks, While, printable-ready, walks-start, walks-while, walks-below, walks-roomy, walks-tiled, walks-lent, walks-next, walks-number-fits, walks-cells-fit, widths-some}
-use Rattle.writing.proofs.Written.{block-measured, block-over, end-over, end-within}
+use Rattle.writing.proofs.Walks.{W, Walks, printable-ready, no-lines, first-taken, widths-some, walks-start, walks-while, walks-asks, walks-fit, walks-within, walks-over, walks-next, walks-number-fits, walks-cells-fit, walks-less, walks-end, end-measured}
 use Rattle.writing.proofs.plan.walk_len.Statement.{statement}
 use Rattle.writing.proofs.plan.walk_len.Tie as tie
 
 abbrev Inv-loop : tie.InvT-loop
-Inv-loop rank operands e b s used limit w inner c₀ o₀ t₀ more₀ total₀ blocks₀ cells₀ c o t more total blocks cells =
-    Walks (planOf rank operands e b s) w inner blocks cells more t c o
+Inv-loop rank operands e b s used limit w y d c₀ o₀ first₀ t₀ more₀ total₀ blocks₀ cells₀ c o first t more total blocks cells =
+    Walks (planOf rank operands e b s) y w blocks cells more t c o
     × (total + length (restFrom (planOf rank operands e b s) blocks) ≡ used + length (restFrom (planOf rank operands e b s) 0))
     × (total ≤ limit)
 
 abbrev μ-loop : tie.MeasureT-loop
-μ-loop rank operands e b s used limit w inner c₀ o₀ t₀ more₀ total₀ blocks₀ cells₀ c o t more total blocks cells = length (planWalk (planOf rank operands e b s)) - blocks
+μ-loop rank operands e b s used limit w y d c₀ o₀ first₀ t₀ more₀ total₀ blocks₀ cells₀ c o first t more total blocks cells = length (W (planOf rank operands e b s)) - blocks
 
--- inside the loop the walk is at a block
-runs : (c : tie.In-loop Inv-loop μ-loop) → While true (c .before .loop .inv .0)
+-- the plan that the arguments tell
+abbrev plan : tie.Start Inv-loop μ-loop → Plan
+plan c = let a = c .args in planOf (a .rank) (a .operands) (a .e .now) (a .b .now) (a .s .now)
+
+-- there is a block
+abbrev some : (c : tie.Else1 Inv-loop μ-loop) → false ≡ hasZero (planExtents (plan (c .before .before .before)))
+some c = sym (c .if1 .left) ∙ c .before .no-block .ensures
+
+-- a turn: the walk is at a block, and hands out a stretch
+abbrev In : Type 0
+In = tie.In-loop Inv-loop μ-loop
+
+abbrev moved : In → tie.After-moves-of Inv-loop μ-loop
+moved c = c .before .before .before .before .before
+
+abbrev start : In → tie.Start Inv-loop μ-loop
+start c = moved c .before .before .before .before .before .before .before
+
+abbrev Stretch : Type 0
+Stretch = tie.After-next-stretch Inv-loop μ-loop
+
+abbrev turn : Stretch → In
+turn c = c .before .before .before .before .before .before
+
+-- its lines are measured
+abbrev Len : Type 0
+Len = tie.After-stretch-len Inv-loop μ-loop
+
+abbrev stride : Len → Stretch
+stride c = c .before .before
+
+runs : (c : In) → Walks (plan (start c)) (moved c .before .way-of .result) (moved c .before .before .before .widths .result) (c .before .loop .blocks) (c .before .loop .cells) true (c .before .loop .t) (c .before .loop .c) (c .before .loop .o)
 runs c = walks-while (c .before .loop .inv .0) (c .loop-test .taken)
 
-widths-requires : tie.Need-widths-requires Inv-loop μ-loop
-widths-requires c κs = printable-ready _ (c .pre .0) .axes
-
-inner-axes-requires : tie.Need-inner-axes-requires Inv-loop μ-loop
-inner-axes-requires c κs = printable-ready _ (c .before .before .pre .0) .axes
-
-tile-starts-requires : tie.Need-tile-starts-requires Inv-loop μ-loop
-tile-starts-requires c κs =
-    let h = c .before .before .before .before .before .pre .0 in
-    (printable-ready _ h .axes, widths-some h (c .before .before .before .before .widths .ensures))
-
 no-block-requires : tie.Need-no-block-requires Inv-loop μ-loop
-no-block-requires c κs =
-    let h = c .before .before .before .before .before .before .before .pre .0 in
-    let r = printable-ready _ h in
-    omega arith
+no-block-requires c κs = let r = printable-ready (c .before .pre .0) in omega arith
 
-loop-holds : tie.Need-loop-holds Inv-loop μ-loop
-loop-holds c =
-    let i = c .before .before .before .before .before in
-    let w = i .before .before in
-    (walks-start (w .before .pre .0) (w .widths .ensures) (i .inner-axes .ensures) (c .before .before .tile-starts .ensures) (sym (c .no-block .ensures) ∙ sym (Bool·not-not _)), refl, w .before .pre .1)
-
-length-of-requires : tie.Need-length-of-requires Inv-loop μ-loop
-length-of-requires c κs = walks-roomy (runs (c .before .before)) .within 0
-
-array-share-prefix-o : tie.Need-array-share-prefix-o Inv-loop μ-loop
-array-share-prefix-o c = walks-lent (runs (c .before .before .before)) .1
-
-slice-aggregate-block-len : tie.Need-slice-aggregate-block-len Inv-loop μ-loop
-slice-aggregate-block-len c = walks-lent (runs (c .before .before .before .before)) .2
-
-block-len-requires : tie.Need-block-len-requires Inv-loop μ-loop
-block-len-requires c κs =
-    let k = walks-lent (runs (c .before .before .before .before)) in
-    omega arith
-
-sub-if1 : tie.Need-sub-if1 Inv-loop μ-loop
-sub-if1 c = search needs
+end-within-requires : tie.Need-end-within-requires Inv-loop μ-loop
+end-within-requires c κs = c .before .before .before .pre .1
 
 returns : tie.Need-returns Inv-loop μ-loop
 returns c =
-    let b = c .before .before .before in
-    let h = b .before .before .before in
-    let i = h .before .loop .inv in
-    block-over (runs h) (b .length-of .ensures) _ _ _ _ (c .before .block-len .ensures .0) (i .1) (i .2) (c .if1 .taken)
+    let n = c .before .before in
+    let s = n .before .before in
+    end-measured (plan s) 0 0 (no-lines (s .pre .0) (sym (c .before .if1 .taken) ∙ n .no-block .ensures)) (s .args .used) (s .args .limit) refl (c .end-within .ensures)
 
-add-total : tie.Need-add-total Inv-loop μ-loop
-add-total c = search needs
+widths-requires : tie.Need-widths-requires Inv-loop μ-loop
+widths-requires c κs = printable-ready (c .before .before .before .pre .0) .axes
 
-add-blocks : tie.Need-add-blocks Inv-loop μ-loop
-add-blocks c = record { fits = walks-number-fits (runs (c .before .before .before .before .before .before)) }
+way-of-requires : tie.Need-way-of-requires Inv-loop μ-loop
+way-of-requires c κs = printable-ready (c .before .before .before .before .before .pre .0) .axes
 
-add-cells : tie.Need-add-cells Inv-loop μ-loop
-add-cells c =
-    let b = c .before .before .before in
-    record { fits = walks-cells-fit (runs (b .before .before .before)) (b .length-of .ensures) }
+moves-of-requires : tie.Need-moves-of-requires Inv-loop μ-loop
+moves-of-requires c κs =
+    let v = c .before .before in
+    let z = v .before in
+    may-move (v .widths .ensures) (c .way-of .ensures) (first-taken (z .before .before .before .pre .0) (some z))
 
-advance-requires : tie.Need-advance-requires Inv-loop μ-loop
-advance-requires c κs =
-    let k = runs (c .before .before .before .before .before .before .before .before .before .before) in
-    (walks-roomy k, (walks-tiled k, k .single))
+tile-starts-requires : tie.Need-tile-starts-requires Inv-loop μ-loop
+tile-starts-requires c κs =
+    let v = c .before .before .before .before .before in
+    let z = v .before in
+    let h = z .before .before .before .pre .0 in
+    (printable-ready h .axes, widths-some h (some z) (v .widths .ensures))
 
-loop-less : tie.Need-loop-less Inv-loop μ-loop
-loop-less c =
-    let l = walks-below (runs (c .before .before .before .before .before .before .before .before .before .before .before)) in
-    omega arith
+loop-holds : tie.Need-loop-holds Inv-loop μ-loop
+loop-holds c =
+    let y = c .before .before .before .before in
+    let v = y .before .before in
+    let z = v .before in
+    let k = z .before .before .before .pre in
+    (walks-start (k .0) (some z) (v .widths .ensures) (y .way-of .ensures) (c .tile-starts .ensures), refl, k .1)
 
-loop-again : tie.Need-loop-again Inv-loop μ-loop
-loop-again c =
-    let b = c .before .before .before .before .before .before .before .before in
-    let k = runs (b .before .before .before) in
-    let l = block-measured k (b .length-of .ensures) in
-    (walks-next k (b .length-of .ensures) (c .advance .ensures), omega arith, omega arith)
+next-stretch-requires : tie.Need-next-stretch-requires Inv-loop μ-loop
+next-stretch-requires c κs = let i = c .before .before .before .before .before in walks-asks (runs i)
 
-end-len-requires : tie.Need-end-len-requires Inv-loop μ-loop
-end-len-requires c κs = search needs
+stretch-len-requires : tie.Need-stretch-len-requires Inv-loop μ-loop
+stretch-len-requires c κs =
+    let x = c .before in
+    let i = turn x in
+    (walks-fit (runs i) (x .next-stretch .ensures) (moved i .moves-of .ensures), (walks-number-fits (runs i) (x .next-stretch .ensures) (moved i .moves-of .ensures), i .before .loop .inv .2))
 
-sub-if2 : tie.Need-sub-if2 Inv-loop μ-loop
-sub-if2 c = search needs
+enum-known-n : tie.Need-enum-known-n Inv-loop μ-loop
+enum-known-n c = search needs
+
+enum-told : tie.Need-enum-told Inv-loop μ-loop
+enum-told c = search needs
 
 returns-2 : tie.Need-returns-2 Inv-loop μ-loop
 returns-2 c =
-    let i = c .before .before .before .loop .inv in
-    end-over (walks-while (i .0) (c .before .before .loop-test .left)) _ _ _ _ (c .before .end-len .ensures .0) (i .1) (i .2) (c .if2 .taken)
+    let m = c .before .before in
+    let i = turn (stride m) in
+    walks-over (runs i) (stride m .next-stretch .ensures) (moved i .moves-of .ensures) (i .before .loop .total) (start i .args .limit) (i .before .loop .inv .1) (m .stretch-len .ensures) (c .enum-told .given .1)
 
-add-t37 : tie.Need-add-t37 Inv-loop μ-loop
-add-t37 c = search needs
+add-blocks : tie.Need-add-blocks Inv-loop μ-loop
+add-blocks c =
+    let x = stride (c .before .before .before .before) in
+    let i = turn x in
+    record { fits = walks-number-fits (runs i) (x .next-stretch .ensures) (moved i .moves-of .ensures) }
+
+mul-cells : tie.Need-mul-cells Inv-loop μ-loop
+mul-cells c =
+    let x = stride (c .before .before .before .before .before) in
+    let i = turn x in
+    let f = walks-cells-fit (runs i) (x .next-stretch .ensures) (moved i .moves-of .ensures) in
+    record { fits = omega (arith, f) }
+
+add-cells : tie.Need-add-cells Inv-loop μ-loop
+add-cells c =
+    let x = stride (c .before .before .before .before .before) in
+    let i = turn x in
+    record { fits = walks-cells-fit (runs i) (x .next-stretch .ensures) (moved i .moves-of .ensures) }
+
+loop-less : tie.Need-loop-less Inv-loop μ-loop
+loop-less c =
+    let x = stride (c .before .before .before .before .before) in
+    let i = turn x in
+    walks-less (runs i) (x .next-stretch .ensures) (moved i .moves-of .ensures) (omega arith)
+
+loop-again : tie.Need-loop-again Inv-loop μ-loop
+loop-again c =
+    let m = c .before .before .before .before .before in
+    let x = stride m in
+    let i = turn x in
+    let k = walks-within (runs i) (x .next-stretch .ensures) (moved i .moves-of .ensures) (i .before .loop .total) (start i .args .limit) (i .before .loop .inv .1) (m .stretch-len .ensures) _ (c .before .before .before .n .given .1) in
+    (walks-next (runs i) (x .next-stretch .ensures) (moved i .moves-of .ensures), k .0, k .1)
+
+end-within-requires-2 : tie.Need-end-within-requires-2 Inv-loop μ-loop
+end-within-requires-2 c κs = c .before .loop .inv .2
 
 returns-3 : tie.Need-returns-3 Inv-loop μ-loop
 returns-3 c =
-    let i = c .before .before .before .loop .inv in
-    end-within (walks-while (i .0) (c .before .before .loop-test .left)) _ _ _ _ (c .before .end-len .ensures .0) (i .1) (i .2) (c .if2 .left)
+    let l = c .before .before .loop in
+    end-measured _ (l .blocks) (l .cells) (walks-end (walks-while (l .inv .0) (c .before .loop-test .left))) (l .total) _ (l .inv .1) (c .end-within2 .ensures)
 
 pub walk-len-spec : {M : Type 1} → statement M
 walk-len-spec =
@@ -128,25 +167,23 @@ walk-len-spec =
     (tie.spec
     Inv-loop
     μ-loop
-    widths-requires
-    inner-axes-requires
-    tile-starts-requires
     no-block-requires
-    loop-holds
-    length-of-requires
-    array-share-prefix-o
-    slice-aggregate-block-len
-    block-len-requires
-    sub-if1
+    end-within-requires
     returns
-    add-total
+    widths-requires
+    way-of-requires
+    moves-of-requires
+    tile-starts-requires
+    loop-holds
+    next-stretch-requires
+    stretch-len-requires
+    enum-known-n
+    enum-told
+    returns-2
     add-blocks
+    mul-cells
     add-cells
-    advance-requires
     loop-less
     loop-again
-    end-len-requires
-    sub-if2
-    returns-2
-    add-t37
+    end-within-requires-2
     returns-3)

@@ -26,7 +26,7 @@ put-rank-requires c κs =
 put-axes-requires : tie.Need-put-axes-requires
 put-axes-requires c κs =
     let s = c .before .before .before .before .before .before in
-    let r = printable-ready _ (s .pre .0) in
+    let r = printable-ready (s .pre .0) in
     let l = printed-length (plan s) in
     ((r .axes, r .few), omega arith)
 
