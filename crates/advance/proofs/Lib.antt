@@ -3,4 +3,3 @@ pub mod Signed
 pub mod Axis
 pub mod Dot
 pub mod Turns
-pub mod Stretches

@@ -145,7 +145,7 @@ single-more n rank w s h e =
       one = λ i p q. by-lt i n (λ l. subst (λ (j : ℕ). getD w j 0 ≡ 1) (let g : n - 1 ≡ i = omega arith in g) e) (λ l. s .one i l q);
     }
 
-pub still-aim : (extent at : ℕ) → aimOf true extent 1 at ≡ back at
+still-aim : (extent at : ℕ) → aimOf true extent 1 at ≡ back at
 unfolding aimOf insideAim
 still-aim extent at = rw (start-one at, le-ltb (at - at) (1 - 1) (omega arith))
 

@@ -67,9 +67,3 @@ module _ {A : Type 0} where
     filled-same d (suc n) l h =
         (λ i. set (filled-same d n (let g : n ≤ length a = omega arith in g) (λ k q. h k (let g : k < suc n = omega arith in g)) i) n (h n (let g : n < suc n = omega arith in g) i))
         ∙ set-self d a n (let g : n < length a = omega arith in g)
-
-  -- as far as two fillings are the same
-  pub filled-ext : (a : List A) (f g : ℕ → A) (n : ℕ) → ((k : ℕ) → k < n → f k ≡ g k) → filledTo a f n ≡ filledTo a g n
-  unfolding filledTo
-  filled-ext a f g zero h = refl
-  filled-ext a f g (suc n) h = λ i. set (filled-ext a f g n (λ k l. h k (let q : k < suc n = omega arith in q)) i) n (h n (let q : n < suc n = omega arith in q) i)

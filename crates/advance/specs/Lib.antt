@@ -3,10 +3,8 @@ pub mod Filled
 pub mod Moves
 pub mod Axis
 pub mod Carry
-pub mod Stretch
 pub mod Blocks
 pub mod Bridge
 pub mod Offsets
 pub mod Plans
 pub mod Reached
-pub mod Walking

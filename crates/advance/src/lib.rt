@@ -1,4 +1,4 @@
-// A walk moved to its next block, on lent arrays. Nothing is checked here: whoever walks to the end has checked once at the beginning.
+// A walk moved to its next block, on lent arrays. Nothing is checked here: whoever walks has checked once at the beginning.
 // No division is made on the way: the block size in force and the start of the tile are kept for each axis beside its counter.
 ghost use mathlib.Core.Path.{_≡_};
 ghost use Prim.Native.Nat.{ℕ, _<_, _≤_};
@@ -8,8 +8,6 @@ ghost use Rattle.advance.specs.Moves.{Moves, afterMove, Shifts, shifted}
 ghost use Rattle.advance.specs.Axis.{widthOf, startOf, insideAim, tileAim, aimOf, widthsTo, startsTo};
 ghost use Rattle.advance.specs.Carry.{Roomy, Tiled, Single, CarriedTo, AdvancedTo};
 ghost use Rattle.advance.specs.Blocks.{lengthOf, firstsOf};
-
-pub mod stretch;
 
 // The offset `o` after a move along an axis of stride `s`, from one counter to another. Where the stride is 0 the counters may be any.
 pub fn moved(o: i64, s: i64, from: u64, to: u64) -> i64

@@ -10,7 +10,7 @@
 --   the plan keeps each operand's reach (row 6)                        Fuse/Reach         plan-reach
 --   cutting: the counts never run out, blocks only shrink              Cut/Steps          halved-ends, lessened-small, shrunk-le
 --   many single steps may be one jump                                  Cut/Jump           jump
---   from the score jumped to at most one single step an axis is left   Cut/Level          few-left
+--   from the score jumped to few single steps are left, one an axis    Cut/Level          few-left
 --   regions and loads grow with the blocks                             Cut/Grow           region-mono, load-mono
 --   scores fit 64 bits by row 6 alone                                  Cut/Tables         scores-fit
 --   declining axis by axis, in any order, and in elements              Cut/Rising, Cut/Elements  apart-each, passes-elements
@@ -21,12 +21,14 @@
 --   row 9 applies exactly if some offset leaves 64-bit signed          Walk/Row9          row9-leaves; of one operand row9-exact
 --   row 10 refuses exactly the states that no begun walk reaches       Walk/Row10         row10-refused, row10-exact
 --   many steps in one call, and many such calls: the walk's blocks     Walk/Bulk          first-blocks, calls-are, hands-block, place-block
+--   the plan's blocks, by offsets and lengths, are those of the steps  Walk/Placed        placed-part, placed-next, placed-over
 --   demand 3                                                           Demand3/Whole      demand3, exactly-one
 --   a text says one thing at most                                      Text/Once          in-form-once
 --   a text in the form is refused as planning refuses its layout       Text/Planning      no-row3, as-planning, has-plan
 --   a text has one listing at most; some text is in the form           Text/Planning, Text/Example  one-listing, example-in-form
 --   the text's figures: the cells are the layout's total               Text/Totals        walk-cells, planned-cells, walk-blocks
 --   a planned plan's walk begins at the starts 0                       Text/Begins        planned-begins
+--   P and F with one chosen operand differ in blocks alone             Plan/Purposes      fit-finer, fit-alone, fit-unchosen
 --   a plan's arrays have 64, 64 and 512 places                         Plan/Places        plan-extents, plan-blocks, plan-strides
 --   the text entry's answer: below 0, or within the lent bytes         Text/Answers       negated-below, lists-within
 pub mod Base

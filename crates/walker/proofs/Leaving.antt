@@ -82,7 +82,7 @@ module _ {y : Way} {rank operands : ℕ} {e w : List ℕ} {s : List ℤ} {t c : 
       go false = sym (start-zero Z)
 
   -- what `shift` asks
-  pub home-shifts : Shifts operands (y .axis) A home s o
+  home-shifts : Shifts operands (y .axis) A home s o
   home-shifts = roomy-shifts rank operands e s c o r a home (l .there h) home-below
 
   abbrev o* : List ℤ
@@ -91,10 +91,10 @@ module _ {y : Way} {rank operands : ℕ} {e w : List ℕ} {s : List ℤ} {t c : 
   abbrev c* : List ℕ
   c* = set c (y .axis) home
 
-  pub home-roomy : Roomy rank operands e s c* o*
+  home-roomy : Roomy rank operands e s c* o*
   home-roomy = roomy-moved rank operands e s c o r a home (l .there h) home-below
 
-  pub home-tiled : Tiled rank w c* (set t (y .axis) home)
+  home-tiled : Tiled rank w c* (set t (y .axis) home)
   home-tiled = tiled-set rank w c t (r .counted) (r .axes) q a home home (l .there h) home-start
 
   module _ (g : AtEnd y E Z A) where
@@ -177,10 +177,10 @@ module _ {y : Way} {rank operands : ℕ} {e w : List ℕ} {s : List ℤ} {t c : 
       next-is : {b : Bool} → m₁ ≡ b → nextOf rank e w d ≡ cond b X (carryOf false e w (rank - 0) 0 (X .counters))
       next-is g = next-inside i all ∙ ap (λ (b : Bool). cond b X (carryOf false e w (rank - 0) 0 (X .counters))) (sym (f .answer) ∙ g)
 
-      pub leaves-inside : m₁ ≡ true → LeftFrom y n rank operands e w s c o true t₁ c₁ o₁
+      leaves-inside : m₁ ≡ true → LeftFrom y n rank operands e w s c o true t₁ c₁ o₁
       leaves-inside g = left-from (next-is g) (subst (λ (b : Bool). MovedTo X rank operands e w s c* o* b t₁ c₁ o₁) g f)
 
-      pub leaves-tile : m₁ ≡ false → {m₂ : Bool} {t₂ c₂ : List ℕ} {o₂ : List ℤ} → CarriedTo false 0 rank rank operands e w s c₁ o₁ m₂ t₂ c₂ o₂ → LeftFrom y n rank operands e w s c o m₂ t₂ c₂ o₂
+      leaves-tile : m₁ ≡ false → {m₂ : Bool} {t₂ c₂ : List ℕ} {o₂ : List ℤ} → CarriedTo false 0 rank rank operands e w s c₁ o₁ m₂ t₂ c₂ o₂ → LeftFrom y n rank operands e w s c o m₂ t₂ c₂ o₂
       leaves-tile g v =
           left-from (next-is g ∙ ap (carryOf false e w (rank - 0) 0) (sym (f .counters)))
           (record {
@@ -193,7 +193,7 @@ module _ {y : Way} {rank operands : ℕ} {e w : List ℕ} {s : List ℤ} {t c : 
           })
 
     -- the tiles of the axes behind carry on
-    pub leaves-whole : y .inside ≡ false → {more : Bool} {t′ c′ : List ℕ} {o′ : List ℤ} → CarriedTo false (y .axis + 1) rank rank operands e w s c* o* more t′ c′ o′
+    leaves-whole : y .inside ≡ false → {more : Bool} {t′ c′ : List ℕ} {o′ : List ℤ} → CarriedTo false (y .axis + 1) rank rank operands e w s c* o* more t′ c′ o′
         → LeftFrom y n rank operands e w s c o more t′ c′ o′
     leaves-whole i m =
         left-from (next-tile i ∙ ap (λ (v : ℕ). carryOf false e w (rank - (a + 1)) (a + 1) (set c a v)) (sym (ap (λ (b : Bool). cond b (startOf Z A) 0) i))) m

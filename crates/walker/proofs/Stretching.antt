@@ -75,7 +75,7 @@ module _ {y : Way} {rank operands : ℕ} {e w : List ℕ} {s : List ℤ} {t c : 
       ∙ ap (λ (u : ℤ). afterMove u (getD s (k * 64 + y .axis) (pos 0)) 0 (y .by)) (getD-replicate 8 k (pos 0) (pos 0) (omega (arith, f, h)))
 
   module _ (j : ℕ) (g : j < leftOf y e w c) {t₁ c₁ : List ℕ} {o₁ : List ℤ} (n : OnTo y j rank operands e w s c o t₁ c₁ o₁) where
-    pub each : (k : ℕ) → k < operands → getD o₁ k (pos 0) ≡ getD o k (pos 0) +ℤ pos j *ℤ getD D k (pos 0)
+    each : (k : ℕ) → k < operands → getD o₁ k (pos 0) ≡ getD o k (pos 0) +ℤ pos j *ℤ getD D k (pos 0)
     each k h = by-lt 0 j goes stays
       where
         goes : 0 < j → getD o₁ k (pos 0) ≡ getD o k (pos 0) +ℤ pos j *ℤ getD D k (pos 0)
@@ -96,7 +96,7 @@ module _ {y : Way} {rank operands : ℕ} {e w : List ℕ} {s : List ℤ} {t c : 
             ∙ sym (ap (λ (i : ℕ). getD o k (pos 0) +ℤ pos i *ℤ getD D k (pos 0)) z
             ∙ ap (λ (v : ℤ). getD o k (pos 0) +ℤ v) (zero-*ℤ (getD D k (pos 0))) ∙ +ℤ-idr (getD o k (pos 0)))
 
-    pub on-offsets : take operands o₁ ≡ movedOn j (take operands o) (take operands D)
+    on-offsets : take operands o₁ ≡ movedOn j (take operands o) (take operands D)
     on-offsets =
         let f = few in
         let x = m .roomy .offered in

@@ -132,7 +132,8 @@ fn end_within(blocks: u64, cells: u64, used: usize, limit: usize) -> Measured
     Measured::Fits(used + line)
 }
 
-// The B and Z lines behind `used` bytes. The Z figures are what the loop has counted.
+// The B and Z lines behind `used` bytes. The Z figures are what the loop has counted. With a zero extent there is no block, and how far a
+// stretch would move need not fit.
 fn walk_len<'a>(
     rank: usize,
     operands: usize,

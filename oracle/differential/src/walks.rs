@@ -24,14 +24,16 @@ const CALLS: usize = 8;
 const TURNS: u64 = 1000;
 
 /// What is counted, beside the sorts of states.
-const COUNTED: [&str; 47] = [
+const COUNTED: [&str; 49] = [
     "walks",
     "walks to the end",
     "walks left after 300 blocks",
     "walks without a block: zero extent",
     "blocks",
-    "many steps: along axis 1 in a tile",
+    "many steps: along an axis in a tile",
     "many steps: along axis 0 from tile to tile",
+    "many steps: along another axis from tile to tile",
+    "many steps: to a shorter tile",
     "many steps: elsewhere",
     "walks of rank 0",
     "walks of rank 1",
@@ -182,23 +184,29 @@ fn compare_blocks(
     Ok(counters)
 }
 
-/// How many steps get from a block to the next one: in a stretch along one axis, or
-/// by a carry.
-fn way(widths: &[usize], here: &[usize], next: Option<&[usize]>) -> &'static str {
-    let moves = |axis: &usize| next.is_some_and(|next| next[*axis] > here[*axis]);
-    let others_stay = |axis: usize| {
-        let same = |other: usize| next.is_some_and(|next| next[other] == here[other]);
-        (0..here.len()).all(|other| other == axis || same(other))
+/// How many steps get from a block to the next one: along the axis that stretches go,
+/// the quickest that moves inside a tile, or else that has a second tile; or by a carry.
+fn way(
+    extents: &[usize],
+    widths: &[usize],
+    here: &[usize],
+    next: Option<&[usize]>,
+) -> &'static str {
+    let inside = (1..here.len()).find(|&axis| widths[axis] != 1);
+    let tiled = || (0..here.len()).find(|&axis| widths[axis] < extents[axis]);
+    let (Some(axis), Some(next)) = (inside.or_else(tiled), next) else {
+        return "many steps: elsewhere";
     };
-    let cut = widths.iter().skip(1).any(|&width| width > 1);
-    let axis = usize::from(cut);
-    match (0..here.len()).find(moves) {
-        Some(moved) if moved == axis && others_stay(axis) => match axis {
-            1 if here[1] % widths[1] + 1 < widths[1] => "many steps: along axis 1 in a tile",
-            0 => "many steps: along axis 0 from tile to tile",
-            _ => "many steps: elsewhere",
-        },
-        _ => "many steps: elsewhere",
+    let others_stay = (0..here.len()).all(|other| other == axis || next[other] == here[other]);
+    let same_tile = here[axis] / widths[axis] == next[axis] / widths[axis];
+    if !others_stay || next[axis] <= here[axis] || (inside.is_some() && !same_tile) {
+        return "many steps: elsewhere";
+    }
+    match axis {
+        _ if inside.is_some() => "many steps: along an axis in a tile",
+        _ if extents[axis] - next[axis] < widths[axis] => "many steps: to a shorter tile",
+        0 => "many steps: along axis 0 from tile to tile",
+        _ => "many steps: along another axis from tile to tile",
     }
 }
 
@@ -238,7 +246,7 @@ fn compare_many(
             }
             let here = counters.ok_or_else(|| at("the model has ended".to_string()))?;
             counters = next(&walk.extents, &widths, &here);
-            met.add(way(&widths, &here, counters.as_deref()));
+            met.add(way(&walk.extents, &widths, &here, counters.as_deref()));
         }
         let code = gougelily::step_many(plan, &mut state, &mut lengths, &mut offsets);
         same("code of step_many", code, now.len() as i64).map_err(at)?;

@@ -167,7 +167,7 @@ clip-none costs b j h = ⊎-elim
     (λ (l : 0 < score b costs j). omega (arith, cond-lt 0 (score b costs j) (0 / getD costs j 0 + 1) (getD b j 0) l, zero-div (getD costs j 0)))
     (le-or-lt (score b costs j) 0)
 
--- FROM THE LEAST SCORE at most one single step an axis is left: each step takes 1 off one block
+-- FROM THE LEAST SCORE at most as many single steps are left as there are axes: each step takes 1 off one block
 pub few-left : (mc : Machine) (bytes : List ℕ) (operands : ℕ) (costs : List ℕ) (o n : ℕ) (b : List ℕ) (s : ℕ) → o + n ≤ length b → ((i : ℕ) → o ≤ i → i < o + n → 0 < getD costs i 0)
     → Least mc bytes operands costs o n b s → cells o n (clipped s costs o n b) ≤ cells o n (lessened mc bytes operands costs o n b) + n
 few-left mc bytes operands costs o n b zero long some k =

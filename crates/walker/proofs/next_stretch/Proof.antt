@@ -33,55 +33,67 @@ element-copy-out-blocks-left-2 : tie.Need-element-copy-out-blocks-left-2
 element-copy-out-blocks-left-2 c = search needs
 
 blocks-left-requires : tie.Need-blocks-left-requires
-blocks-left-requires c κs =
-    let k = c .before .before .before .before .before .before .pre in
-    left-asks k
+blocks-left-requires c κs = left-asks (c .before .before .before .before .before .before .pre)
+
+-- where the blocks ahead are known: the entry of the function, and the block's length
+abbrev Left : Type 0
+Left = tie.After-blocks-left
+
+abbrev start : Left → tie.Start
+start c = c .before .before .before .before .before .before .before
+
+abbrev long : Left → tie.After-length-of
+long c = c .before .before .before .before .before
 
 go-on-requires : tie.Need-go-on-requires
 go-on-requires c κs =
-    let k = c .before .before .before .before .before .before .before .before .before .before .before .before .pre in
-    may-go k _ (limit-less k (c .before .before .before .before .before .blocks-left .ensures .0) _ (c .before .before .before .if1 .taken)) (c .before .before .before .before .before .blocks-left .ensures .1)
+    let x = c .before .before .before .before .before in
+    let k = start x .pre in
+    may-go k _ (limit-less k (x .blocks-left .ensures .0) _ (c .before .before .before .if1 .taken)) (x .blocks-left .ensures .1)
 
 returns : tie.Need-returns
 returns c =
-    let k = c .before .before .before .before .before .before .before .before .before .before .before .before .before .pre in
-    strode-short k (c .before .before .before .before .before .before .blocks-left .ensures .0) (c .before .before .before .before .before .before .before .before .before .before .before .length-of .ensures) refl _ (c .before .before .before .before .if1 .taken) (c .go-on .ensures)
+    let x = c .before .before .before .before .before .before in
+    strode-short (start x .pre) (x .blocks-left .ensures .0) (long x .length-of .ensures) refl _ (c .before .before .before .before .if1 .taken) (c .go-on .ensures)
 
 ends-axis-requires : tie.Need-ends-axis-requires
 ends-axis-requires c κs =
-    let k = c .before .before .before .before .before .before .before .before .before .pre in
-    (end-below k (c .before .before .blocks-left .ensures .0), (left-above k (c .before .before .blocks-left .ensures .0), c .before .before .blocks-left .ensures .1))
+    let x = c .before .before in
+    let k = start x .pre in
+    (end-below k (x .blocks-left .ensures .0), (left-above k (x .blocks-left .ensures .0), x .blocks-left .ensures .1))
 
 leave-requires : tie.Need-leave-requires
 leave-requires c κs =
-    let k = c .before .before .before .before .before .before .before .before .before .before .before .before .before .before .pre in
-    (k, end-at k (c .before .before .before .before .before .before .before .blocks-left .ensures .0) (c .before .before .before .before .ends-axis .ensures (c .before .before .before .if2 .taken)))
+    let x = c .before .before .before .before .before .before .before in
+    let k = start x .pre in
+    (k, end-at k (x .blocks-left .ensures .0) (c .before .before .before .before .ends-axis .ensures (c .before .before .before .if2 .taken)))
 
 returns-2 : tie.Need-returns-2
 returns-2 c =
-    let k = c .before .before .before .before .before .before .before .before .before .before .before .before .before .before .before .pre in
-    strode-all k (c .before .before .before .before .before .before .before .before .blocks-left .ensures .0) (c .before .before .before .before .before .before .before .before .before .before .before .before .before .length-of .ensures) refl _ (c .before .before .before .before .before .before .if1 .left) (c .leave .ensures)
+    let x = c .before .before .before .before .before .before .before .before in
+    strode-all (start x .pre) (x .blocks-left .ensures .0) (long x .length-of .ensures) refl _ (c .before .before .before .before .before .before .if1 .left) (c .leave .ensures)
 
 sub-go-on : tie.Need-sub-go-on
-sub-go-on c =
-    let k = c .before .before .before .before .before .before .before .before .before .before .before .pre in
-    left-above k (c .before .before .before .before .blocks-left .ensures .0)
+sub-go-on c = let x = c .before .before .before .before in left-above (start x .pre) (x .blocks-left .ensures .0)
 
 go-on-requires-2 : tie.Need-go-on-requires-2
 go-on-requires-2 c κs =
-    let k = c .before .before .before .before .before .before .before .before .before .before .before .before .before .before .pre in
-    may-go k _ (last-less k (c .before .before .before .before .before .before .before .blocks-left .ensures .0)) (c .before .before .before .before .before .before .before .blocks-left .ensures .1)
+    let x = c .before .before .before .before .before .before .before in
+    let k = start x .pre in
+    may-go k _ (last-less k (x .blocks-left .ensures .0)) (x .blocks-left .ensures .1)
 
 advance-requires : tie.Need-advance-requires
 advance-requires c κs =
-    let k = c .before .before .before .before .before .before .before .before .before .before .before .before .before .before .before .before .before .before .pre in
-    let g = gone-on k _ (last-less k (c .before .before .before .before .before .before .before .before .before .before .before .blocks-left .ensures .0)) (c .before .before .before .go-on2 .ensures) in
+    let x = c .before .before .before .before .before .before .before .before .before .before .before in
+    let k = start x .pre in
+    let g = gone-on k _ (last-less k (x .blocks-left .ensures .0)) (c .before .before .before .go-on2 .ensures) in
     (g .roomy, (g .tiled, k .leads .single))
 
 returns-3 : tie.Need-returns-3
 returns-3 c =
-    let k = c .before .before .before .before .before .before .before .before .before .before .before .before .before .before .before .before .before .before .before .pre in
-    strode-all k (c .before .before .before .before .before .before .before .before .before .before .before .before .blocks-left .ensures .0) (c .before .before .before .before .before .before .before .before .before .before .before .before .before .before .before .before .before .length-of .ensures) refl _ (c .before .before .before .before .before .before .before .before .before .before .if1 .left) (gone-last k (c .before .before .before .before .before .before .before .before .before .before .before .before .blocks-left .ensures .0) (c .before .before .before .before .go-on2 .ensures) (c .advance .ensures))
+    let x = c .before .before .before .before .before .before .before .before .before .before .before .before in
+    let k = start x .pre in
+    strode-all k (x .blocks-left .ensures .0) (long x .length-of .ensures) refl _ (c .before .before .before .before .before .before .before .before .before .before .if1 .left) (gone-last k (x .blocks-left .ensures .0) (c .before .before .before .before .go-on2 .ensures) (c .advance .ensures))
 
 pub next-stretch-spec : {M : Type 1} → statement M
 next-stretch-spec =
