@@ -21,7 +21,7 @@ use Rattle.strided.specs.declared.Purpose.the-variants.{Pointwise, PointwiseInt
 use Rattle.strided.specs.declared.Machine.{Machine}
 use Rattle.laws.specs.Cut.Same.{SameBytes, SameCosts, SameRanks, region-same, cutting-same, fitted-same}
 use Rattle.laws.specs.Cut.Tables.{strideSize}
-use Rattle.model.specs.Exits.{inOrder, exits}
+use Rattle.model.specs.Exits.{inOrder, exits, ruled}
 
 -- ---- the exits, by the tests of the code
 
@@ -65,13 +65,9 @@ module _ (mc : Machine) (sizes es : List ℕ) (strides : List ℤ) (rank : ℕ) 
   true-table : List ℕ
   true-table = byteTable sizes strides
 
-  -- what cutting gives, by the definition's tables
-  ruled : List ℕ
-  ruled = cutting mc true-table (length sizes) (costs strides (length sizes) rank) (planRanks sizes strides rank) 0 rank es
-
   whole : cutBlocks mc sizes es strides rank u
       ≡ cond (exits mc true-table sizes es strides rank) es
-      (cond (declined mc true-table sizes (length sizes) es rank ruled) es (fittedFor mc u true-table sizes strides rank ruled))
+      (cond (declined mc true-table sizes (length sizes) es rank (ruled mc sizes es strides rank)) es (fittedFor mc u true-table sizes strides rank (ruled mc sizes es strides rank)))
   unfolding cutBlocks exits ruled true-table
   whole = refl
 
@@ -96,23 +92,25 @@ module _ (mc : Machine) (sizes es : List ℕ) (strides : List ℤ) (rank : ℕ) 
   pub whole-exits : exits mc bytes sizes es strides rank ≡ true → cutBlocks mc sizes es strides rank u ≡ es
   whole-exits e = whole ∙ rw (sym exits-is ∙ e)
 
-  module _ (cs : List ℕ) (even : SameCosts rank cs (costs strides (length sizes) rank))
-      (ranks : List (List ℕ)) (ranked : SameRanks (length sizes) rank ranks (planRanks sizes strides rank))
-      (b : List ℕ) (is : b ≡ cutting mc bytes (length sizes) cs ranks 0 rank es) (on : exits mc bytes sizes es strides rank ≡ false) where
-    ruled-is : b ≡ ruled
-    unfolding ruled true-table
-    ruled-is =
-        is
-        ∙ cutting-same mc (length sizes) rank bytes (byteTable sizes strides) same cs (costs strides (length sizes) rank) even
-        ranks (planRanks sizes strides rank) ranked rank 0 (omega arith) es
+  -- what the code cuts, with costs and ranks that say the same as the definition's
+  pub ruled-is : (cs : List ℕ) → SameCosts rank cs (costs strides (length sizes) rank)
+      → (ranks : List (List ℕ)) → SameRanks (length sizes) rank ranks (planRanks sizes strides rank)
+      → cutting mc bytes (length sizes) cs ranks 0 rank es ≡ ruled mc sizes es strides rank
+  unfolding ruled
+  ruled-is cs even ranks ranked =
+      cutting-same mc (length sizes) rank bytes (byteTable sizes strides) same cs (costs strides (length sizes) rank) even
+      ranks (planRanks sizes strides rank) ranked rank 0 (omega arith) es
 
-    declined-is : declined mc true-table sizes (length sizes) es rank ruled ≡ declined mc (byteTable sizes strides) sizes (length sizes) es rank b
+  module _ (b : List ℕ) (is : b ≡ ruled mc sizes es strides rank) (on : exits mc bytes sizes es strides rank ≡ false) where
+    declined-is : declined mc true-table sizes (length sizes) es rank (ruled mc sizes es strides rank) ≡ declined mc (byteTable sizes strides) sizes (length sizes) es rank b
     unfolding true-table
-    declined-is = ap (declined mc (byteTable sizes strides) sizes (length sizes) es rank) (sym ruled-is)
+    declined-is = ap (declined mc (byteTable sizes strides) sizes (length sizes) es rank) (sym is)
 
     pub whole-declined : declined mc (byteTable sizes strides) sizes (length sizes) es rank b ≡ true → es ≡ cutBlocks mc sizes es strides rank u
     whole-declined d = sym (whole ∙ rw (sym exits-is ∙ on, declined-is ∙ d))
 
     pub whole-fitted : declined mc (byteTable sizes strides) sizes (length sizes) es rank b ≡ false → {c : List ℕ} → c ≡ fittedFor mc u bytes sizes strides rank b → c ≡ cutBlocks mc sizes es strides rank u
     whole-fitted d f =
-        f ∙ sym (whole ∙ rw (sym exits-is ∙ on, declined-is ∙ d) (sym (ap (fittedFor mc u bytes sizes strides rank) ruled-is ∙ fit-is u ruled)))
+        f
+        ∙ sym (whole ∙ rw (sym exits-is ∙ on, declined-is ∙ d)
+        (sym (ap (fittedFor mc u bytes sizes strides rank) is ∙ fit-is u (ruled mc sizes es strides rank))))

@@ -9,11 +9,8 @@ use lib.ListN.{length, getD, take, drop}
 use Rattle.strided.specs.Layout.{chosen, reach, maxI}
 use Rattle.strided.specs.Refusals.{missing}
 use Rattle.strided.specs.Region.{byteAt}
-use Rattle.strided.specs.Costs.{costs}
-use Rattle.strided.specs.Cut.{planRanks}
 use Rattle.strided.specs.declared.Purpose.{Purpose}
 use Rattle.laws.specs.Cut.Tables.{strideSize}
-use Rattle.laws.specs.Cut.Same.{SameCosts, SameRanks}
 
 pub record Plannable (sizes es : List ℕ) (strides : List ℤ) (rank : ℕ) (u : Purpose) : Type 0 where
   pub axes : rank ≤ 64
@@ -34,15 +31,3 @@ Products sizes strides rank = (k i : ℕ) → k < length sizes → i < rank → 
 
 abbrev pub Bytes : List ℕ → List ℤ → ℕ → List ℕ → Type 0
 Bytes sizes strides rank bytes = (k i : ℕ) → k < length sizes → i < rank → byteAt bytes k i ≡ strideSize strides k i * getD sizes k 0
-
--- costs and ranks are those of the plan's axes
-abbrev pub Costed : List ℕ → List ℤ → ℕ → List ℕ → Type 0
-Costed sizes strides rank cs = SameCosts rank cs (costs strides (length sizes) rank)
-
-abbrev pub Ranked : List ℕ → List ℤ → ℕ → List (List ℕ) → Type 0
-Ranked sizes strides rank table = SameRanks (length sizes) rank table (planRanks sizes strides rank)
-
-pub record Tables (sizes : List ℕ) (strides : List ℤ) (rank : ℕ) (bs cs : List ℕ) (rs : List (List ℕ)) : Type 0 where
-  pub bytes : Bytes sizes strides rank bs
-  pub costs : Costed sizes strides rank cs
-  pub ranks : Ranked sizes strides rank rs

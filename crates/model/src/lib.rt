@@ -20,9 +20,10 @@ ghost use Rattle.strided.specs.Refusals.{missing};
 ghost use Rattle.strided.specs.Plan.{grows, fittedFor, cutBlocks};
 ghost use Rattle.strided.specs.Machine.{Allowed};
 ghost use Rattle.strided.specs.Region.{region};
-ghost use Rattle.model.specs.Plannable.{Plannable, Products, Tables};
+ghost use Rattle.strided.specs.declared.Purpose.the-variants.{Pointwise};
+ghost use Rattle.model.specs.Plannable.{Plannable, Products, Bytes};
 ghost use Rattle.model.specs.ByteRows.{byteRows};
-ghost use Rattle.model.specs.Exits.{increasing, inOrder, exits};
+ghost use Rattle.model.specs.Exits.{increasing, inOrder, ruled};
 
 mod ranks;
 
@@ -169,38 +170,29 @@ fn fit_for<'a>(
     }
 }
 
-// The block sizes of a plan whose total is above 1,024 and which neither of the tests above keeps whole, written into `blocks`. `bytes`, `costs`
-// and `ranks` are those of the plan's axes.
-fn cut_blocks<'a>(
+// The cutting rule on all the plan's axes, which `blocks` holds whole. Costs and ranks are those of the plan's axes, worked out once.
+fn cut_axes<'a>(
     machine: Machine,
-    extents: &'a [u64; 64],
-    bytes: &'a [u64; 512],
     sizes: &'a [u64],
     strides: &'a [i64; 512],
-    costs: &'a [u64; 64],
-    ranks: [[u8; 64]; 8],
+    bytes: &'a [u64; 512],
     rank: usize,
-    purpose: Purpose,
     blocks: &mut [u64; 64],
 )
     requires { ⌜ Allowed machine ⌝ }
-    requires { ⌜ Plannable (now sizes) (now extents) (now strides) rank purpose ⌝ }
-    requires { ⌜ Tables (now sizes) (now strides) rank (now bytes) (now costs) ranks ⌝ }
-    requires { ⌜ exits machine (now bytes) (now sizes) (now extents) (now strides) rank ≡ false ⌝ }
-    ensures { λ _. ⌜ now (blocks .exit) ≡ cutBlocks machine (now (sizes .entry)) (now (extents .entry)) (now (strides .entry)) rank purpose ⌝ }
+    requires { ⌜ Plannable (now sizes) (now blocks) (now strides) rank Pointwise ⌝ }
+    requires { ⌜ Bytes (now sizes) (now strides) rank (now bytes) ⌝ }
+    ensures { λ _. ⌜ now (blocks .exit) ≡ ruled machine (now (sizes .entry)) (now (blocks .entry)) (now (strides .entry)) rank ⌝ }
 {
-    *blocks = *extents;
+    let costs = compute_costs(strides, sizes.len(), rank);
+    let mut ranks = [[0u8; 64]; 8];
+    plan_ranks_into(sizes, strides, rank, &mut ranks);
     let all = Tail {
         operands: sizes.len(),
         offset: 0,
         rank,
     };
-    compute_blocks_at(machine, all, blocks, bytes, costs, ranks);
-    if declines_tiles(machine, sizes, strides, extents, blocks, rank) {
-        *blocks = *extents;
-        return;
-    }
-    fit_for(machine, blocks, bytes, sizes, strides, rank, purpose);
+    compute_blocks_at(machine, all, blocks, bytes, &costs, ranks);
 }
 
 // The blocks of a plan whose total is above 1,024, from its arrays. The tests that keep every axis whole come before what they can spare.
@@ -227,19 +219,11 @@ pub fn block_sizes<'a>(
         *blocks = *es;
         return;
     }
-    let costs = compute_costs(table, sizes.len(), rank);
-    let mut ranks = [[0u8; 64]; 8];
-    plan_ranks_into(sizes, table, rank, &mut ranks);
-    cut_blocks(
-        machine,
-        es,
-        &bytes,
-        sizes,
-        table,
-        &costs,
-        ranks,
-        rank,
-        purpose,
-        blocks,
-    );
+    *blocks = *es;
+    cut_axes(machine, sizes, table, &bytes, rank, blocks);
+    if declines_tiles(machine, sizes, table, es, blocks, rank) {
+        *blocks = *es;
+        return;
+    }
+    fit_for(machine, blocks, &bytes, sizes, table, rank, purpose);
 }

@@ -1,18 +1,16 @@
--- `model::block_sizes` meets its contract: each test that keeps the axes whole is a case of `cutBlocks`, and the tables are those that cutting
--- asks for. Assumes nothing.
-use mathlib.Core.Path.{refl, sym, ap, _∙_}
-use mathlib.Core.List.{List}
-use Prim.Native.Nat.{ℕ}
-use native.Mathlib.Omega.{arith}
-use lib.ListN.{length, getD, replicate}
+-- `model::block_sizes` meets its contract: each test that keeps the axes whole, and what is cut, declined or fitted, is a case of `cutBlocks`
+-- (Whole). Assumes nothing.
+use mathlib.Core.Path.{_≡_, refl, sym, _∙_}
+use mathlib.Core.Bool.{false}
+use lib.ListN.{length}
 use borrow.Author.Needs.{needs}
-use Rattle.strided.specs.Costs.{costs}
-use Rattle.laws.specs.Base.Arrays.{getD-padded}
-use Rattle.laws.specs.Plan.Ranks.{ranks-same}
 use Rattle.model.specs.Plannable.{Bytes}
 use Rattle.model.proofs.Filled.{rows-read}
-use Rattle.model.proofs.Rooms.{products, same-bytes}
-use Rattle.model.proofs.Whole.{whole-in-order, whole-exits, exits-fits, exits-not}
+use Rattle.strided.specs.Region.{byteTable}
+use Rattle.laws.specs.Cut.Same.{SameBytes}
+use Rattle.model.specs.Exits.{exits}
+use Rattle.model.proofs.Rooms.{products, same-bytes, within-reach}
+use Rattle.model.proofs.Whole.{whole-in-order, whole-exits, exits-fits, exits-not, whole-declined, whole-fitted}
 use Rattle.model.proofs.block_sizes.Statement.{statement}
 use Rattle.model.proofs.block_sizes.Tie as tie
 
@@ -53,38 +51,75 @@ returns-2 c =
     sym (whole-exits (a .machine) (a .sizes .now) es (a .table .now) (a .rank) (a .purpose) t (same-bytes (a .sizes .now) (a .table .now) (a .rank) t (s .pre .1 .axes) (bytes-are b))
     (exits-fits (a .machine) t (a .sizes .now) es (a .table .now) (a .rank) (sym (f .fits-whole .ensures) ∙ c .before .if2 .taken)))
 
-compute-costs-requires : tie.Need-compute-costs-requires
-compute-costs-requires c κs = search needs
-
-plan-ranks-into-requires : tie.Need-plan-ranks-into-requires
-plan-ranks-into-requires c κs = search needs
-
-cut-blocks-requires : tie.Need-cut-blocks-requires
-cut-blocks-requires c κs =
-    let p = c .before .before .before in
-    let k = p .before .before .before in
-    let f = k .before .before in
-    let b = f .before .before in
-    let o = b .before .before .before in
-    let s = o .before .before in
-    let a = s .args in
+-- what no purpose changes
+cut-axes-requires : tie.Need-cut-axes-requires
+cut-axes-requires c κs =
+    let b = c .before .before .before .before .before .before in
+    let s = b .before .before .before .before .before in
     let n = s .pre .1 in (
       s .pre .0,
       (
-        n,
-        (
-          record {
-            bytes = bytes-are b;
-            costs = λ i h. ap (λ (l : List ℕ). getD l i 0) (k .compute-costs .ensures) ∙ getD-padded 0 64 (costs (a .table .now) (length (a .sizes .now)) (a .rank)) i (omega (arith, n .axes));
-            ranks = ranks-same (a .sizes .now) (a .table .now) (a .rank) (replicate 64 0) (n .few) (n .axes) _ (p .plan-ranks-into .ensures);
-          },
-          exits-not (a .machine) _ (a .sizes .now) (a .es .now) (a .table .now) (a .rank) (sym (o .keeps-order .ensures) ∙ b .before .before .if1 .left) (sym (f .fits-whole .ensures) ∙ k .before .if2 .left),
-        ),
+        record {
+          axes = n .axes;
+          one = n .one;
+          few = n .few;
+          places = n .places;
+          table = n .table;
+          wide = n .wide;
+          small = n .small;
+          there = refl;
+          near = n .near;
+          narrow = n .narrow;
+        },
+        bytes-are b,
       ),
     )
 
+declines-tiles-requires : tie.Need-declines-tiles-requires
+declines-tiles-requires c κs =
+    let s = c .before .before .before .before .before .before .before .before .before .before .before .before .before in
+    let a = s .args in
+    (s .pre .0, within-reach (a .sizes .now) (a .es .now) (a .table .now) (a .rank) (a .purpose) (s .pre .1))
+
+-- where the axes are cut: the arguments, the table, and that there is no exit
+abbrev start : tie.After-cut-axes → tie.Start
+start q = q .before .before .before .before .before .before .before .before .before .before .before .before
+
+abbrev table-of : tie.After-cut-axes → tie.After-byte-table-into
+table-of q = q .before .before .before .before .before .before .before
+
+same : (q : tie.After-cut-axes) → let a = start q .args in
+    SameBytes (length (a .sizes .now)) (a .rank) (table-of q .byte-table-into .last .1 .1 .1 .0) (byteTable (a .sizes .now) (a .table .now))
+same q = let s = start q in let a = s .args in same-bytes (a .sizes .now) (a .table .now) (a .rank) (table-of q .byte-table-into .last .1 .1 .1 .0) (s .pre .1 .axes) (bytes-are (table-of q))
+
+on : (q : tie.After-cut-axes) → let a = start q .args in exits (a .machine) (table-of q .byte-table-into .last .1 .1 .1 .0) (a .sizes .now) (a .es .now) (a .table .now) (a .rank) ≡ false
+on q =
+    let x = q .before .before .before .before in
+    let f = x .before in
+    let b = f .before .before in
+    let o = b .before .before .before in
+    let a = start q .args in
+    exits-not (a .machine) _ (a .sizes .now) (a .es .now) (a .table .now) (a .rank) (sym (o .keeps-order .ensures) ∙ b .before .before .if1 .left) (sym (f .fits-whole .ensures) ∙ x .if2 .left)
+
 returns-3 : tie.Need-returns-3
-returns-3 c = search needs
+returns-3 c =
+    let d = c .before .before in
+    let q = d .before .before in
+    let a = start q .args in
+    whole-declined (a .machine) (a .sizes .now) (a .es .now) (a .table .now) (a .rank) (a .purpose) _ (same q) _ (q .cut-axes .ensures) (on q)
+    (sym (d .declines-tiles .ensures) ∙ c .before .if3 .taken)
+
+fit-for-requires : tie.Need-fit-for-requires
+fit-for-requires c κs = search needs
+
+returns-4 : tie.Need-returns-4
+returns-4 c =
+    let e = c .before .before .before in
+    let d = e .before in
+    let q = d .before .before in
+    let a = start q .args in
+    whole-fitted (a .machine) (a .sizes .now) (a .es .now) (a .table .now) (a .rank) (a .purpose) _ (same q) _ (q .cut-axes .ensures) (on q)
+    (sym (d .declines-tiles .ensures) ∙ e .if3 .left) (c .fit-for .ensures)
 
 pub block-sizes-spec : {M : Type 1} → statement M
 block-sizes-spec =
@@ -95,7 +130,8 @@ block-sizes-spec =
     byte-table-into-requires
     fits-whole-requires
     returns-2
-    compute-costs-requires
-    plan-ranks-into-requires
-    cut-blocks-requires
-    returns-3)
+    cut-axes-requires
+    declines-tiles-requires
+    returns-3
+    fit-for-requires
+    returns-4)
