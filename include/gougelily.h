@@ -23,7 +23,7 @@
  *
  * No function keeps anything between calls, or allocates. Planning takes 9 to
  * 15 KB of stack, and up to 125 where some 50 axes are kept whole one after
- * another; walklist some 30, up to 70; the others less than 12.
+ * another; walklist some 30, up to 55; the others less than 12.
  */
 #ifndef GOUGELILY_H
 #define GOUGELILY_H
