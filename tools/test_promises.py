@@ -101,6 +101,8 @@ class Promises(unittest.TestCase):
         self.refused("walk::begin cites `Lists` of crate text", ("crates/states/src/start.rt", "Rattle.strided.specs", "Rattle.text.specs"))
         self.refused("cites `⊕` of crate model", ("crates/gougelily/src/plans.rt", "Plan.{planned, _⊕_}", "Plan.{planned};\nghost use Rattle.model.specs.Sums.{_⊕_}"))
         self.refused("of crate walk, not of strided", ("crates/gougelily/src/plans.rt", "planned n ⊕ r", "Rattle.walk.specs.Lent.left n r"))
+        self.refused("kernel::plan cites `Made` of crate kernel", ("crates/kernel/src/lib.rt", "plannedOf (length (now (extents .entry))) ⌝ }", "plannedOf\n        (Made (length (now (extents .entry)))) ⌝ }"))
+        self.refused("kernel::plan cites `Made` of crate kernel", ("crates/kernel/src/lib.rt", "r ≡ plannedOf (length", "let p = plannedOf in record {\n        is = Made } ≡ p (length"))
         self.refused("by code", ("crates/gougelily/src/plans.rt", "planned n ⊕ r", "planned n ⊕ ⟦made()⟧"))
         self.refused("cites no definition", ("crates/gougelily/src/plans.rt", "planned n ⊕ r", "n ≡ r"))
 

@@ -201,7 +201,9 @@ pub fn carry(
     requires { ⌜ Roomy rank operands (now e) (now s) (now c) (now o) ⌝ }
     requires { ⌜ Tiled rank (now w) (now c) (now t) ⌝ }
     requires { ⌜ last ≤ rank ⌝ }
-    ensures { λ r. ⌜ CarriedTo inside first last rank operands (now (e .entry)) (now (w .entry)) (now (s .entry)) (now (c .entry)) (now (o .entry)) r (now (t .exit)) (now (c .exit)) (now (o .exit)) ⌝ }
+    ensures { λ r. ⌜ CarriedTo inside first last rank operands
+        (now (e .entry)) (now (w .entry)) (now (s .entry)) (now (c .entry)) (now (o .entry))
+        r (now (t .exit)) (now (c .exit)) (now (o .exit)) ⌝ }
 {
     let mut i = first;
     while i < last {
@@ -237,7 +239,8 @@ pub fn advance<'a>(
     requires { ⌜ Roomy rank operands (now e) (now s) (now c) (now o) ⌝ }
     requires { ⌜ Tiled rank (now w) (now c) (now t) ⌝ }
     requires { ⌜ Single inner rank (now w) ⌝ }
-    ensures { λ r. ⌜ AdvancedTo rank operands (now (e .entry)) (now (w .entry)) (now (s .entry)) (now (c .entry)) (now (o .entry)) r (now (t .exit)) (now (c .exit)) (now (o .exit)) ⌝ }
+    ensures { λ r. ⌜ AdvancedTo rank operands (now (e .entry)) (now (w .entry)) (now (s .entry)) (now (c .entry)) (now (o .entry))
+        r (now (t .exit)) (now (c .exit)) (now (o .exit)) ⌝ }
 {
     let more = carry(
         true,

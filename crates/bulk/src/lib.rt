@@ -7,7 +7,7 @@ ghost use lib.ListN.{length, getD, replicate};
 ghost use lib.Seq.{paste};
 ghost use mir.Syntax.{w64};
 ghost use mir.Val.{SFits};
-ghost use Rattle.strided.specs.Bulk.{roomFor, SteppedMany, steppedMany};
+ghost use Rattle.strided.specs.Bulk.{roomFor, manyOf, steppedMany};
 ghost use Rattle.strided.specs.Memory.{planOf, walkOf};
 ghost use Rattle.walk.specs.Lent.{Taken};
 ghost use Rattle.walker.specs.Way.{added, MayMove};
@@ -78,7 +78,8 @@ fn put_moving<'a>(
 )
     requires { ⌜ MayMove operands (now d) (now o) ⌝ }
     requires { ⌜ at + operands ≤ length (now offsets) ⌝ }
-    ensures { λ _. ⌜ (now (offsets .exit) ≡ paste (now (offsets .entry)) at (now (o .entry)) operands) × (now (o .exit) ≡ added operands (now (d .entry)) (now (o .entry))) ⌝ }
+    ensures { λ _. ⌜ (now (offsets .exit) ≡ paste (now (offsets .entry)) at (now (o .entry)) operands)
+        × (now (o .exit) ≡ added operands (now (d .entry)) (now (o .entry))) ⌝ }
 {
     let mut k = 0;
     while k < operands {
@@ -149,7 +150,8 @@ fn put_blocks<'a>(
 ) -> Several
     requires { ⌜ Taken (planOf rank operands (now e) (now b) (now s)) (walkOf false counters start) ⌝ }
     requires { ⌜ HasRoom room operands (now lengths) (now offsets) ⌝ }
-    ensures { λ r. ⌜ Wrote room (planOf rank operands (now (e .entry)) (now (b .entry)) (now (s .entry))) (walkOf false counters start) (now (lengths .entry)) (now (offsets .entry)) r (now (lengths .exit)) (now (offsets .exit)) ⌝ }
+    ensures { λ r. ⌜ Wrote room (planOf rank operands (now (e .entry)) (now (b .entry)) (now (s .entry))) (walkOf false counters start)
+        (now (lengths .entry)) (now (offsets .entry)) r (now (lengths .exit)) (now (offsets .exit)) ⌝ }
 {
     let w = widths(rank, e, b);
     let y = way_of(rank, operands, e, &w);
@@ -195,7 +197,8 @@ pub fn step_many_on<'a>(
     lengths: &mut [u64],
     offsets: &mut [i64],
 ) -> Several
-    ensures { λ r. ⌜ _≡_ {A = SteppedMany} (record { several = r; lengths = now (lengths .exit); offsets = now (offsets .exit) }) (steppedMany (planOf rank operands (now (e .entry)) (now (b .entry)) (now (s .entry))) walk (now (lengths .entry)) (now (offsets .entry))) ⌝ }
+    ensures { λ r. ⌜ manyOf r (now (lengths .exit)) (now (offsets .exit))
+        ≡ steppedMany (planOf rank operands (now (e .entry)) (now (b .entry)) (now (s .entry))) walk (now (lengths .entry)) (now (offsets .entry)) ⌝ }
 {
     let c = walk.counters;
     let o = walk.offsets;
@@ -227,7 +230,7 @@ pub fn step_many_on<'a>(
 
 // MANY STEPS of a walk, whatever the values of plan and state.
 pub fn step_many(plan: Plan, walk: Walk, lengths: &mut [u64], offsets: &mut [i64]) -> Several
-    ensures { λ r. ⌜ _≡_ {A = SteppedMany} (record { several = r; lengths = now (lengths .exit); offsets = now (offsets .exit) }) (steppedMany plan walk (now (lengths .entry)) (now (offsets .entry))) ⌝ }
+    ensures { λ r. ⌜ manyOf r (now (lengths .exit)) (now (offsets .exit)) ≡ steppedMany plan walk (now (lengths .entry)) (now (offsets .entry)) ⌝ }
 {
     let rank = plan.rank;
     let operands = plan.operands;

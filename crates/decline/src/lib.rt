@@ -182,7 +182,8 @@ pub fn declines_tiles<'a>(
 ) -> bool
     requires { ⌜ Allowed machine ⌝ }
     requires { ⌜ WithinReach (now sizes) (now strides) (now extents) rank ⌝ }
-    ensures { λ r. ⌜ r ≡ declined machine (byteTable (now (sizes .entry)) (now (strides .entry))) (now (sizes .entry)) (length (now (sizes .entry))) (now (extents .entry)) rank (now (blocks .entry)) ⌝ }
+    ensures { λ r. ⌜ r ≡ declined machine (byteTable (now (sizes .entry)) (now (strides .entry)))
+        (now (sizes .entry)) (length (now (sizes .entry))) (now (extents .entry)) rank (now (blocks .entry)) ⌝ }
 {
     let cut = first_cut(extents, blocks, rank);
     if cut == 0 {

@@ -3,7 +3,10 @@ use mathlib.Core.Path.{_≡_}
 use mathlib.Core.List.{List}
 use Prim.Native.Nat.{ℕ, _*_, _≤_, _<_}
 use lib.IntN.{ℤ}
-use lib.ListN.{length, getD}
+use lib.ListN.{length, getD, take}
+use Rattle.strided.specs.Layout.{Axis, axesOf, noAxis}
+use Rattle.strided.specs.Order.{pick}
+use Rattle.strided.specs.Fuse.{fusedAxes}
 
 pub record Named (ss : List ℤ) (pitch operands : ℕ) (order : List ℕ) (rank : ℕ) : Type 0 where
   pub few-axes : rank ≤ 64
@@ -11,3 +14,7 @@ pub record Named (ss : List ℤ) (pitch operands : ℕ) (order : List ℕ) (rank
   pub rows : operands * pitch ≤ length ss
   pub places : length order ≡ 64
   pub inside : (j : ℕ) → j < rank → getD order j 0 < pitch
+
+-- the axes of a layout's plan, whatever order they are fused in
+abbrev pub fusedIn : List ℕ → ℕ → List ℤ → List ℕ → List Axis
+fusedIn es operands ss order = fusedAxes (pick noAxis (axesOf es operands ss) (take (length es) order))

@@ -10,16 +10,16 @@ ghost use lib.Dec.{ltb, leb};
 ghost use lib.IntN.{pos, natAbs};
 ghost use lib.ListN.{length, getD, take, replicate};
 ghost use Rattle.strided.specs.Base.{padded, least as leastOf};
-ghost use Rattle.strided.specs.Layout.{strideColumn, axesOf, noAxis, extents as extentsOf};
+ghost use Rattle.strided.specs.Layout.{strideColumn, extents as extentsOf};
 ghost use Rattle.strided.specs.Order.{pick};
-ghost use Rattle.strided.specs.Fuse.{joins as joinsAt, allJoin, fuse as fuseAxes, compress, fusedAxes};
+ghost use Rattle.strided.specs.Fuse.{joins as joinsAt, allJoin, fuse as fuseAxes, compress};
 ghost use Rattle.strided.specs.Plan.{strideTable};
 ghost use Rattle.strided.specs.Costs.{costOf, costs};
 ghost use Rattle.laws.specs.Fuse.Places.{axesBy};
 ghost use Rattle.arrange.specs.Axes.{InOrder};
 ghost use Rattle.fuse.specs.Room.{roomOf};
 ghost use Rattle.fuse.specs.Kept.{stays};
-ghost use Rattle.fuse.specs.Named.{Named};
+ghost use Rattle.fuse.specs.Named.{Named, fusedIn};
 
 // ---- which axes join
 
@@ -111,7 +111,8 @@ fn can_fuse(
 ) -> bool
     requires operands { ⌜ operands * pitch ≤ length (now strides) ⌝ }
     requires axes { ⌜ (h < pitch) × (i < pitch) ⌝ }
-    ensures { λ r. ⌜ r ≡ (allJoin a (strideColumn (now (strides .entry)) pitch h 0 operands) (strideColumn (now (strides .entry)) pitch i 0 operands) && ltb (a * b) (2 ^ 64)) ⌝ }
+    ensures { λ r. ⌜ r ≡ (allJoin a (strideColumn (now (strides .entry)) pitch h 0 operands) (strideColumn (now (strides .entry)) pitch i 0 operands)
+        && ltb (a * b) (2 ^ 64)) ⌝ }
 {
     if all_join(a, strides, pitch, operands, h, i) {
         product_fits(a, b)
@@ -134,7 +135,8 @@ pub fn fuse_dims(
 )
     requires layout { ⌜ Named (now strides) pitch operands (now order) rank ⌝ }
     requires extents { ⌜ (length (now extents) ≡ 64) × (now extents ≡ padded 64 0 (take rank (now extents))) ⌝ }
-    ensures { λ _. ⌜ now (extents .exit) ≡ padded 64 0 (extentsOf (fuseAxes (axesBy (now (strides .entry)) pitch operands (now (order .entry)) (take rank (now (extents .entry)))))) ⌝ }
+    ensures { λ _. ⌜ now (extents .exit) ≡ padded 64 0 (extentsOf
+        (fuseAxes (axesBy (now (strides .entry)) pitch operands (now (order .entry)) (take rank (now (extents .entry)))))) ⌝ }
 {
     let mut k: usize = 1;
     while k < rank {
@@ -209,8 +211,10 @@ pub fn compress_dims<'a>(
     requires fused { ⌜ length (now fused) ≡ 64 ⌝ }
     requires zeros { ⌜ (now extents ≡ replicate 64 0) × (now table ≡ replicate 512 (pos 0)) ⌝ }
     ensures rank { λ r. ⌜ r ≡ length (compress (axesBy (now (strides .entry)) pitch operands (now (order .entry)) (take rank (now (fused .entry))))) ⌝ }
-    ensures extents { λ _. ⌜ now (extents .exit) ≡ padded 64 0 (extentsOf (compress (axesBy (now (strides .entry)) pitch operands (now (order .entry)) (take rank (now (fused .entry)))))) ⌝ }
-    ensures strides { λ _. ⌜ now (table .exit) ≡ strideTable (compress (axesBy (now (strides .entry)) pitch operands (now (order .entry)) (take rank (now (fused .entry))))) operands ⌝ }
+    ensures extents { λ _. ⌜ now (extents .exit) ≡ padded 64 0 (extentsOf
+        (compress (axesBy (now (strides .entry)) pitch operands (now (order .entry)) (take rank (now (fused .entry)))))) ⌝ }
+    ensures strides { λ _. ⌜ now (table .exit) ≡ strideTable
+        (compress (axesBy (now (strides .entry)) pitch operands (now (order .entry)) (take rank (now (fused .entry))))) operands ⌝ }
 {
     let mut axes = [0usize; 64];
     let count = kept_axes(fused, order, rank, extents, &mut axes);
@@ -230,9 +234,9 @@ pub fn plan_axes(
 ) -> usize
     requires layout { ⌜ InOrder (now extents) operands (now strides) (now order) ⌝ }
     requires zeros { ⌜ (now es ≡ replicate 64 0) × (now table ≡ replicate 512 (pos 0)) ⌝ }
-    ensures rank { λ r. ⌜ r ≡ length (fusedAxes (pick noAxis (axesOf (now (extents .entry)) operands (now (strides .entry))) (take (length (now (extents .entry))) (now (order .entry))))) ⌝ }
-    ensures extents { λ _. ⌜ now (es .exit) ≡ padded 64 0 (extentsOf (fusedAxes (pick noAxis (axesOf (now (extents .entry)) operands (now (strides .entry))) (take (length (now (extents .entry))) (now (order .entry)))))) ⌝ }
-    ensures strides { λ _. ⌜ now (table .exit) ≡ strideTable (fusedAxes (pick noAxis (axesOf (now (extents .entry)) operands (now (strides .entry))) (take (length (now (extents .entry))) (now (order .entry))))) operands ⌝ }
+    ensures rank { λ r. ⌜ r ≡ length (fusedIn (now (extents .entry)) operands (now (strides .entry)) (now (order .entry))) ⌝ }
+    ensures extents { λ _. ⌜ now (es .exit) ≡ padded 64 0 (extentsOf (fusedIn (now (extents .entry)) operands (now (strides .entry)) (now (order .entry)))) ⌝ }
+    ensures strides { λ _. ⌜ now (table .exit) ≡ strideTable (fusedIn (now (extents .entry)) operands (now (strides .entry)) (now (order .entry))) operands ⌝ }
 {
     let rank = extents.len();
     let mut fused = [0u64; 64];

@@ -1,6 +1,6 @@
 // Many steps of a walk in one call from C.
 ghost use Rattle.strided.specs.Bulk.{steppedMany};
-ghost use Rattle.strided.specs.Memory.{planOf, walkIn, StepsMany};
+ghost use Rattle.strided.specs.Memory.{planOf, walkAt, walkIn, manyAt, StepsMany};
 use bulk::step_many_on;
 use layout::negated;
 use strided::Outcome;
@@ -21,7 +21,13 @@ pub extern "C" fn gougelily_step_many<'a>(
     block_lengths: &mut [u64],
     block_offsets: &mut [i64],
 ) -> i64
-    ensures { λ r. ⌜ StepsMany (steppedMany (planOf rank operands (now (extents .entry)) (now (blocks .entry)) (now (strides .entry))) (walkIn (record { ended = now (ended .entry); counters = now (counters .entry); offsets = now (offsets .entry) })) (now («block_lengths» .entry)) (now («block_offsets» .entry))) (record { walk = record { ended = now (ended .entry); counters = now (counters .entry); offsets = now (offsets .entry) }; lengths = now («block_lengths» .entry); offsets = now («block_offsets» .entry) }) (record { walk = record { ended = now (ended .exit); counters = now (counters .exit); offsets = now (offsets .exit) }; lengths = now («block_lengths» .exit); offsets = now («block_offsets» .exit) }) r ⌝ }
+    ensures { λ r. let p = planOf rank operands (now (extents .entry)) (now (blocks .entry)) (now (strides .entry)) in
+        let w = walkAt (now (ended .entry)) (now (counters .entry)) (now (offsets .entry)) in
+        let w′ = walkAt (now (ended .exit)) (now (counters .exit)) (now (offsets .exit)) in
+        ⌜ StepsMany (steppedMany p (walkIn w) (now («block_lengths» .entry)) (now («block_offsets» .entry)))
+        (manyAt w (now («block_lengths» .entry)) (now («block_offsets» .entry)))
+        (manyAt w′ (now («block_lengths» .exit)) (now («block_offsets» .exit)))
+        r ⌝ }
 {
     let over = ended[0] != 0;
     let c = *counters;

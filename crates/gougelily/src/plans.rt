@@ -1,7 +1,7 @@
 // Planning from C: rows 1 to 7 and 24, then the plan, made where the caller wants it.
 ghost use Rattle.strided.specs.Machine.{machineOf};
 ghost use Rattle.strided.specs.Plan.{planned};
-ghost use Rattle.strided.specs.Memory.{purposeOf, Plans};
+ghost use Rattle.strided.specs.Memory.{purposeOf, planAt, Plans};
 use kernel::Aim;
 use kernel::plan_into;
 use layout::check_planning;
@@ -28,7 +28,11 @@ pub extern "C" fn gougelily_plan<'a>(
     blocks: &mut [u64; 64],
     plan_strides: &mut [i64; 512],
 ) -> i64
-    ensures { λ r. ⌜ Plans (planned (machineOf line cache way live) (now (extents .entry)) (now (sizes .entry)) (now (strides .entry)) (purposeOf purpose chosen)) (record { rank = now (rank .entry); operands = now (operands .entry); extents = now («plan_extents» .entry); blocks = now (blocks .entry); strides = now («plan_strides» .entry) }) (record { rank = now (rank .exit); operands = now (operands .exit); extents = now («plan_extents» .exit); blocks = now (blocks .exit); strides = now («plan_strides» .exit) }) r ⌝ }
+    ensures { λ r. let m = machineOf line cache way live in
+        ⌜ Plans (planned m (now (extents .entry)) (now (sizes .entry)) (now (strides .entry)) (purposeOf purpose chosen))
+        (planAt (now (rank .entry)) (now (operands .entry)) (now («plan_extents» .entry)) (now (blocks .entry)) (now («plan_strides» .entry)))
+        (planAt (now (rank .exit)) (now (operands .exit)) (now («plan_extents» .exit)) (now (blocks .exit)) (now («plan_strides» .exit)))
+        r ⌝ }
 {
     let wanted = purpose_of(purpose, chosen);
     let machine = Machine {

@@ -1,7 +1,7 @@
 // A walk from C: its beginning, and one step of a state that is lent.
 ghost use Rattle.strided.specs.Begin.{begunAt};
 ghost use Rattle.strided.specs.Step.{stepped};
-ghost use Rattle.strided.specs.Memory.{planOf, walkIn, Steps, Begins};
+ghost use Rattle.strided.specs.Memory.{planOf, walkAt, walkIn, stepAt, Steps, Begins};
 use layout::negated;
 use states::begin_on;
 use strided::Answer;
@@ -21,7 +21,10 @@ pub extern "C" fn gougelily_begin<'a>(
     counters: &mut [u64; 64],
     offsets: &mut [i64; 8],
 ) -> i64
-    ensures { λ r. ⌜ Begins (begunAt (planOf rank operands (now (extents .entry)) (now (blocks .entry)) (now (strides .entry))) (now (starts .entry))) (record { ended = now (ended .entry); counters = now (counters .entry); offsets = now (offsets .entry) }) (record { ended = now (ended .exit); counters = now (counters .exit); offsets = now (offsets .exit) }) r ⌝ }
+    ensures { λ r. ⌜ Begins (begunAt (planOf rank operands (now (extents .entry)) (now (blocks .entry)) (now (strides .entry))) (now (starts .entry)))
+        (walkAt (now (ended .entry)) (now (counters .entry)) (now (offsets .entry)))
+        (walkAt (now (ended .exit)) (now (counters .exit)) (now (offsets .exit)))
+        r ⌝ }
 {
     let begun = begin_on(rank, operands, extents, blocks, strides, starts);
     let answer = begun.answer;
@@ -56,7 +59,12 @@ pub extern "C" fn gougelily_step<'a>(
     block_offsets: &mut [i64; 8],
     block_strides: &mut [i64; 8],
 ) -> i64
-    ensures { λ r. ⌜ Steps (stepped (planOf rank operands (now (extents .entry)) (now (blocks .entry)) (now (strides .entry))) (walkIn (record { ended = now (ended .entry); counters = now (counters .entry); offsets = now (offsets .entry) }))) (record { walk = record { ended = now (ended .entry); counters = now (counters .entry); offsets = now (offsets .entry) }; counters = now («block_counters» .entry); length = now (length .entry); offsets = now («block_offsets» .entry); strides = now («block_strides» .entry) }) (record { walk = record { ended = now (ended .exit); counters = now (counters .exit); offsets = now (offsets .exit) }; counters = now («block_counters» .exit); length = now (length .exit); offsets = now («block_offsets» .exit); strides = now («block_strides» .exit) }) r ⌝ }
+    ensures { λ r. let p = planOf rank operands (now (extents .entry)) (now (blocks .entry)) (now (strides .entry)) in
+        let w = walkAt (now (ended .entry)) (now (counters .entry)) (now (offsets .entry)) in
+        let w′ = walkAt (now (ended .exit)) (now (counters .exit)) (now (offsets .exit)) in
+        let old = stepAt w (now («block_counters» .entry)) (now (length .entry)) (now («block_offsets» .entry)) (now («block_strides» .entry)) in
+        let new = stepAt w′ (now («block_counters» .exit)) (now (length .exit)) (now («block_offsets» .exit)) (now («block_strides» .exit)) in
+        ⌜ Steps (stepped p (walkIn w)) old new r ⌝ }
 {
     step_into(
         rank,

@@ -64,7 +64,9 @@ pub extern "C" fn parts_ranks<'a>(
     chosen: u64,
     ranks: &mut [[u8; 64]; 8],
 ) -> u64
-    ensures { λ r. ⌜ Part (countsRefused (now (extents .entry)) (now (sizes .entry)) (now (strides .entry)) (purposeOf kind chosen)) (padded 8 (replicate 64 0) (map (padded 64 0) (rankTable (now (strides .entry)) (length (now (extents .entry))) (length (now (sizes .entry)))))) (now (ranks .entry)) (now (ranks .exit)) r ⌝ }
+    ensures { λ r. ⌜ Part (countsRefused (now (extents .entry)) (now (sizes .entry)) (now (strides .entry)) (purposeOf kind chosen))
+        (padded 8 (replicate 64 0) (map (padded 64 0) (rankTable (now (strides .entry)) (length (now (extents .entry))) (length (now (sizes .entry))))))
+        (now (ranks .entry)) (now (ranks .exit)) r ⌝ }
 {
     let checked = check_counts(extents, sizes, strides, purpose_of(kind, chosen));
     match checked {
@@ -87,7 +89,9 @@ pub extern "C" fn parts_weights<'a>(
     chosen: u64,
     importance: &mut [u64; 64],
 ) -> u64
-    ensures { λ r. ⌜ Part (countsRefused (now (extents .entry)) (now (sizes .entry)) (now (strides .entry)) (purposeOf kind chosen)) (padded 64 0 (weights (now (extents .entry)) (length (now (sizes .entry))) (now (strides .entry)) (lead (purposeOf kind chosen)))) (now (importance .entry)) (now (importance .exit)) r ⌝ }
+    ensures { λ r. ⌜ Part (countsRefused (now (extents .entry)) (now (sizes .entry)) (now (strides .entry)) (purposeOf kind chosen))
+        (padded 64 0 (weights (now (extents .entry)) (length (now (sizes .entry))) (now (strides .entry)) (lead (purposeOf kind chosen))))
+        (now (importance .entry)) (now (importance .exit)) r ⌝ }
 {
     let purpose = purpose_of(kind, chosen);
     let checked = check_counts(extents, sizes, strides, purpose);
@@ -111,7 +115,9 @@ pub extern "C" fn parts_order<'a>(
     chosen: u64,
     order: &mut [usize; 64],
 ) -> u64
-    ensures { λ r. ⌜ Part (countsRefused (now (extents .entry)) (now (sizes .entry)) (now (strides .entry)) (purposeOf kind chosen)) (padded 64 0 (loopOrder (now (extents .entry)) (length (now (sizes .entry))) (now (strides .entry)) (purposeOf kind chosen))) (now (order .entry)) (now (order .exit)) r ⌝ }
+    ensures { λ r. ⌜ Part (countsRefused (now (extents .entry)) (now (sizes .entry)) (now (strides .entry)) (purposeOf kind chosen))
+        (padded 64 0 (loopOrder (now (extents .entry)) (length (now (sizes .entry))) (now (strides .entry)) (purposeOf kind chosen)))
+        (now (order .entry)) (now (order .exit)) r ⌝ }
 {
     let purpose = purpose_of(kind, chosen);
     let checked = check_counts(extents, sizes, strides, purpose);
@@ -193,9 +199,15 @@ pub extern "C" fn parts_axes<'a>(
     kept: &mut [u64; 64],
     table: &mut [i64; 512],
 ) -> u64
-    ensures rank { λ r. ⌜ Part (countsRefused (now (extents .entry)) (now (sizes .entry)) (now (strides .entry)) (purposeOf kind chosen)) (length (planAxes (now (extents .entry)) (length (now (sizes .entry))) (now (strides .entry)) (purposeOf kind chosen)) ∷ []) (now (count .entry)) (now (count .exit)) r ⌝ }
-    ensures extents { λ r. ⌜ Part (countsRefused (now (extents .entry)) (now (sizes .entry)) (now (strides .entry)) (purposeOf kind chosen)) (padded 64 0 (extentsOf (planAxes (now (extents .entry)) (length (now (sizes .entry))) (now (strides .entry)) (purposeOf kind chosen)))) (now (kept .entry)) (now (kept .exit)) r ⌝ }
-    ensures strides { λ r. ⌜ Part (countsRefused (now (extents .entry)) (now (sizes .entry)) (now (strides .entry)) (purposeOf kind chosen)) (strideTable (planAxes (now (extents .entry)) (length (now (sizes .entry))) (now (strides .entry)) (purposeOf kind chosen)) (length (now (sizes .entry)))) (now (table .entry)) (now (table .exit)) r ⌝ }
+    ensures rank { λ r. ⌜ Part (countsRefused (now (extents .entry)) (now (sizes .entry)) (now (strides .entry)) (purposeOf kind chosen))
+        (length (planAxes (now (extents .entry)) (length (now (sizes .entry))) (now (strides .entry)) (purposeOf kind chosen)) ∷ [])
+        (now (count .entry)) (now (count .exit)) r ⌝ }
+    ensures extents { λ r. ⌜ Part (countsRefused (now (extents .entry)) (now (sizes .entry)) (now (strides .entry)) (purposeOf kind chosen))
+        (padded 64 0 (extentsOf (planAxes (now (extents .entry)) (length (now (sizes .entry))) (now (strides .entry)) (purposeOf kind chosen))))
+        (now (kept .entry)) (now (kept .exit)) r ⌝ }
+    ensures strides { λ r. ⌜ Part (countsRefused (now (extents .entry)) (now (sizes .entry)) (now (strides .entry)) (purposeOf kind chosen))
+        (strideTable (planAxes (now (extents .entry)) (length (now (sizes .entry))) (now (strides .entry)) (purposeOf kind chosen)) (length (now (sizes .entry))))
+        (now (table .entry)) (now (table .exit)) r ⌝ }
 {
     let purpose = purpose_of(kind, chosen);
     let checked = check_counts(extents, sizes, strides, purpose);
@@ -221,7 +233,9 @@ pub extern "C" fn parts_costs<'a>(
     chosen: u64,
     costs: &mut [u64; 64],
 ) -> u64
-    ensures { λ r. ⌜ Part (countsRefused (now (extents .entry)) (now (sizes .entry)) (now (strides .entry)) (purposeOf kind chosen)) (padded 64 0 (planCosts (now (extents .entry)) (length (now (sizes .entry))) (now (strides .entry)) (purposeOf kind chosen))) (now (costs .entry)) (now (costs .exit)) r ⌝ }
+    ensures { λ r. ⌜ Part (countsRefused (now (extents .entry)) (now (sizes .entry)) (now (strides .entry)) (purposeOf kind chosen))
+        (padded 64 0 (planCosts (now (extents .entry)) (length (now (sizes .entry))) (now (strides .entry)) (purposeOf kind chosen)))
+        (now (costs .entry)) (now (costs .exit)) r ⌝ }
 {
     let purpose = purpose_of(kind, chosen);
     let checked = check_counts(extents, sizes, strides, purpose);

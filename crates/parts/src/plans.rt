@@ -2,7 +2,7 @@
 ghost use Rattle.strided.specs.Machine.{machineOf};
 ghost use Rattle.strided.specs.Refusals.{planningRefused};
 ghost use Rattle.strided.specs.Plan.{planned};
-ghost use Rattle.strided.specs.Memory.{planMemory, purposeOf};
+ghost use Rattle.strided.specs.Memory.{planAt, planMemory, purposeOf};
 ghost use Rattle.parts.specs.Answers.{Part};
 use kernel::plan;
 use layout::number;
@@ -28,7 +28,13 @@ pub extern "C" fn parts_plan<'a>(
     blocks: &mut [u64; 64],
     plan_strides: &mut [i64; 512],
 ) -> u64
-    ensures { λ r. ⌜ Part (planningRefused (machineOf line cache way live) (now (extents .entry)) (now (sizes .entry)) (now (strides .entry)) (purposeOf kind chosen)) (planMemory (planned (machineOf line cache way live) (now (extents .entry)) (now (sizes .entry)) (now (strides .entry)) (purposeOf kind chosen) .plan)) (record { rank = now (rank .entry); operands = now (operands .entry); extents = now («plan_extents» .entry); blocks = now (blocks .entry); strides = now («plan_strides» .entry) }) (record { rank = now (rank .exit); operands = now (operands .exit); extents = now («plan_extents» .exit); blocks = now (blocks .exit); strides = now («plan_strides» .exit) }) r ⌝ }
+    ensures { λ r. let m = machineOf line cache way live in
+        let u = purposeOf kind chosen in
+        ⌜ Part (planningRefused m (now (extents .entry)) (now (sizes .entry)) (now (strides .entry)) u)
+        (planMemory (planned m (now (extents .entry)) (now (sizes .entry)) (now (strides .entry)) u .plan))
+        (planAt (now (rank .entry)) (now (operands .entry)) (now («plan_extents» .entry)) (now (blocks .entry)) (now («plan_strides» .entry)))
+        (planAt (now (rank .exit)) (now (operands .exit)) (now («plan_extents» .exit)) (now (blocks .exit)) (now («plan_strides» .exit)))
+        r ⌝ }
 {
     let machine = Machine {
         line,

@@ -3,7 +3,7 @@
 // byte is as it was.
 ghost use mathlib.Core.Path.{_≡_};
 ghost use Rattle.strided.specs.Step.{stepped, left};
-ghost use Rattle.strided.specs.Memory.{planOf, walkIn, Steps};
+ghost use Rattle.strided.specs.Memory.{planOf, walkAt, walkIn, stepAt, Steps};
 ghost use Rattle.parts.specs.States.{withState};
 use layout::negated;
 use strided::Outcome;
@@ -17,7 +17,7 @@ use walk::step_lent;
 
 // A state from its arrays.
 fn walk_of<'a>(ended: &'a [u64; 1], counters: &'a [u64; 64], offsets: &'a [i64; 8]) -> Walk
-    ensures { λ r. ⌜ r ≡ walkIn (record { ended = now (ended .entry); counters = now (counters .entry); offsets = now (offsets .entry) }) ⌝ }
+    ensures { λ r. ⌜ r ≡ walkIn (walkAt (now (ended .entry)) (now (counters .entry)) (now (offsets .entry))) ⌝ }
 {
     let over = ended[0] != 0;
     let c = *counters;
@@ -40,7 +40,11 @@ fn hand_out(
     block_offsets: &mut [i64; 8],
     block_strides: &mut [i64; 8],
 ) -> i64
-    ensures { λ r. ⌜ Steps stepped (record { walk = record { ended = now (ended .entry); counters = now (counters .entry); offsets = now (offsets .entry) }; counters = now («block_counters» .entry); length = now (length .entry); offsets = now («block_offsets» .entry); strides = now («block_strides» .entry) }) (record { walk = record { ended = now (ended .exit); counters = now (counters .exit); offsets = now (offsets .exit) }; counters = now («block_counters» .exit); length = now (length .exit); offsets = now («block_offsets» .exit); strides = now («block_strides» .exit) }) r ⌝ }
+    ensures { λ r. let w = walkAt (now (ended .entry)) (now (counters .entry)) (now (offsets .entry)) in
+        let w′ = walkAt (now (ended .exit)) (now (counters .exit)) (now (offsets .exit)) in
+        let old = stepAt w (now («block_counters» .entry)) (now (length .entry)) (now («block_offsets» .entry)) (now («block_strides» .entry)) in
+        let new = stepAt w′ (now («block_counters» .exit)) (now (length .exit)) (now («block_offsets» .exit)) (now («block_strides» .exit)) in
+        ⌜ Steps stepped old new r ⌝ }
 {
     let answer = stepped.answer;
     match answer {
@@ -83,7 +87,12 @@ pub extern "C" fn parts_step<'a>(
     block_offsets: &mut [i64; 8],
     block_strides: &mut [i64; 8],
 ) -> i64
-    ensures { λ r. ⌜ Steps (stepped (planOf rank operands (now (extents .entry)) (now (blocks .entry)) (now (strides .entry))) (walkIn (record { ended = now (ended .entry); counters = now (counters .entry); offsets = now (offsets .entry) }))) (record { walk = record { ended = now (ended .entry); counters = now (counters .entry); offsets = now (offsets .entry) }; counters = now («block_counters» .entry); length = now (length .entry); offsets = now («block_offsets» .entry); strides = now («block_strides» .entry) }) (record { walk = record { ended = now (ended .exit); counters = now (counters .exit); offsets = now (offsets .exit) }; counters = now («block_counters» .exit); length = now (length .exit); offsets = now («block_offsets» .exit); strides = now («block_strides» .exit) }) r ⌝ }
+    ensures { λ r. let p = planOf rank operands (now (extents .entry)) (now (blocks .entry)) (now (strides .entry)) in
+        let w = walkAt (now (ended .entry)) (now (counters .entry)) (now (offsets .entry)) in
+        let w′ = walkAt (now (ended .exit)) (now (counters .exit)) (now (offsets .exit)) in
+        let old = stepAt w (now («block_counters» .entry)) (now (length .entry)) (now («block_offsets» .entry)) (now («block_strides» .entry)) in
+        let new = stepAt w′ (now («block_counters» .exit)) (now (length .exit)) (now («block_offsets» .exit)) (now («block_strides» .exit)) in
+        ⌜ Steps (stepped p (walkIn w)) old new r ⌝ }
 {
     let walk = walk_of(ended, counters, offsets);
     let stepped = step(plan_of(rank, operands, extents, blocks, strides), walk);
@@ -152,7 +161,12 @@ pub extern "C" fn parts_step_lent<'a>(
     block_offsets: &mut [i64; 8],
     block_strides: &mut [i64; 8],
 ) -> i64
-    ensures { λ r. ⌜ Steps (stepped (planOf rank operands (now (extents .entry)) (now (blocks .entry)) (now (strides .entry))) (walkIn (record { ended = now (ended .entry); counters = now (counters .entry); offsets = now (offsets .entry) }))) (record { walk = record { ended = now (ended .entry); counters = now (counters .entry); offsets = now (offsets .entry) }; counters = now («block_counters» .entry); length = now (length .entry); offsets = now («block_offsets» .entry); strides = now («block_strides» .entry) }) (record { walk = record { ended = now (ended .exit); counters = now (counters .exit); offsets = now (offsets .exit) }; counters = now («block_counters» .exit); length = now (length .exit); offsets = now («block_offsets» .exit); strides = now («block_strides» .exit) }) r ⌝ }
+    ensures { λ r. let p = planOf rank operands (now (extents .entry)) (now (blocks .entry)) (now (strides .entry)) in
+        let w = walkAt (now (ended .entry)) (now (counters .entry)) (now (offsets .entry)) in
+        let w′ = walkAt (now (ended .exit)) (now (counters .exit)) (now (offsets .exit)) in
+        let old = stepAt w (now («block_counters» .entry)) (now (length .entry)) (now («block_offsets» .entry)) (now («block_strides» .entry)) in
+        let new = stepAt w′ (now («block_counters» .exit)) (now (length .exit)) (now («block_offsets» .exit)) (now («block_strides» .exit)) in
+        ⌜ Steps (stepped p (walkIn w)) old new r ⌝ }
 {
     let plan = plan_of(rank, operands, extents, blocks, strides);
     let walk = walk_of(ended, counters, offsets);

@@ -26,7 +26,10 @@ pub enum Said {
 // Reads a text. Extents, sizes and strides are laid into the arrays from place 0 on, the strides flat and dense: operand k's stride on axis
 // i at k * rank + i. Numbers that have no place there are read all the same.
 pub fn read_text(text: &[u8], extents: &mut [u64], sizes: &mut [u64], strides: &mut [i64]) -> Said
-    ensures { λ r. ⌜ ReadsText (now (text .entry)) (arrays (now (extents .entry)) (now (sizes .entry)) (now (strides .entry))) (arrays (now (extents .exit)) (now (sizes .exit)) (now (strides .exit))) r ⌝ }
+    ensures { λ r. ⌜ ReadsText (now (text .entry))
+        (arrays (now (extents .entry)) (now (sizes .entry)) (now (strides .entry)))
+        (arrays (now (extents .exit)) (now (sizes .exit)) (now (strides .exit)))
+        r ⌝ }
 {
     if MAX_TEXT < text.len() {
         return Said::Unformed;

@@ -85,7 +85,10 @@ pub fn read_lines(
     sizes: &mut [u64],
     strides: &mut [i64],
 ) -> bool
-    ensures { λ r. ⌜ TakesLines (now (s .entry)) at rank operands (arrays (now (extents .entry)) (now (sizes .entry)) (now (strides .entry))) (arrays (now (extents .exit)) (now (sizes .exit)) (now (strides .exit))) r ⌝ }
+    ensures { λ r. ⌜ TakesLines (now (s .entry)) at rank operands
+        (arrays (now (extents .entry)) (now (sizes .entry)) (now (strides .entry)))
+        (arrays (now (extents .exit)) (now (sizes .exit)) (now (strides .exit)))
+        r ⌝ }
 {
     match read_extents(s, at, rank, extents) {
         Place::To(p) => match read_operands(s, p, rank, operands, sizes, strides) {

@@ -62,8 +62,11 @@ pub record SteppedMany : Type 0 where
   pub lengths : List ℕ
   pub offsets : List ℤ
 
+abbrev pub manyOf : Several → List ℕ → List ℤ → SteppedMany
+manyOf several lengths offsets = record { several = several; lengths = lengths; offsets = offsets }
+
 -- MANY STEPS: on "ended" and on a refusal there is no block, so nothing is written
 unfoldable pub steppedMany : Plan → Walk → List ℕ → List ℤ → SteppedMany
 steppedMany p w lengths offsets =
     let ss : List Stepped = nextBlocks (roomFor (p .operands) (length lengths) (length offsets)) p w in
-    record { several = severalOf p w ss; lengths = laidOn (lengthsOf ss) lengths; offsets = laidOn (offsetsOf (p .operands) ss) offsets }
+    manyOf (severalOf p w ss) (laidOn (lengthsOf ss) lengths) (laidOn (offsetsOf (p .operands) ss) offsets)

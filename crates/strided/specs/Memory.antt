@@ -54,6 +54,10 @@ pub record PlanMemory : Type 0 where
   pub blocks : List ℕ
   pub strides : List ℤ
 
+-- out of its parts, as a contract names them
+abbrev pub planAt : List ℕ → List ℕ → List ℕ → List ℕ → List ℤ → PlanMemory
+planAt rank operands e b s = record { rank = rank; operands = operands; extents = e; blocks = b; strides = s }
+
 abbrev pub planMemory : Plan → PlanMemory
 planMemory p = record { rank = p .rank ∷ []; operands = p .operands ∷ []; extents = p .extents; blocks = p .blocks; strides = p .strides }
 
@@ -61,6 +65,9 @@ planMemory p = record { rank = p .rank ∷ []; operands = p .operands ∷ []; ex
 pub record IndexMemory : Type 0 where
   pub count : List ℕ
   pub index : List ℕ
+
+abbrev pub indexAt : List ℕ → List ℕ → IndexMemory
+indexAt count index = record { count = count; index = index }
 
 abbrev pub indexMemory : Told → IndexMemory
 indexMemory t = record { count = t .count ∷ []; index = t .index }
@@ -70,6 +77,9 @@ pub record WalkMemory : Type 0 where
   pub ended : List ℕ
   pub counters : List ℕ
   pub offsets : List ℤ
+
+abbrev pub walkAt : List ℕ → List ℕ → List ℤ → WalkMemory
+walkAt ended c o = record { ended = ended; counters = c; offsets = o }
 
 abbrev pub walkMemory : Walk → WalkMemory
 walkMemory w = record { ended = flag (w .ended) ∷ []; counters = w .counters; offsets = w .offsets }
@@ -86,6 +96,10 @@ pub record StepMemory : Type 0 where
   pub offsets : List ℤ
   pub strides : List ℤ
 
+abbrev pub stepAt : WalkMemory → List ℕ → List ℕ → List ℤ → List ℤ → StepMemory
+stepAt walk counters length offsets strides =
+    record { walk = walk; counters = counters; length = length; offsets = offsets; strides = strides }
+
 abbrev pub stepMemory : Stepped → StepMemory
 stepMemory s =
     record { walk = walkMemory (s .walk); counters = s .counters; length = s .length ∷ []; offsets = s .offsets; strides = s .strides }
@@ -95,6 +109,9 @@ pub record ManyMemory : Type 0 where
   pub walk : WalkMemory
   pub lengths : List ℕ
   pub offsets : List ℤ
+
+abbrev pub manyAt : WalkMemory → List ℕ → List ℤ → ManyMemory
+manyAt walk lengths offsets = record { walk = walk; lengths = lengths; offsets = offsets }
 
 abbrev pub manyMemory : SteppedMany → ManyMemory
 manyMemory m = record { walk = walkMemory (m .several .walk); lengths = m .lengths; offsets = m .offsets }

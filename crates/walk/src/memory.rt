@@ -3,7 +3,7 @@ ghost use mathlib.Core.Path.{_≡_};
 ghost use mathlib.Core.Bool.{false};
 ghost use lib.IntN.{pos};
 ghost use Rattle.strided.specs.Step.{stepped};
-ghost use Rattle.strided.specs.Memory.{planOf, walkOf, flag as flagOf, walkIn, Steps};
+ghost use Rattle.strided.specs.Memory.{planOf, walkOf, flag as flagOf, walkAt, walkIn, stepAt, Steps};
 ghost use Rattle.walk.specs.Lent.{Taken};
 use crate::answer_of;
 use advance::advance;
@@ -60,7 +60,12 @@ fn block_into<'a>(
     block_strides: &mut [i64; 8],
 )
     requires { ⌜ Taken (planOf rank operands (now extents) (now blocks) (now strides)) (walkOf false (now counters) (now offsets)) ⌝ }
-    ensures { λ _. ⌜ Steps (stepped (planOf rank operands (now (extents .entry)) (now (blocks .entry)) (now (strides .entry))) (walkOf false (now (counters .entry)) (now (offsets .entry)))) (record { walk = record { ended = now (ended .entry); counters = now (counters .entry); offsets = now (offsets .entry) }; counters = now («block_counters» .entry); length = now (length .entry); offsets = now («block_offsets» .entry); strides = now («block_strides» .entry) }) (record { walk = record { ended = now (ended .exit); counters = now (counters .exit); offsets = now (offsets .exit) }; counters = now («block_counters» .exit); length = now (length .exit); offsets = now («block_offsets» .exit); strides = now («block_strides» .exit) }) (pos 1) ⌝ }
+    ensures { λ _. let p = planOf rank operands (now (extents .entry)) (now (blocks .entry)) (now (strides .entry)) in
+        let w = walkAt (now (ended .entry)) (now (counters .entry)) (now (offsets .entry)) in
+        let w′ = walkAt (now (ended .exit)) (now (counters .exit)) (now (offsets .exit)) in
+        let old = stepAt w (now («block_counters» .entry)) (now (length .entry)) (now («block_offsets» .entry)) (now («block_strides» .entry)) in
+        let new = stepAt w′ (now («block_counters» .exit)) (now (length .exit)) (now («block_offsets» .exit)) (now («block_strides» .exit)) in
+        ⌜ Steps (stepped p (walkOf false (now (counters .entry)) (now (offsets .entry)))) old new (pos 1) ⌝ }
 {
     let w = widths(rank, extents, blocks);
     let mut t = tile_starts(rank, &w, counters);
@@ -102,7 +107,12 @@ pub fn step_into<'a>(
     block_offsets: &mut [i64; 8],
     block_strides: &mut [i64; 8],
 ) -> i64
-    ensures { λ r. ⌜ Steps (stepped (planOf rank operands (now (extents .entry)) (now (blocks .entry)) (now (strides .entry))) (walkIn (record { ended = now (ended .entry); counters = now (counters .entry); offsets = now (offsets .entry) }))) (record { walk = record { ended = now (ended .entry); counters = now (counters .entry); offsets = now (offsets .entry) }; counters = now («block_counters» .entry); length = now (length .entry); offsets = now («block_offsets» .entry); strides = now («block_strides» .entry) }) (record { walk = record { ended = now (ended .exit); counters = now (counters .exit); offsets = now (offsets .exit) }; counters = now («block_counters» .exit); length = now (length .exit); offsets = now («block_offsets» .exit); strides = now («block_strides» .exit) }) r ⌝ }
+    ensures { λ r. let p = planOf rank operands (now (extents .entry)) (now (blocks .entry)) (now (strides .entry)) in
+        let w = walkAt (now (ended .entry)) (now (counters .entry)) (now (offsets .entry)) in
+        let w′ = walkAt (now (ended .exit)) (now (counters .exit)) (now (offsets .exit)) in
+        let old = stepAt w (now («block_counters» .entry)) (now (length .entry)) (now («block_offsets» .entry)) (now («block_strides» .entry)) in
+        let new = stepAt w′ (now («block_counters» .exit)) (now (length .exit)) (now («block_offsets» .exit)) (now («block_strides» .exit)) in
+        ⌜ Steps (stepped p (walkIn w)) old new r ⌝ }
 {
     let over = ended[0] != 0;
     let answer = answer_of(

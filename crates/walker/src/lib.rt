@@ -58,7 +58,8 @@ fn first_cut(rank: usize, w: &[u64; 64]) -> usize
 // The first axis with more than one tile; the rank where there is none.
 fn first_tiled<'a>(rank: usize, e: &'a [u64; 64], w: &'a [u64; 64]) -> usize
     requires { ⌜ rank ≤ 64 ⌝ }
-    ensures { λ r. ⌜ (r ≤ rank) × ((j : ℕ) → j < r → getD (now (e .entry)) j 0 ≤ getD (now (w .entry)) j 0) × (r < rank → getD (now (w .entry)) r 0 < getD (now (e .entry)) r 0) ⌝ }
+    ensures { λ r. ⌜ (r ≤ rank) × ((j : ℕ) → j < r → getD (now (e .entry)) j 0 ≤ getD (now (w .entry)) j 0)
+        × (r < rank → getD (now (w .entry)) r 0 < getD (now (e .entry)) r 0) ⌝ }
 {
     let mut i: usize = 0;
     while i < rank {
@@ -265,7 +266,8 @@ pub fn next_stretch<'a>(
     first: &mut [i64; 8],
 ) -> Next
     requires { ⌜ Strides y (now e) (now w) (now s) (now t) (now c) (now o) ⌝ }
-    ensures { λ r. ⌜ Strode y limit (now (e .entry)) (now (w .entry)) (now (s .entry)) (now (c .entry)) (now (o .entry)) r (now (first .exit)) (now (t .exit)) (now (c .exit)) (now (o .exit)) ⌝ }
+    ensures { λ r. ⌜ Strode y limit (now (e .entry)) (now (w .entry)) (now (s .entry)) (now (c .entry)) (now (o .entry))
+        r (now (first .exit)) (now (t .exit)) (now (c .exit)) (now (o .exit)) ⌝ }
 {
     let length = length_of(y.rank, e, w, &*c);
     let axis = y.axis;

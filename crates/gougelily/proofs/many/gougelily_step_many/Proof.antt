@@ -9,7 +9,7 @@ use mir.Facts.{toZ-ofZ, toZ-pos}
 use mir.Syntax.{w64}
 use mir.Val.{SFits}
 use Rattle.strided.specs.Bulk.{SteppedMany, steppedMany}
-use Rattle.strided.specs.Memory.{planOf, walkIn}
+use Rattle.strided.specs.Memory.{planOf, walkAt, walkIn}
 use Rattle.strided.specs.declared.Plan.{Plan}
 use Rattle.strided.specs.declared.Walk.{Walk}
 use Rattle.gougelily.proofs.Answers.{many-count, many-refused, many-ended, many-blocks}
@@ -21,7 +21,7 @@ abbrev P : tie.Start → Plan
 P s = planOf (s .args .rank) (s .args .operands) (s .args .extents .now) (s .args .blocks .now) (s .args .strides .now)
 
 abbrev W : tie.Start → Walk
-W s = walkIn (record { ended = s .args .ended .now; counters = s .args .counters .now; offsets = s .args .offsets .now })
+W s = walkIn (walkAt (s .args .ended .now) (s .args .counters .now) (s .args .offsets .now))
 
 made : (c : tie.After-step-many-on) → let s = c .before .before .before .before .before .before .before in
     _≡_ {A = SteppedMany} (record { several = c .step-many-on .result; lengths = c .step-many-on .last .1 .1 .1 .1 .1 .1 .0; offsets = c .step-many-on .last .1 .1 .1 .1 .1 .1 .1 .0 })

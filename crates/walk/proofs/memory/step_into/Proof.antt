@@ -3,7 +3,7 @@ use borrow.Author.Needs.{needs}
 use mathlib.Core.Path.{_≡_, refl, sym, ap, _∙_, subst}
 use mir.Facts.{toZ-ofZ}
 use Rattle.strided.specs.Step.{stepped}
-use Rattle.strided.specs.Memory.{planOf, walkIn}
+use Rattle.strided.specs.Memory.{planOf, walkAt, walkIn}
 use Rattle.strided.specs.declared.Outcome.{Outcome}
 use Rattle.strided.specs.declared.Outcome.the-variants.{Block, Ended, Rejected}
 use Rattle.strided.specs.declared.Plan.{Plan}
@@ -19,7 +19,7 @@ abbrev P : tie.Start → Plan
 P s = planOf (s .args .rank) (s .args .operands) (s .args .extents .now) (s .args .blocks .now) (s .args .strides .now)
 
 abbrev W : tie.Start → Walk
-W s = walkIn (record { ended = s .args .ended .now; counters = s .args .counters .now; offsets = s .args .offsets .now })
+W s = walkIn (walkAt (s .args .ended .now) (s .args .counters .now) (s .args .offsets .now))
 
 -- what is known with an answer
 answers : (c : tie.After-answer-of) → (r : Outcome) → c .answer-of .result ≡ r → let s = c .before .before .before .before in Answers (P s) (W s) r
