@@ -19,7 +19,9 @@ use super::stretch::put_stretch;
 use super::stretch::stretch_len;
 use advance::tile_starts;
 use advance::widths;
+use layout::negated;
 use states::no_block;
+use strided::Refusal;
 use walker::ALL;
 use walker::moves_of;
 use walker::next_stretch;
@@ -263,7 +265,7 @@ pub fn list<'a>(
     ensures { λ r. ⌜ now (room .exit) ≡ listedIn (planOf rank operands (now (e .entry)) (now (b .entry)) (now (s .entry))) (now (room .entry)) .room ⌝ }
 {
     let Measured::Fits(n) = measure(rank, operands, e, b, s, room.len()) else {
-        return -14;
+        return negated(Refusal::Room);
     };
     write(rank, operands, e, b, s, room);
     n as i64

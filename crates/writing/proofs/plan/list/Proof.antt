@@ -5,7 +5,7 @@ use mathlib.Core.Path.{_≡_, ap, _∙_}
 use Prim.Native.Nat.{_^_, _≤_, _<_}
 use lib.ListN.{length}
 use mir.Syntax.{w64}
-use mir.Facts.{toZ-pos}
+use mir.Facts.{toZ-pos, toZ-ofZ}
 use Rattle.strided.specs.Text.{printedPlan, Listing}
 use Rattle.strided.specs.Memory.{planOf}
 use Rattle.strided.specs.declared.Plan.{Plan}
@@ -40,13 +40,17 @@ enum-known-n c = search needs
 enum-told : tie.Need-enum-told
 enum-told c = search needs
 
+negated-requires : tie.Need-negated-requires
+negated-requires c κs = search needs
+
 returns : tie.Need-returns
 returns c =
-    let s = c .before .before .before .before in
+    let k = c .before in
+    let s = k .before .before .before .before in
     let p : Plan = plan s in
     let room = s .args .room .now in
-    let e = listed-full p room (more-measured (length (printedPlan p)) (length room) (c .before .before .measure .ensures) (c .enum-told .given .1)) in
-    (ap (λ (l : Listing). l .answer) e, ap (λ (l : Listing). l .room) e)
+    let e = listed-full p room (more-measured (length (printedPlan p)) (length room) (k .before .before .measure .ensures) (k .enum-told .given .1)) in
+    (toZ-ofZ (record { sfits = c .negated .ok }) ∙ c .negated .ensures ∙ ap (λ (l : Listing). l .answer) e, ap (λ (l : Listing). l .room) e)
 
 write-requires : tie.Need-write-requires
 write-requires c κs = (c .before .before .before .before .before .before .pre, fitting (c .before .before) .0)
@@ -72,6 +76,7 @@ list-spec =
     measure-requires
     enum-known-n
     enum-told
+    negated-requires
     returns
     write-requires
     cast-result
