@@ -14,7 +14,9 @@ carry-requires-2 : tie.Need-carry-requires-2
 carry-requires-2 c κs = (c .before .before .before .before .carry .ensures .roomy, (c .before .before .before .before .carry .ensures .tiled, omega arith))
 
 returns-2 : tie.Need-returns-2
-returns-2 c = tile-done (c .before .before .before .before .before .before .before .before .before .pre .1 .1) (c .before .before .before .before .before .carry .ensures) (c .before .before .before .before .if1 .left) (c .carry2 .ensures)
+returns-2 c =
+    let l = c .before .before .before .before in
+    tile-done (l .before .before .before .before .before .pre .1 .1) (l .before .carry .ensures) (l .if1 .left) (c .carry2 .ensures)
 
 pub advance-spec : {M : Type 1} → statement M
 advance-spec = tie.close (tie.spec carry-requires returns carry-requires-2 returns-2)

@@ -49,29 +49,42 @@ aim-of-requires c κs =
 shift-requires : tie.Need-shift-requires Inv-loop μ-loop
 shift-requires c κs = shifts-at _ _ _ _ _ _ _ _ _ _ _ _ _ _ (c .before .before .before .before .before .before .before .loop .inv .1) (c .before .before .before .before .before .before .before .loop .inv .0) (c .before .before .before .before .before .before .loop-test .taken) _ (c .before .aim-of .ensures)
 
+-- where the axis has moved: this turn, and where its target was found
+abbrev turn : tie.After-shift Inv-loop μ-loop → tie.In-loop Inv-loop μ-loop
+turn c = c .before .before .before .before .before .before .before
+
+abbrev aimed : tie.After-shift Inv-loop μ-loop → tie.After-aim-of Inv-loop μ-loop
+aimed c = c .before .before
+
 mul-c : tie.Need-mul-c Inv-loop μ-loop
-mul-c c = record { fits = omega (arith, c .before .before .before .before .before .before .before .before .loop .inv .0, c .before .before .before .before .before .before .before .before .loop .inv .1 .roomy .axes) }
+mul-c c = let i = turn c .before .loop .inv in record { fits = omega (arith, i .0, i .1 .roomy .axes) }
 
 element-write-c : tie.Need-element-write-c Inv-loop μ-loop
-element-write-c c = omega (arith, c .before .before .before .before .before .before .before .before .loop .inv .0, c .before .before .before .before .before .before .before .before .loop .inv .1 .roomy .axes)
+element-write-c c = let i = turn c .before .loop .inv in omega (arith, i .0, i .1 .roomy .axes)
 
 mul-t : tie.Need-mul-t Inv-loop μ-loop
-mul-t c = record { fits = omega (arith, c .before .before .before .before .before .before .before .before .loop .inv .0, c .before .before .before .before .before .before .before .before .loop .inv .1 .roomy .axes) }
+mul-t c = let i = turn c .before .loop .inv in record { fits = omega (arith, i .0, i .1 .roomy .axes) }
 
 element-write-t : tie.Need-element-write-t Inv-loop μ-loop
-element-write-t c = omega (arith, c .before .before .before .before .before .before .before .before .loop .inv .0, c .before .before .before .before .before .before .before .before .loop .inv .1 .roomy .axes)
+element-write-t c = let i = turn c .before .loop .inv in omega (arith, i .0, i .1 .roomy .axes)
 
 returns : tie.Need-returns Inv-loop μ-loop
-returns c = stops-at _ _ _ _ _ _ _ _ _ _ _ _ _ _ (c .before .before .before .before .before .before .before .before .before .loop .inv .1) (c .before .before .before .before .before .before .before .before .before .loop .inv .0) (c .before .before .before .before .before .before .before .before .loop-test .taken) _ (c .before .before .before .aim-of .ensures) _ (c .before .shift .ensures) (c .if1 .taken)
+returns c =
+    let f = c .before in
+    let i = turn f .before .loop .inv in
+    stops-at _ _ _ _ _ _ _ _ _ _ _ _ _ _ (i .1) (i .0) (turn f .loop-test .taken) _ (aimed f .aim-of .ensures) _ (f .shift .ensures) (c .if1 .taken)
 
 add-i : tie.Need-add-i Inv-loop μ-loop
-add-i c = record { fits = omega (arith, c .before .before .before .before .before .before .before .before .before .loop .inv .0, c .before .before .before .before .before .before .before .before .before .loop .inv .1 .roomy .axes) }
+add-i c = let i = turn (c .before) .before .loop .inv in record { fits = omega (arith, i .0, i .1 .roomy .axes) }
 
 loop-less : tie.Need-loop-less Inv-loop μ-loop
 loop-less c = omega arith
 
 loop-again : tie.Need-loop-again Inv-loop μ-loop
-loop-again c = (c .before .before .before .before .before .before .before .before .before .loop .inv .0, goes-on-at _ _ _ _ _ _ _ _ _ _ _ _ _ _ (c .before .before .before .before .before .before .before .before .before .loop .inv .1) (c .before .before .before .before .before .before .before .before .before .loop .inv .0) (c .before .before .before .before .before .before .before .before .loop-test .taken) _ (c .before .before .before .aim-of .ensures) _ (c .before .shift .ensures) (c .if1 .left))
+loop-again c =
+    let f = c .before in
+    let i = turn f .before .loop .inv in
+    (i .0, goes-on-at _ _ _ _ _ _ _ _ _ _ _ _ _ _ (i .1) (i .0) (turn f .loop-test .taken) _ (aimed f .aim-of .ensures) _ (f .shift .ensures) (c .if1 .left))
 
 returns-2 : tie.Need-returns-2 Inv-loop μ-loop
 returns-2 c = ends _ _ _ _ _ _ _ _ _ _ _ _ _ _ (c .before .loop .inv .1) (c .loop-test .left)

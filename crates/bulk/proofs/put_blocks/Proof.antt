@@ -20,8 +20,11 @@ abbrev μ-loop : tie.MeasureT-loop
 μ-loop room rank operands e b s lengths₀ offsets₀ w y d c₀ o₀ first₀ t₀ n₀ lengths offsets c o first t n = room - n
 
 -- from the loop back to the entry of the function
+abbrev ready : tie.At-loop Inv-loop μ-loop → tie.After-moves-of Inv-loop μ-loop
+ready c = c .before .before .before .before
+
 abbrev entry : tie.At-loop Inv-loop μ-loop → tie.Start Inv-loop μ-loop
-entry c = c .before .before .before .before .before .before .before .before .before
+entry c = ready c .before .before .before .before .before
 
 -- a turn of it, and what was worked out before
 abbrev In : Type 0
@@ -31,7 +34,7 @@ abbrev start : In → tie.Start Inv-loop μ-loop
 start c = entry (c .before)
 
 abbrev moved : In → tie.After-moves-of Inv-loop μ-loop
-moved c = c .before .before .before .before .before
+moved c = ready (c .before)
 
 -- its stretch
 abbrev Strides : Type 0

@@ -18,10 +18,17 @@ firsts-requires : tie.Need-firsts-requires
 firsts-requires c κs = operands-few _ _ (c .before .before .before .before .before .before .before .pre)
 
 advance-requires : tie.Need-advance-requires
-advance-requires c κs = (roomy-here _ _ (c .before .before .before .before .before .before .before .before .before .before .before .before .pre) refl, (tiled-here _ _ (c .before .before .before .before .before .before .before .before .before .before .before .before .pre) _ (c .before .before .before .before .before .before .before .before .before .before .before .widths .ensures) _ (c .before .before .before .before .before .before .before .before .tile-starts .ensures), single-all _ _))
+advance-requires c κs =
+    let t = c .before .before .before .before .before .before .before .before in
+    let w = t .before .before .before in
+    let k = w .before .pre in
+    (roomy-here _ _ k refl, (tiled-here _ _ k _ (w .widths .ensures) _ (t .tile-starts .ensures), single-all _ _))
 
 returns : tie.Need-returns
-returns c = block-step _ _ (c .before .before .before .before .before .before .before .before .before .before .before .before .before .pre) refl _ (c .before .before .before .before .before .before .before .before .before .before .before .before .widths .ensures) (c .before .before .before .before .before .before .length-of .ensures) (c .before .before .before .before .before .firsts .ensures) (c .advance .ensures)
+returns c =
+    let f = c .before .before .before .before .before in
+    let w = f .before .before .before .before .before .before .before in
+    block-step _ _ (w .before .pre) refl _ (w .widths .ensures) (f .before .length-of .ensures) (f .firsts .ensures) (c .advance .ensures)
 
 pub block-at-spec : {M : Type 1} → statement M
 block-at-spec =

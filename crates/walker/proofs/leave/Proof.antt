@@ -32,6 +32,13 @@ element-write-c c = search needs
 add-carry : tie.Need-add-carry
 add-carry c = search needs
 
+-- behind the first carry: where the axis was left by a tile, and the entry
+abbrev tile : tie.After-carry → tie.Then1
+tile c = c .before .before .before .before .before .before .before
+
+abbrev moved : tie.After-carry → tie.After-shift
+moved c = c .before .before .before .before
+
 carry-requires : tie.Need-carry-requires
 carry-requires c κs =
     let k = c .before .before .before .before .before .before .before .before .pre in
@@ -40,9 +47,10 @@ carry-requires c κs =
 
 returns : tie.Need-returns
 returns c =
-    let k = c .before .before .before .before .before .before .before .before .before .before .pre in
-    let e = home-tile (k .0) (k .1 .0) (c .before .before .before .before .before .before .before .before .if1 .taken) in
-    left-inside-at (k .0) (k .1 .0) e (c .before .before .before .before .before .shift .ensures) (k .1 .1) (c .before .before .before .before .before .before .before .before .if1 .taken) (c .before .carry .ensures) (c .if2 .taken)
+    let f = c .before in
+    let h = tile f in
+    let k = h .before .before .pre in
+    left-inside-at (k .0) (k .1 .0) (home-tile (k .0) (k .1 .0) (h .if1 .taken)) (moved f .shift .ensures) (k .1 .1) (h .if1 .taken) (f .carry .ensures) (c .if2 .taken)
 
 carry-requires-2 : tie.Need-carry-requires-2
 carry-requires-2 c κs =
@@ -51,9 +59,11 @@ carry-requires-2 c κs =
 
 returns-2 : tie.Need-returns-2
 returns-2 c =
-    let k = c .before .before .before .before .before .before .before .before .before .before .before .before .before .before .pre in
-    let e = home-tile (k .0) (k .1 .0) (c .before .before .before .before .before .before .before .before .before .before .before .before .if1 .taken) in
-    left-tile-at (k .0) (k .1 .0) e (c .before .before .before .before .before .before .before .before .before .shift .ensures) (k .1 .1) (c .before .before .before .before .before .before .before .before .before .before .before .before .if1 .taken) (c .before .before .before .before .before .carry .ensures) (c .before .before .before .before .if2 .left) (c .carry2 .ensures)
+    let l = c .before .before .before .before in
+    let f = l .before in
+    let h = tile f in
+    let k = h .before .before .pre in
+    left-tile-at (k .0) (k .1 .0) (home-tile (k .0) (k .1 .0) (h .if1 .taken)) (moved f .shift .ensures) (k .1 .1) (h .if1 .taken) (f .carry .ensures) (l .if2 .left) (c .carry2 .ensures)
 
 shift-requires-2 : tie.Need-shift-requires-2
 shift-requires-2 c κs =

@@ -82,18 +82,25 @@ go-on-requires-2 c κs =
     let k = start x .pre in
     may-go k _ (last-less k (x .blocks-left .ensures .0)) (x .blocks-left .ensures .1)
 
+-- behind the last block of the axis: where it was found that the stretch goes to the end
+abbrev whole : tie.After-go-on2 → tie.Else1
+whole c = c .before .before .before .before .before .before
+
 advance-requires : tie.Need-advance-requires
 advance-requires c κs =
-    let x = c .before .before .before .before .before .before .before .before .before .before .before in
+    let f = c .before .before .before in
+    let x = whole f .before .before in
     let k = start x .pre in
-    let g = gone-on k _ (last-less k (x .blocks-left .ensures .0)) (c .before .before .before .go-on2 .ensures) in
+    let g = gone-on k _ (last-less k (x .blocks-left .ensures .0)) (f .go-on2 .ensures) in
     (g .roomy, (g .tiled, k .leads .single))
 
 returns-3 : tie.Need-returns-3
 returns-3 c =
-    let x = c .before .before .before .before .before .before .before .before .before .before .before .before in
+    let f = c .before .before .before .before in
+    let h = whole f in
+    let x = h .before .before in
     let k = start x .pre in
-    strode-all k (x .blocks-left .ensures .0) (long x .length-of .ensures) refl _ (c .before .before .before .before .before .before .before .before .before .before .if1 .left) (gone-last k (x .blocks-left .ensures .0) (c .before .before .before .before .go-on2 .ensures) (c .advance .ensures))
+    strode-all k (x .blocks-left .ensures .0) (long x .length-of .ensures) refl _ (h .if1 .left) (gone-last k (x .blocks-left .ensures .0) (f .go-on2 .ensures) (c .advance .ensures))
 
 pub next-stretch-spec : {M : Type 1} → statement M
 next-stretch-spec =

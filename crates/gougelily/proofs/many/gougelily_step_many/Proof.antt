@@ -56,8 +56,12 @@ enum-told-2 c = search needs
 flag-requires : tie.Need-flag-requires
 flag-requires c κs = search needs
 
+-- from where blocks were answered back to the call
+abbrev answered : tie.After-enum-told2 → tie.After-step-many-on
+answered c = c .before .before .before .before .before
+
 cast-result : tie.Need-cast-result
-cast-result c = count-fits (c .before .before .before .before .before .before .before .before .before .before .before)
+cast-result c = count-fits (answered (c .before .before .before .before .before .before))
 
 same-length : tie.Need-same-length
 same-length c = search needs
@@ -85,9 +89,10 @@ same-length-6 c = search needs
 
 returns-3 : tie.Need-returns-3
 returns-3 c =
-    let k = c .before .before .before .before .before .before .before .before .before .before .before in
+    let b = c .before .before .before .before .before .before in
+    let k = answered b in
     let w = k .step-many-on .result .walk in
-    many-blocks _ _ _ _ (made k) _ (c .before .before .before .before .before .before .enum-told2 .given .1) (λ i. record { ended = c .before .before .before .before .flag .ensures i ∷ []; counters = w .counters; offsets = w .offsets })
+    many-blocks _ _ _ _ (made k) _ (b .enum-told2 .given .1) (λ i. record { ended = c .before .before .before .before .flag .ensures i ∷ []; counters = w .counters; offsets = w .offsets })
     (toZ-pos w64 (count-fits k .sfits))
 
 pub gougelily-step-many-spec : {M : Type 1} → statement M

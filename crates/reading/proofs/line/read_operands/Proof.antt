@@ -41,8 +41,8 @@ returns c =
 
 add-from : tie.Need-add-from Inv-loop μ-loop
 add-from c =
-    let l = c .before .before .before .before .before .before .before .before .before .before in
     let z = c .before .before .before .before .before in
+    let l = z .before .before .before .before .before in
     let h = lining-short (l .before .loop .inv) (z .size .given .0 .1 .0) (z .before .before .before .read-operand .ensures .value _ _ (z .size .given .1)) in
     search needs
 
@@ -54,8 +54,8 @@ loop-less c = search needs
 
 loop-again : tie.Need-loop-again Inv-loop μ-loop
 loop-again c =
-    let l = c .before .before .before .before .before .before .before .before .before .before in
     let z = c .before .before .before .before .before in
+    let l = z .before .before .before .before .before in
     rw (c .before .before .keep .ensures) (lining-turn (l .before .loop .inv) _ (z .before .before .before .read-operand .ensures .value _ _ (z .size .given .1)) (l .loop-test .taken))
 
 same-length-3 : tie.Need-same-length-3 Inv-loop μ-loop

@@ -52,7 +52,10 @@ room-above-requires c κs =
     omega (arith, h)
 
 returns : tie.Need-returns
-returns c = high-test _ _ _ _ _ (c .before .before .before .before .before .before .before .before .before .pre) _ (c .before .before .before .before .below-of .ensures) _ (c .before .before .before .before .before .before .reach-at .ensures) _ (toZ-ofZ (sfits-of (c .before .before .before .o .given))) (c .before .before .room-below .ensures) (c .before .if1 .taken) (c .room-above .ensures)
+returns c =
+    let b = c .before .before .before .before in
+    let r = b .before .before in
+    high-test _ _ _ _ _ (r .before .before .before .pre) _ (b .below-of .ensures) _ (r .reach-at .ensures) _ (toZ-ofZ (sfits-of (c .before .before .before .o .given))) (c .before .before .room-below .ensures) (c .before .if1 .taken) (c .room-above .ensures)
 
 returns-2 : tie.Need-returns-2
 returns-2 c = too-low _ _ _ _ _ (c .before .before .before .before .before .before .before .before .pre) _ (c .before .before .before .below-of .ensures) _ (c .before .before .before .before .before .reach-at .ensures) _ (toZ-ofZ (sfits-of (c .before .before .o .given))) (c .before .room-below .ensures) (c .if1 .left)

@@ -6,6 +6,16 @@ use borrow.Author.Needs.{needs}
 use Rattle.states.proofs.state.reaches.Statement.{statement}
 use Rattle.states.proofs.state.reaches.Tie as tie
 
+-- the places behind a test that was passed: back to the one before, and to the entry
+abbrev start-1 : tie.Then1 → tie.Start
+start-1 c = c .before .before .before .before .before
+
+abbrev test-1 : tie.Then2 → tie.Then1
+test-1 c = c .before .before .before
+
+abbrev test-2 : tie.Then3 → tie.Then2
+test-2 c = c .before .before .before .before .before
+
 tidy-requires : tie.Need-tidy-requires
 tidy-requires c κs = search needs
 
@@ -23,63 +33,72 @@ may-start-requires c κs =
 
 slice-aggregate-stands : tie.Need-slice-aggregate-stands
 slice-aggregate-stands c =
-    let s = c .before .before .before .before .before .before .before .before .before in
+    let s = start-1 (test-1 (c .before)) in
     let a = s .args in
     cut-length (a .rank) (a .e .now) (omega (arith, s .pre .extents, s .pre .axes))
 
 slice-aggregate-stands-2 : tie.Need-slice-aggregate-stands-2
 slice-aggregate-stands-2 c =
-    let s = c .before .before .before .before .before .before .before .before .before .before in
+    let s = start-1 (test-1 (c .before .before)) in
     let a = s .args in
     cut-length (a .rank) (a .b .now) (omega (arith, s .pre .blocks, s .pre .axes))
 
 slice-aggregate-stands-3 : tie.Need-slice-aggregate-stands-3
 slice-aggregate-stands-3 c =
-    let s = c .before .before .before .before .before .before .before .before .before .before .before in
+    let s = start-1 (test-1 (c .before .before .before)) in
     let a = s .args in
     cut-length (a .rank) (a .c .now) (omega (arith, s .pre .counters, s .pre .axes))
 
 stands-requires : tie.Need-stands-requires
 stands-requires c κs =
-    let s = c .before .before .before .before .before .before .before .before .before .before .before in
+    let s = start-1 (test-1 (c .before .before .before)) in
     let a = s .args in
     (blocks-long (a .ended) (a .rank) (a .operands) (a .e .now) (a .b .now) (a .s .now) (a .c .now) (a .o .now) (s .pre), counters-long (a .ended) (a .rank) (a .operands) (a .e .now) (a .b .now) (a .s .now) (a .c .now) (a .o .now) (s .pre))
 
 slice-aggregate-starts-leave : tie.Need-slice-aggregate-starts-leave
 slice-aggregate-starts-leave c =
-    let s = c .before .before .before .before .before .before .before .before .before .before .before .before .before .before in
+    let s = start-1 (test-1 (test-2 (c .before))) in
     let a = s .args in
     cut-length (a .rank) (a .e .now) (omega (arith, s .pre .extents, s .pre .axes))
 
 slice-aggregate-starts-leave-2 : tie.Need-slice-aggregate-starts-leave-2
 slice-aggregate-starts-leave-2 c =
-    let s = c .before .before .before .before .before .before .before .before .before .before .before .before .before .before .before in
+    let s = start-1 (test-1 (test-2 (c .before .before))) in
     let a = s .args in
     cut-length (a .rank) (a .c .now) (omega (arith, s .pre .counters, s .pre .axes))
 
 starts-leave-requires : tie.Need-starts-leave-requires
 starts-leave-requires c κs =
-    let s = c .before .before .before .before .before .before .before .before .before .before .before .before .before .before .before in
+    let k = c .before .before in
+    let h = test-2 k in
+    let g = test-1 h in
+    let s = start-1 g in
     let a = s .args in
-    begins-here (a .ended) (a .rank) (a .operands) (a .e .now) (a .b .now) (a .s .now) (a .c .now) (a .o .now) (s .pre) (c .before .before .before .before .before .before .before .before .before .before .before .tidy .ensures) (c .before .before .before .before .before .before .before .before .before .before .if1 .taken) (c .before .before .before .before .before .before .before .before .may-start .ensures) (c .before .before .before .before .before .before .before .if2 .taken) (c .before .before .before .stands .ensures) (c .before .before .if3 .taken)
+    begins-here (a .ended) (a .rank) (a .operands) (a .e .now) (a .b .now) (a .s .now) (a .c .now) (a .o .now) (s .pre) (g .before .tidy .ensures) (g .if1 .taken) (h .before .may-start .ensures) (h .if2 .taken) (k .before .stands .ensures) (k .if3 .taken)
 
 returns : tie.Need-returns
 returns c =
-    let s = c .before .before .before .before .before .before .before .before .before .before .before .before .before .before .before .before in
+    let k = c .before .before .before in
+    let h = test-2 k in
+    let g = test-1 h in
+    let s = start-1 g in
     let a = s .args in
-    leave-last (a .ended) (a .rank) (a .operands) (a .e .now) (a .b .now) (a .s .now) (a .c .now) (a .o .now) (s .pre) (c .before .before .before .before .before .before .before .before .before .before .before .before .tidy .ensures) (c .before .before .before .before .before .before .before .before .before .before .before .if1 .taken) (c .before .before .before .before .before .before .before .before .before .may-start .ensures) (c .before .before .before .before .before .before .before .before .if2 .taken) (c .before .before .before .before .stands .ensures) (c .before .before .before .if3 .taken) (c .starts-leave .ensures)
+    leave-last (a .ended) (a .rank) (a .operands) (a .e .now) (a .b .now) (a .s .now) (a .c .now) (a .o .now) (s .pre) (g .before .tidy .ensures) (g .if1 .taken) (h .before .may-start .ensures) (h .if2 .taken) (k .before .stands .ensures) (k .if3 .taken) (c .starts-leave .ensures)
 
 returns-2 : tie.Need-returns-2
 returns-2 c =
-    let s = c .before .before .before .before .before .before .before .before .before .before .before .before .before in
+    let h = c .before .before .before .before .before in
+    let g = test-1 h in
+    let s = start-1 g in
     let a = s .args in
-    stands-not (a .ended) (a .rank) (a .operands) (a .e .now) (a .b .now) (a .s .now) (a .c .now) (a .o .now) (s .pre) (c .before .before .before .before .before .before .before .before .before .tidy .ensures) (c .before .before .before .before .before .before .before .before .if1 .taken) (c .before .before .before .before .before .before .may-start .ensures) (c .before .before .before .before .before .if2 .taken) (c .before .stands .ensures) (c .if3 .left)
+    stands-not (a .ended) (a .rank) (a .operands) (a .e .now) (a .b .now) (a .s .now) (a .c .now) (a .o .now) (s .pre) (g .before .tidy .ensures) (g .if1 .taken) (h .before .may-start .ensures) (h .if2 .taken) (c .before .stands .ensures) (c .if3 .left)
 
 returns-3 : tie.Need-returns-3
 returns-3 c =
-    let s = c .before .before .before .before .before .before .before .before in
+    let g = c .before .before .before in
+    let s = start-1 g in
     let a = s .args in
-    may-not (a .ended) (a .rank) (a .operands) (a .e .now) (a .b .now) (a .s .now) (a .c .now) (a .o .now) (s .pre) (c .before .before .before .before .tidy .ensures) (c .before .before .before .if1 .taken) (c .before .may-start .ensures) (c .if2 .left)
+    may-not (a .ended) (a .rank) (a .operands) (a .e .now) (a .b .now) (a .s .now) (a .c .now) (a .o .now) (s .pre) (g .before .tidy .ensures) (g .if1 .taken) (c .before .may-start .ensures) (c .if2 .left)
 
 returns-4 : tie.Need-returns-4
 returns-4 c =

@@ -22,7 +22,8 @@ firsts-requires c κs = operands-few _ _ (c .before .before .before .before .bef
 
 advance-requires : tie.Need-advance-requires
 advance-requires c κs =
-    let t = c .before .before .before .before .before .before .before .before .before .before .before in
+    let f = c .before .before .before .before .before .before .before in
+    let t = f .before .before .before .before in
     let w = t .before .before .before in
     let k = w .before .pre in
     (roomy-here _ _ k refl, (tiled-here _ _ k _ (w .widths .ensures) _ (t .tile-starts .ensures), single-all _ _))

@@ -20,13 +20,16 @@ put-numbers-requires c κs =
 
 put-signed-requires : tie.Need-put-signed-requires
 put-signed-requires c κs =
-    let a = c .before .before .before .before .before .before .before .before .before .before .before .args in
+    let numbers = c .before .before .before in
+    let a = numbers .before .before .before .before .before .before .before .before .args in
     let l = line-length (a .letter) (a .numbers .now) (a .signed .now) in
     omega arith
 
 put-byte-requires-2 : tie.Need-put-byte-requires-2
 put-byte-requires-2 c κs =
-    let a = c .before .before .before .before .before .before .before .before .before .before .before .before .before .before .before .args in
+    let signed = c .before .before .before in
+    let numbers = signed .before .before .before .before in
+    let a = numbers .before .before .before .before .before .before .before .before .args in
     let l = line-length (a .letter) (a .numbers .now) (a .signed .now) in
     omega arith
 

@@ -20,8 +20,8 @@ same-length c = search needs
 
 returns : tie.Need-returns
 returns c =
-    wrote-is (wrote-then (c .before .before .before .before .before .before .put-byte .ensures) (c .before .before .put-i64 .ensures) (omega arith))
-    (ap signedField (toZ-ofZ (c .before .before .before .before .before .before .before .before .before .fits .z)))
+    let comma = c .before .before .before .before .before .before in
+    wrote-is (wrote-then (comma .put-byte .ensures) (c .before .before .put-i64 .ensures) (omega arith)) (ap signedField (toZ-ofZ (comma .before .before .before .fits .z)))
 
 pub put-signed-field-spec : {M : Type 1} → statement M
 put-signed-field-spec = tie.close (tie.spec put-byte-requires put-i64-requires same-length returns)

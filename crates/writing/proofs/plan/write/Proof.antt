@@ -32,7 +32,8 @@ put-axes-requires c κs =
 
 put-walk-requires : tie.Need-put-walk-requires
 put-walk-requires c κs =
-    let s = c .before .before .before .before .before .before .before .before .before .before in
+    let rank = c .before .before .before .before .before .before in
+    let s = rank .before .before .before .before in
     let l = printed-length (plan s) in
     (s .pre .0, omega arith)
 
