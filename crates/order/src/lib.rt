@@ -6,7 +6,7 @@ use layout::total_at_most;
 use strided::Purpose;
 ghost use mathlib.Core.Path.{_≡_};
 ghost use Prim.Native.Nat.{_≤_};
-ghost use lib.ListN.{length};
+ghost use lib.ListN.{length, replicate};
 ghost use Rattle.strided.specs.Base.{padded, run};
 ghost use Rattle.strided.specs.Order.{loopOrder, fusingOrder};
 ghost use Rattle.auxiliary.specs.Fitting.{Fitting};
@@ -28,32 +28,35 @@ pub fn compute_order(
     sort_by_importance(&importance, extents)
 }
 
-// The axes as they are given.
-fn as_given(rank: usize) -> [usize; 64]
+// The axes as they are given, written into an array of zeros.
+fn as_given(rank: usize, out: &mut [usize; 64])
     requires { ⌜ rank ≤ 64 ⌝ }
-    ensures { λ r. ⌜ r ≡ padded 64 0 (run 0 rank) ⌝ }
+    requires { ⌜ now out ≡ replicate 64 0 ⌝ }
+    ensures { λ _. ⌜ now (out .exit) ≡ padded 64 0 (run 0 rank) ⌝ }
 {
-    let mut out = [0usize; 64];
     let mut i: usize = 0;
     while i < rank {
         out[i] = i;
         i += 1;
     }
-    out
 }
 
-// The order in which a plan's axes are fused: as given if the layout is small, else the loop order.
-pub fn fusing_order(
+// The order in which a plan's axes are fused, written into an array of zeros: as given if the layout is small, else the loop order.
+pub fn fusing_order_into(
     extents: &[u64],
     strides: &[i64],
     operands: usize,
     purpose: Purpose,
-) -> [usize; 64]
+    out: &mut [usize; 64],
+)
     requires { ⌜ Fitting (now strides) (length (now extents)) operands ⌝ }
-    ensures { λ r. ⌜ r ≡ padded 64 0 (fusingOrder (now (extents .entry)) operands (now (strides .entry)) purpose) ⌝ }
+    requires { ⌜ now out ≡ replicate 64 0 ⌝ }
+    ensures { λ _. ⌜ now (out .exit) ≡ padded 64 0 (fusingOrder (now (extents .entry)) operands (now (strides .entry)) purpose) ⌝ }
 {
     if total_at_most(extents, SMALL_TENSOR_THRESHOLD) {
-        return as_given(extents.len());
+        as_given(extents.len(), out);
+        return;
     }
-    compute_order(extents, strides, operands, purpose)
+    let found = compute_order(extents, strides, operands, purpose);
+    *out = found;
 }
