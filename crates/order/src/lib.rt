@@ -1,6 +1,6 @@
 // The loop order of a layout, its axes from the innermost loop to the outermost, and the order in which a plan's axes are fused.
 use importance::compute_importance;
-use importance::sort_by_importance;
+use importance::sort_by_importance_into;
 use layout::lead;
 use layout::total_at_most;
 use strided::Purpose;
@@ -15,17 +15,20 @@ ghost use Rattle.auxiliary.specs.Fitting.{Fitting};
 pub const SMALL_TENSOR_THRESHOLD: u64 = 1024;
 
 // The axes of a layout by falling weight, where the lead is the chosen operand, or operand 0 if none is; on equal weight the longer first.
-pub fn compute_order(
+// They are written into an array of zeros.
+pub fn compute_order_into(
     extents: &[u64],
     strides: &[i64],
     operands: usize,
     purpose: Purpose,
-) -> [usize; 64]
+    out: &mut [usize; 64],
+)
     requires { ⌜ Fitting (now strides) (length (now extents)) operands ⌝ }
-    ensures { λ r. ⌜ r ≡ padded 64 0 (loopOrder (now (extents .entry)) operands (now (strides .entry)) purpose) ⌝ }
+    requires { ⌜ now out ≡ replicate 64 0 ⌝ }
+    ensures { λ _. ⌜ now (out .exit) ≡ padded 64 0 (loopOrder (now (extents .entry)) operands (now (strides .entry)) purpose) ⌝ }
 {
     let importance = compute_importance(extents, strides, operands, lead(purpose));
-    sort_by_importance(&importance, extents)
+    sort_by_importance_into(&importance, extents, out);
 }
 
 // The axes as they are given, written into an array of zeros.
@@ -57,6 +60,5 @@ pub fn fusing_order_into(
         as_given(extents.len(), out);
         return;
     }
-    let found = compute_order(extents, strides, operands, purpose);
-    *out = found;
+    compute_order_into(extents, strides, operands, purpose, out);
 }

@@ -28,7 +28,7 @@ use layout::check_layout;
 use layout::lead;
 use layout::number;
 use layout::purpose_of;
-use order::compute_order;
+use order::compute_order_into;
 use strided::Answer;
 use strided::Purpose;
 
@@ -117,8 +117,8 @@ pub extern "C" fn parts_order<'a>(
     match checked {
         Answer::Refused(refusal) => number(refusal),
         Answer::Served => {
-            let found = compute_order(extents, strides, sizes.len(), purpose);
-            *order = found;
+            *order = [0usize; 64];
+            compute_order_into(extents, strides, sizes.len(), purpose, order);
             0
         }
     }

@@ -36,16 +36,16 @@ returns c =
     let a = t .before .before .args in
     c .as-given .ensures ∙ ap (padded 64 0) (small (a .extents .now) (a .operands) (a .strides .now) (a .purpose) (t .total-at-most .ensures) (c .before .before .if1 .taken))
 
-compute-order-requires : tie.Need-compute-order-requires
-compute-order-requires c κs = search needs
+compute-order-into-requires : tie.Need-compute-order-into-requires
+compute-order-into-requires c κs = search needs
 
 returns-2 : tie.Need-returns-2
 returns-2 c =
-    let t = c .before .before in
+    let t = c .before .before .before in
     let a = t .before .before .args in
-    c .compute-order .ensures ∙ ap (padded 64 0) (large (a .extents .now) (a .operands) (a .strides .now) (a .purpose) (t .total-at-most .ensures) (c .before .if1 .left))
+    c .compute-order-into .ensures ∙ ap (padded 64 0) (large (a .extents .now) (a .operands) (a .strides .now) (a .purpose) (t .total-at-most .ensures) (c .before .before .if1 .left))
 
 pub fusing-order-into-spec : {M : Type 1} → statement M
 fusing-order-into-spec =
     tie.close
-    (tie.spec total-at-most-requires as-given-requires returns compute-order-requires returns-2)
+    (tie.spec total-at-most-requires as-given-requires returns compute-order-into-requires returns-2)
