@@ -9,8 +9,8 @@ use crate::answer_of;
 use advance::advance;
 use advance::firsts;
 use advance::length_of;
-use advance::tile_starts;
-use advance::widths;
+use advance::tile_starts_into;
+use advance::widths_into;
 use layout::negated;
 use strided::Outcome;
 use strided::Plan;
@@ -62,8 +62,10 @@ fn block_into<'a>(
     requires { ⌜ Taken (planOf rank operands (now extents) (now blocks) (now strides)) (walkOf false (now counters) (now offsets)) ⌝ }
     ensures { λ _. ⌜ Steps (stepped (planOf rank operands (now (extents .entry)) (now (blocks .entry)) (now (strides .entry))) (walkOf false (now (counters .entry)) (now (offsets .entry)))) (record { walk = record { ended = now (ended .entry); counters = now (counters .entry); offsets = now (offsets .entry) }; counters = now («block_counters» .entry); length = now (length .entry); offsets = now («block_offsets» .entry); strides = now («block_strides» .entry) }) (record { walk = record { ended = now (ended .exit); counters = now (counters .exit); offsets = now (offsets .exit) }; counters = now («block_counters» .exit); length = now (length .exit); offsets = now («block_offsets» .exit); strides = now («block_strides» .exit) }) (pos 1) ⌝ }
 {
-    let w = widths(rank, extents, blocks);
-    let mut t = tile_starts(rank, &w, counters);
+    let mut w = [0u64; 64];
+    widths_into(rank, extents, blocks, &mut w);
+    let mut t = [0u64; 64];
+    tile_starts_into(rank, &w, counters, &mut t);
     let bl = length_of(rank, extents, &w, counters);
     let bs = firsts(rank, operands, strides);
     let bc = *counters;

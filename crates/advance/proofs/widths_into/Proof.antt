@@ -1,4 +1,4 @@
--- `advance::widths` meets its contract. Assumes nothing.
+-- `advance::widths_into` meets its contract. Assumes nothing.
 use borrow.Author.Needs.{needs}
 use Rattle.advance.specs.Axis.{widthAt, widthsTo}
 use Rattle.advance.specs.Filled.{filled-none, filled-more}
@@ -6,8 +6,8 @@ use Prim.Native.Nat.{ℕ, zero-le, _≤_, _-_}
 use native.Mathlib.Omega.{arith}
 use native.Mathlib.Nat.{le-antisymm}
 use mathlib.Core.Path.{_≡_, ap, _∙_}
-use Rattle.advance.proofs.widths.Statement.{statement}
-use Rattle.advance.proofs.widths.Tie as tie
+use Rattle.advance.proofs.widths_into.Statement.{statement}
+use Rattle.advance.proofs.widths_into.Tie as tie
 
 abbrev Inv-loop : tie.InvT-loop
 Inv-loop rank e b w₀ i₀ w i = (i ≤ rank) × (w ≡ widthsTo rank e b i)
@@ -16,7 +16,7 @@ abbrev μ-loop : tie.MeasureT-loop
 μ-loop rank e b w₀ i₀ w i = rank - i
 
 loop-holds : tie.Need-loop-holds Inv-loop μ-loop
-loop-holds c = (zero-le, filled-none _ _)
+loop-holds c = (zero-le, c .pre .1 ∙ filled-none _ _)
 
 mul-width-of : tie.Need-mul-width-of Inv-loop μ-loop
 mul-width-of c = search needs
@@ -36,8 +36,8 @@ width-of-requires c κs = search needs
 mul-w : tie.Need-mul-w Inv-loop μ-loop
 mul-w c = search needs
 
-array-write-w : tie.Need-array-write-w Inv-loop μ-loop
-array-write-w c = search needs
+element-write-w : tie.Need-element-write-w Inv-loop μ-loop
+element-write-w c = search needs
 
 add-i : tie.Need-add-i Inv-loop μ-loop
 add-i c = search needs
@@ -56,8 +56,8 @@ returns c =
     let a = c .before .before .args in
     c .before .loop .inv .1 ∙ ap (λ (n : ℕ). widthsTo (a .rank) (a .e .now) (a .b .now) n) (le-antisymm (c .before .loop .inv .0) (c .loop-test .left))
 
-pub widths-spec : {M : Type 1} → statement M
-widths-spec =
+pub widths-into-spec : {M : Type 1} → statement M
+widths-into-spec =
     tie.close
     (tie.spec
     Inv-loop
@@ -69,7 +69,7 @@ widths-spec =
     element-copy-out-width-of-2
     width-of-requires
     mul-w
-    array-write-w
+    element-write-w
     add-i
     loop-less
     loop-again

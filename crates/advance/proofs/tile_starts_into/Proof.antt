@@ -1,4 +1,4 @@
--- `advance::tile_starts` meets its contract. Assumes nothing.
+-- `advance::tile_starts_into` meets its contract. Assumes nothing.
 use Rattle.advance.specs.Axis.{tileAt, startsTo}
 use Rattle.advance.specs.Filled.{filled-none, filled-more}
 use Prim.Native.Nat.{ℕ, zero-le, _≤_, _-_}
@@ -6,8 +6,8 @@ use native.Mathlib.Omega.{arith}
 use native.Mathlib.Nat.{le-antisymm}
 use mathlib.Core.Path.{_≡_, ap, _∙_}
 use borrow.Author.Needs.{needs}
-use Rattle.advance.proofs.tile_starts.Statement.{statement}
-use Rattle.advance.proofs.tile_starts.Tie as tie
+use Rattle.advance.proofs.tile_starts_into.Statement.{statement}
+use Rattle.advance.proofs.tile_starts_into.Tie as tie
 
 abbrev Inv-loop : tie.InvT-loop
 Inv-loop rank w c t₀ i₀ t i = (i ≤ rank) × (t ≡ startsTo w c i)
@@ -16,7 +16,7 @@ abbrev μ-loop : tie.MeasureT-loop
 μ-loop rank w c t₀ i₀ t i = rank - i
 
 loop-holds : tie.Need-loop-holds Inv-loop μ-loop
-loop-holds c = (zero-le, filled-none _ _)
+loop-holds c = (zero-le, c .pre .1 ∙ filled-none _ _)
 
 mul-tile-start : tie.Need-mul-tile-start Inv-loop μ-loop
 mul-tile-start c = search needs
@@ -31,13 +31,13 @@ element-copy-out-tile-start-2 : tie.Need-element-copy-out-tile-start-2 Inv-loop 
 element-copy-out-tile-start-2 c = search needs
 
 tile-start-requires : tie.Need-tile-start-requires Inv-loop μ-loop
-tile-start-requires c κs = c .before .before .before .before .pre .1 _ (c .before .before .loop-test .taken)
+tile-start-requires c κs = c .before .before .before .before .pre .0 .1 _ (c .before .before .loop-test .taken)
 
 mul-t : tie.Need-mul-t Inv-loop μ-loop
 mul-t c = search needs
 
-array-write-t : tie.Need-array-write-t Inv-loop μ-loop
-array-write-t c = search needs
+element-write-t : tie.Need-element-write-t Inv-loop μ-loop
+element-write-t c = search needs
 
 add-i : tie.Need-add-i Inv-loop μ-loop
 add-i c = search needs
@@ -56,8 +56,8 @@ returns c =
     let a = c .before .before .args in
     c .before .loop .inv .1 ∙ ap (λ (n : ℕ). startsTo (a .w .now) (a .c .now) n) (le-antisymm (c .before .loop .inv .0) (c .loop-test .left))
 
-pub tile-starts-spec : {M : Type 1} → statement M
-tile-starts-spec =
+pub tile-starts-into-spec : {M : Type 1} → statement M
+tile-starts-into-spec =
     tie.close
     (tie.spec
     Inv-loop
@@ -69,7 +69,7 @@ tile-starts-spec =
     element-copy-out-tile-start-2
     tile-start-requires
     mul-t
-    array-write-t
+    element-write-t
     add-i
     loop-less
     loop-again
