@@ -2,7 +2,7 @@
 // No division is made on the way: the block size in force and the start of the tile are kept for each axis beside its counter.
 ghost use mathlib.Core.Path.{_≡_};
 ghost use Prim.Native.Nat.{ℕ, _<_, _≤_};
-ghost use lib.ListN.{getD};
+ghost use lib.ListN.{getD, replicate};
 ghost use Rattle.strided.specs.Walk.{effective};
 ghost use Rattle.advance.specs.Moves.{Moves, afterMove, Shifts, shifted};
 ghost use Rattle.advance.specs.Axis.{widthOf, startOf, insideAim, tileAim, aimOf, widthsTo, startsTo};
@@ -72,18 +72,27 @@ pub fn width_of(rank: usize, axis: usize, extent: u64, block: u64) -> u64
     effective(extent, block)
 }
 
-// The block sizes in force.
-pub fn widths<'a>(rank: usize, e: &'a [u64; 64], b: &'a [u64; 64]) -> [u64; 64]
+// The block sizes in force, written into an array of zeros.
+pub fn widths_into<'a>(rank: usize, e: &'a [u64; 64], b: &'a [u64; 64], w: &mut [u64; 64])
     requires { ⌜ rank ≤ 64 ⌝ }
-    ensures { λ r. ⌜ r ≡ widthsTo rank (now (e .entry)) (now (b .entry)) rank ⌝ }
+    requires { ⌜ now w ≡ replicate 64 0 ⌝ }
+    ensures { λ _. ⌜ now (w .exit) ≡ widthsTo rank (now (e .entry)) (now (b .entry)) rank ⌝ }
 {
-    let mut w = [0u64; 64];
     let mut i = 0;
     while i < rank {
         let x = width_of(rank, i, e[i], b[i]);
         w[i] = x;
         i += 1;
     }
+}
+
+// The block sizes in force.
+pub fn widths<'a>(rank: usize, e: &'a [u64; 64], b: &'a [u64; 64]) -> [u64; 64]
+    requires { ⌜ rank ≤ 64 ⌝ }
+    ensures { λ r. ⌜ r ≡ widthsTo rank (now (e .entry)) (now (b .entry)) rank ⌝ }
+{
+    let mut w = [0u64; 64];
+    widths_into(rank, e, b, &mut w);
     w
 }
 
@@ -95,18 +104,27 @@ fn tile_start(width: u64, at: u64) -> u64
     at / width * width
 }
 
-// Where the tiles start that the counters are in.
-pub fn tile_starts<'a>(rank: usize, w: &'a [u64; 64], c: &'a [u64; 64]) -> [u64; 64]
+// Where the tiles start that the counters are in, written into an array of zeros.
+pub fn tile_starts_into<'a>(rank: usize, w: &'a [u64; 64], c: &'a [u64; 64], t: &mut [u64; 64])
     requires { ⌜ (rank ≤ 64) × ((i : ℕ) → i < rank → 0 < getD (now w) i 0) ⌝ }
-    ensures { λ r. ⌜ r ≡ startsTo (now (w .entry)) (now (c .entry)) rank ⌝ }
+    requires { ⌜ now t ≡ replicate 64 0 ⌝ }
+    ensures { λ _. ⌜ now (t .exit) ≡ startsTo (now (w .entry)) (now (c .entry)) rank ⌝ }
 {
-    let mut t = [0u64; 64];
     let mut i = 0;
     while i < rank {
         let x = tile_start(w[i], c[i]);
         t[i] = x;
         i += 1;
     }
+}
+
+// Where the tiles start that the counters are in.
+pub fn tile_starts<'a>(rank: usize, w: &'a [u64; 64], c: &'a [u64; 64]) -> [u64; 64]
+    requires { ⌜ (rank ≤ 64) × ((i : ℕ) → i < rank → 0 < getD (now w) i 0) ⌝ }
+    ensures { λ r. ⌜ r ≡ startsTo (now (w .entry)) (now (c .entry)) rank ⌝ }
+{
+    let mut t = [0u64; 64];
+    tile_starts_into(rank, w, c, &mut t);
     t
 }
 

@@ -1,12 +1,12 @@
-// Axes and indices put into another order, and back. Planning puts a layout's axes into the order that they are fused in, and dropping
-// the axes of extent 1 is an order too: the order of those that stay. What is written goes into lent arrays, since a table of strides
-// handed back by value would be copied.
+// Axes put into another order. Planning puts a layout's axes into the order that they are fused in, and dropping the axes of extent 1 is
+// an order too: the order of those that stay. What is written goes into lent arrays, since a table of strides handed back by value would
+// be copied.
 ghost use mathlib.Core.Path.{_≡_};
 ghost use Prim.Native.Nat.{ℕ, _+_, _*_, _<_, _≤_};
 ghost use lib.ListN.{length, getD, take, replicate};
 ghost use lib.IntN.{pos};
 ghost use Rattle.strided.specs.Base.{padded};
-ghost use Rattle.strided.specs.Order.{pick, place as placeIn};
+ghost use Rattle.strided.specs.Order.{pick};
 ghost use Rattle.laws.specs.Fuse.Arrays.{pickRows};
 
 // The elements of xs that the first `count` places of the order name, written into an array of zeros.
@@ -22,23 +22,6 @@ pub fn pick_into(xs: &[u64], order: &[usize; 64], count: usize, out: &mut [u64; 
         out[j] = xs[a];
         j += 1;
     }
-}
-
-// An index in the order, put back into its places.
-pub fn placed(index: &[u64; 64], order: &[usize; 64], rank: usize) -> [u64; 64]
-    requires index { ⌜ length (now index) ≡ 64 ⌝ }
-    requires order { ⌜ (length (now order) ≡ 64) × (rank ≤ 64) ⌝ }
-    requires inside { ⌜ ((j : ℕ) → j < rank → getD (now order) j 0 < rank) ⌝ }
-    ensures { λ r. ⌜ r ≡ padded 64 0 (placeIn (replicate rank 0) (take rank (now (order .entry))) (take rank (now (index .entry)))) ⌝ }
-{
-    let mut out = [0u64; 64];
-    let mut j: usize = 0;
-    while j < rank {
-        let a = order[j];
-        out[a] = index[j];
-        j += 1;
-    }
-    out
 }
 
 // Operand k's strides, put into the table behind those of the operands before it.

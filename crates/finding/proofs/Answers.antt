@@ -1,84 +1,56 @@
 -- The answers of index finding, put together from what the parts of the code found. Assumes nothing.
-use mathlib.Core.Path.{_≡_, sym, ap, _∙_}
+use mathlib.Core.Path.{_≡_, refl, sym, ap, _∙_, subst}
 use mathlib.Core.Bool.{Bool, true, false}
 use mathlib.Core.List.{List, [], _∷_}
-use mathlib.Core.Option.{none, some}
-use Prim.Native.Nat.{ℕ, _≤_, _<_, _^_}
-use native.Mathlib.Omega.{arith}
+use mathlib.Core.Option.{Option, none, some}
+use Prim.Native.Nat.{ℕ, _<_, _^_}
 use lib.IntN.{ℤ}
-use lib.ListN.{length, take}
-use Rattle.strided.specs.Base.{padded}
-use Rattle.strided.specs.Layout.{noAxis, Within, within, total, axesOf, extents}
+use lib.ListN.{length, getD, replicate}
+use Rattle.strided.specs.Base.{padded, first}
+use Rattle.strided.specs.Layout.{within, total, extents}
 use Rattle.strided.specs.Refusals.{refusedBy, layoutRefused, row11}
-use Rattle.strided.specs.Order.{pick, fusingOrder}
-use Rattle.strided.specs.Fuse.{fusedAxes, planAxes}
-use Rattle.strided.specs.Index.{unravelBy, indexBy, originalIndex, indexInPlan, noIndex, toldOr, toldOriginal, toldPlan}
+use Rattle.strided.specs.Fuse.{planAxes}
+use Rattle.strided.specs.Index.{originalIndex, indexInPlan, toldOr, toldOriginal, toldPlan}
+use Rattle.strided.specs.Memory.{IndexMemory}
 use Rattle.strided.specs.declared.Purpose.{Purpose}
 use Rattle.strided.specs.declared.Refusal.{Refusal}
 use Rattle.strided.specs.declared.Refusal.the-variants.{Index}
-use Rattle.strided.specs.declared.Answer.the-variants.{Served}
+use Rattle.strided.specs.declared.Answer.{Answer}
+use Rattle.strided.specs.declared.Answer.the-variants.{Served, Refused}
 use Rattle.strided.specs.declared.Told.{Told}
-use Rattle.laws.specs.Base.Arrays.{take-counted}
-use Rattle.laws.specs.Base.Layouts.{within-length, length-extents}
 use Rattle.laws.specs.Base.Refusals.{layout-counts}
 use Rattle.laws.specs.Refusals.Accepted.{accepted}
-use Rattle.laws.specs.Fuse.Maps.{plan-short, plan-in, orig-in}
-use Rattle.laws.specs.Fuse.Finding.{fusing-total}
-use Rattle.arrange.specs.Axes.{InOrder}
-use Rattle.arrange.specs.Fusing.{take-order, axes-in-order, in-order}
 use Rattle.auxiliary.specs.Fitting.{Fitting}
+use Rattle.finding.specs.Memory.{Leaves}
+use Rattle.finding.specs.Mapped.{Fused, Sound, unraveledBy, raveledBy, unraveled}
+use Rattle.finding.proofs.Maps.{extents-are, unraveled-is, raveled-is}
+
+pub same-told : {s t : Told} {c x c′ x′ : List ℕ} {r : Answer} → s ≡ t → Leaves s c x c′ x′ r → Leaves t c x c′ x′ r
+same-told {c = c} {x = x} {c′ = c′} {x′ = x′} {r = r} e l = subst (λ (t : Told). Leaves t c x c′ x′ r) e l
 
 -- ---- row 11
 
 -- the code's test b is whether x is an index of the extents
-module _ (es x y : List ℕ) {b : Bool} (is : b ≡ within es x) where
-  pub tells : b ≡ true → (n : ℕ) (index : List ℕ) → n ≡ length y → index ≡ padded 64 0 y
-      → _≡_ {A = Told} (record { answer = Served; count = n; index = index }) (toldOr (refusedBy (row11 es x ∷ [])) y)
-  tells h n index e f = rw (sym is ∙ h) (λ i. record { answer = Served; count = e i; index = f i })
+module _ (es x y : List ℕ) {b : Bool} (is : b ≡ within es x) {old-count old-index : List ℕ} where
+  pub leaves : b ≡ true → (n : ℕ) (index : List ℕ) → n ≡ length y → index ≡ padded 64 0 y
+      → Leaves (toldOr (refusedBy (row11 es x ∷ [])) y) old-count old-index (n ∷ []) index Served
+  leaves h n index e f =
+      let w : within es x ≡ true = sym is ∙ h in
+      record { answer = rw w; memory = rw w (λ i. record { count = e i ∷ []; index = f i }) }
 
-  pub tells-none : b ≡ false → noIndex Index ≡ toldOr (refusedBy (row11 es x ∷ [])) y
-  tells-none h = rw (sym is ∙ h)
+  pub leaves-none : b ≡ false → Leaves (toldOr (refusedBy (row11 es x ∷ [])) y) old-count old-index old-count old-index (Refused Index)
+  leaves-none h = let w : within es x ≡ false = sym is ∙ h in record { answer = rw w; memory = rw w }
 
--- ---- the layout's axes in the order of fusing
+-- ---- through the arrays of a layout's map
 
-module _ (es : List ℕ) (m : ℕ) (ss : List ℤ) (u : Purpose) (fit : Fitting ss (length es) m)
-    {order : List ℕ} (is : order ≡ padded 64 0 (fusingOrder es m ss u)) where
-  pub fits-order : InOrder es m ss order
-  fits-order = in-order es m ss u (fit .rank-few) is (fit .operands-few) (fit .strides-all)
+module _ {es : List ℕ} {m : ℕ} {ss : List ℤ} {u : Purpose} {order fused : List ℕ} (t : Sound es order fused) (f : Fused es m ss u order fused) where
+  pub tells-original : (cs : List ℕ) → unraveledBy es order fused cs ≡ toldOr (refusedBy (row11 (extents (planAxes es m ss u)) cs ∷ [])) (originalIndex es m ss u cs)
+  tells-original cs =
+      ap (λ (l : List ℕ). toldOr (refusedBy (row11 l cs ∷ [])) (unraveled es order fused cs)) (extents-are (t .few-axes) f)
+      ∙ ap (toldOr (refusedBy (row11 (extents (planAxes es m ss u)) cs ∷ []))) (unraveled-is (t .few-axes) f cs)
 
-  ordered : take (length es) order ≡ fusingOrder es m ss u
-  ordered = take-order es m ss u (fit .rank-few) is
-
-  pub axes-by : fusedAxes (pick noAxis (axesOf es m ss) (take (length es) order)) ≡ planAxes es m ss u
-  axes-by = axes-in-order es m ss u (fit .rank-few) is
-
-  pub total-by : total (pick 0 es (take (length es) order)) ≡ total es
-  total-by = ap (λ (o : List ℕ). total (pick 0 es o)) ordered ∙ fusing-total es m ss u
-
-  pub original-by : (cs : List ℕ) → padded 64 0 (unravelBy (take (length es) order) (axesOf es m ss) cs) ≡ padded 64 0 (originalIndex es m ss u cs)
-  unfolding originalIndex
-  original-by cs = ap (λ (o : List ℕ). padded 64 0 (unravelBy o (axesOf es m ss) cs)) ordered
-
-  pub plan-by : (x : List ℕ) → padded 64 0 (indexBy (take (length es) order) (axesOf es m ss) x) ≡ padded 64 0 (indexInPlan es m ss u x)
-  unfolding indexInPlan
-  plan-by x = ap (λ (o : List ℕ). padded 64 0 (indexBy o (axesOf es m ss) x)) ordered
-
--- ---- the plan's arrays
-
-module _ (es : List ℕ) (m : ℕ) (ss : List ℤ) (u : Purpose) (few : length es ≤ 64) {rank : ℕ} (is : rank ≡ length (planAxes es m ss u)) where
-  pub plan-rank : rank ≤ 64
-  plan-rank = omega (arith, is, plan-short es m ss u)
-
-  -- the extents that row 11 is judged on
-  pub plan-extents : {E : List ℕ} → E ≡ padded 64 0 (extents (planAxes es m ss u)) → take rank E ≡ extents (planAxes es m ss u)
-  plan-extents e = ap (take rank) e ∙ take-counted 0 64 rank (extents (planAxes es m ss u)) (length-extents (planAxes es m ss u) ∙ sym is) plan-rank
-
-  pub plan-count : (x : List ℕ) → Within es x → rank ≡ length (indexInPlan es m ss u x)
-  plan-count x r = is ∙ sym (within-length (extents (planAxes es m ss u)) (indexInPlan es m ss u x) (plan-in es m ss u x r) ∙ length-extents (planAxes es m ss u))
-
-pub original-count : (es : List ℕ) (m : ℕ) (ss : List ℤ) (u : Purpose) (cs : List ℕ) → Within (extents (planAxes es m ss u)) cs
-    → length es ≡ length (originalIndex es m ss u cs)
-original-count es m ss u cs r = sym (within-length es (originalIndex es m ss u cs) (orig-in es m ss u cs r))
+  pub tells-plan : (is : List ℕ) → raveledBy es order fused is ≡ toldOr (refusedBy (row11 es is ∷ [])) (indexInPlan es m ss u is)
+  tells-plan is = ap (toldOr (refusedBy (row11 es is ∷ []))) (raveled-is (t .few-axes) f is)
 
 -- ---- the entries: planning's rows first
 
@@ -95,15 +67,38 @@ module _ (es sizes : List ℕ) (ss : List ℤ) (u : Purpose) (x : List ℕ) wher
   unfolding toldOriginal
   original-passed h = rw h
 
-  pub original-refused : (r : Refusal) → layoutRefused es sizes ss u ≡ some r → noIndex r ≡ toldOriginal es sizes ss u x
-  unfolding toldOriginal
-  original-refused r h = rw h
-
   pub plan-passed : layoutRefused es sizes ss u ≡ none
       → toldOr (refusedBy (row11 es x ∷ [])) (indexInPlan es (length sizes) ss u x) ≡ toldPlan es sizes ss u x
   unfolding toldPlan
   plan-passed h = rw h
 
-  pub plan-refused : (r : Refusal) → layoutRefused es sizes ss u ≡ some r → noIndex r ≡ toldPlan es sizes ss u x
+  module _ (r : Refusal) (h : layoutRefused es sizes ss u ≡ some r) {c i : List ℕ} where
+    pub original-refused : Leaves (toldOriginal es sizes ss u x) c i c i (Refused r)
+    unfolding toldOriginal
+    original-refused = rw h (record { answer = refl; memory = refl })
+
+    pub plan-refused : Leaves (toldPlan es sizes ss u x) c i c i (Refused r)
+    unfolding toldPlan
+    plan-refused = rw h (record { answer = refl; memory = refl })
+
+-- ---- by value: memory that held zeros
+
+-- what it holds afterwards
+abbrev value : Answer → IndexMemory → Told
+value a new = record { answer = a; count = getD (new .count) 0 0; index = new .index }
+
+whole : (o : Option Refusal) (y : List ℕ) {c x : List ℕ} {a : Answer} → Leaves (toldOr o y) (0 ∷ []) (replicate 64 0) c x a
+    → value a (record { count = c; index = x }) ≡ toldOr o y
+whole none y l = λ i. value (l .answer i) (l .memory i)
+whole (some r) y l = λ i. value (l .answer i) (l .memory i)
+
+module _ (es sizes : List ℕ) (ss : List ℤ) (u : Purpose) (y : List ℕ) {c x : List ℕ} {a : Answer} where
+  pub original-value : Leaves (toldOriginal es sizes ss u y) (0 ∷ []) (replicate 64 0) c x a
+      → _≡_ {A = Told} (record { answer = a; count = getD c 0 0; index = x }) (toldOriginal es sizes ss u y)
+  unfolding toldOriginal
+  original-value = whole (first (layoutRefused es sizes ss u) (refusedBy (row11 (extents (planAxes es (length sizes) ss u)) y ∷ []))) (originalIndex es (length sizes) ss u y)
+
+  pub plan-value : Leaves (toldPlan es sizes ss u y) (0 ∷ []) (replicate 64 0) c x a
+      → _≡_ {A = Told} (record { answer = a; count = getD c 0 0; index = x }) (toldPlan es sizes ss u y)
   unfolding toldPlan
-  plan-refused r h = rw h
+  plan-value = whole (first (layoutRefused es sizes ss u) (refusedBy (row11 es y ∷ []))) (indexInPlan es (length sizes) ss u y)

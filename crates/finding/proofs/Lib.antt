@@ -1,2 +1,5 @@
--- Laws that several proofs use.
+pub mod Ranges
+pub mod Kept
+pub mod Turns
+pub mod Maps
 pub mod Answers

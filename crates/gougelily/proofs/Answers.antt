@@ -1,5 +1,5 @@
 -- The answers of the C entries, put together from what the entry called answered. Assumes nothing.
-use mathlib.Core.Path.{_≡_, sym, ap, _∙_}
+use mathlib.Core.Path.{_≡_, sym, ap, _∙_, subst}
 use mathlib.Core.Bool.{Bool}
 use mathlib.Core.List.{List}
 use Prim.Native.Nat.{ℕ, _≤_}
@@ -8,7 +8,8 @@ use lib.IntN.{ℤ, pos}
 use lib.ListN.{length}
 use Rattle.strided.specs.Refusals.{negated}
 use Rattle.strided.specs.Bulk.{lengthsOf, offsetsOf, roomFor, laidOn, SteppedMany, steppedMany}
-use Rattle.strided.specs.Memory.{flag, WalkMemory, walkMemory, Handed, markCode, ManyMemory, manyMemory, StepsMany}
+use Rattle.strided.specs.Memory.{codeOr, flag, WalkMemory, walkMemory, Handed, Tells, markCode, ManyMemory, manyMemory, StepsMany}
+use Rattle.strided.specs.declared.Purpose.{Purpose}
 use Rattle.strided.specs.declared.Refusal.{Refusal}
 use Rattle.strided.specs.declared.Answer.{Answer}
 use Rattle.strided.specs.declared.Answer.the-variants.{Served, Refused}
@@ -17,7 +18,9 @@ use Rattle.strided.specs.declared.Plan.{Plan}
 use Rattle.strided.specs.declared.Walk.{Walk}
 use Rattle.strided.specs.declared.Stepped.{Stepped}
 use Rattle.strided.specs.declared.Marked.{Marked}
+use Rattle.strided.specs.declared.Told.{Told}
 use Rattle.laws.specs.Walk.Bulk.{blocks-few, blocks-none}
+use Rattle.finding.specs.Memory.{Leaves}
 
 -- a call's result x at an argument u, which is v
 pub called : {U X : Type 0} (f : U → X) {u v : U} {x : X} → x ≡ f u → u ≡ v → x ≡ f v
@@ -34,6 +37,13 @@ module _ {X A : Type 0} (answer : X → Answer) (memory : X → A) {x t : X} (is
   handed-served h e =
       let g : answer t ≡ Served = sym (ap answer is) ∙ h in
       record { code = rw g; memory = rw g (e ∙ ap memory is) }
+
+-- index finding in lent memory, for the purpose u, which is v
+pub told-as : (f : Purpose → Told) {u v : Purpose} → u ≡ v → {c x c′ x′ : List ℕ} {a b : Answer} {n : ℤ} → Leaves (f u) c x c′ x′ a → a ≡ b → n ≡ codeOr b (pos 0)
+    → Tells (f v) (record { count = c; index = x }) (record { count = c′; index = x′ }) n
+told-as f e {c} {x} {c′} {x′} {n = n} l h q =
+    subst (λ (w : Purpose). Tells (f w) (record { count = c; index = x }) (record { count = c′; index = x′ }) n) e
+    (record { code = q ∙ ap (λ (y : Answer). codeOr y (pos 0)) (sym h ∙ l .answer); memory = l .memory })
 
 -- the repeat mark
 module _ {x m : Marked} (is : x ≡ m) where

@@ -1,8 +1,8 @@
-// Index finding from C.
+// Index finding from C: the index is told where the caller wants it.
 ghost use Rattle.strided.specs.Index.{toldOriginal, toldPlan};
 ghost use Rattle.strided.specs.Memory.{purposeOf, Tells};
-use finding::original_index;
-use finding::plan_index;
+use finding::original_index_into;
+use finding::plan_index_into;
 use layout::negated;
 use layout::purpose_of;
 use strided::Answer;
@@ -21,23 +21,18 @@ pub extern "C" fn gougelily_original_index<'a>(
 ) -> i64
     ensures { λ r. ⌜ Tells (toldOriginal (now (extents .entry)) (now (sizes .entry)) (now (strides .entry)) (purposeOf purpose chosen) (now (counters .entry))) (record { count = now (count .entry); index = now (index .entry) }) (record { count = now (count .exit); index = now (index .exit) }) r ⌝ }
 {
-    let told = original_index(
+    let answer = original_index_into(
         extents,
         sizes,
         strides,
         purpose_of(purpose, chosen),
         counters,
+        count,
+        index,
     );
-    let answer = told.answer;
     match answer {
         Answer::Refused(refusal) => negated(refusal),
-        Answer::Served => {
-            let places = told.count;
-            let found = told.index;
-            *count = [places];
-            *index = found;
-            0
-        }
+        Answer::Served => 0,
     }
 }
 
@@ -55,22 +50,17 @@ pub extern "C" fn gougelily_plan_index<'a>(
 ) -> i64
     ensures { λ r. ⌜ Tells (toldPlan (now (extents .entry)) (now (sizes .entry)) (now (strides .entry)) (purposeOf purpose chosen) (now (original .entry))) (record { count = now (count .entry); index = now (index .entry) }) (record { count = now (count .exit); index = now (index .exit) }) r ⌝ }
 {
-    let told = plan_index(
+    let answer = plan_index_into(
         extents,
         sizes,
         strides,
         purpose_of(purpose, chosen),
         original,
+        count,
+        index,
     );
-    let answer = told.answer;
     match answer {
         Answer::Refused(refusal) => negated(refusal),
-        Answer::Served => {
-            let places = told.count;
-            let found = told.index;
-            *count = [places];
-            *index = found;
-            0
-        }
+        Answer::Served => 0,
     }
 }

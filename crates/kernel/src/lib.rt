@@ -5,7 +5,7 @@ use layout::check_planning;
 use layout::total_at_most;
 use model::block_sizes;
 use order::SMALL_TENSOR_THRESHOLD;
-use order::fusing_order;
+use order::fusing_order_into;
 use strided::Answer;
 use strided::Machine;
 use strided::Plan;
@@ -43,7 +43,8 @@ pub fn axes_into(
     ensures extents { λ _. ⌜ now (es .exit) ≡ padded 64 0 (extentsOf (planAxes (now (extents .entry)) operands (now (strides .entry)) purpose)) ⌝ }
     ensures strides { λ _. ⌜ now (table .exit) ≡ strideTable (planAxes (now (extents .entry)) operands (now (strides .entry)) purpose) operands ⌝ }
 {
-    let order = fusing_order(extents, strides, operands, purpose);
+    let mut order = [0usize; 64];
+    fusing_order_into(extents, strides, operands, purpose, &mut order);
     plan_axes(extents, strides, operands, &order, es, table)
 }
 

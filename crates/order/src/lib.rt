@@ -1,12 +1,12 @@
 // The loop order of a layout, its axes from the innermost loop to the outermost, and the order in which a plan's axes are fused.
 use importance::compute_importance;
-use importance::sort_by_importance;
+use importance::sort_by_importance_into;
 use layout::lead;
 use layout::total_at_most;
 use strided::Purpose;
 ghost use mathlib.Core.Path.{_≡_};
 ghost use Prim.Native.Nat.{_≤_};
-ghost use lib.ListN.{length};
+ghost use lib.ListN.{length, replicate};
 ghost use Rattle.strided.specs.Base.{padded, run};
 ghost use Rattle.strided.specs.Order.{loopOrder, fusingOrder};
 ghost use Rattle.auxiliary.specs.Fitting.{Fitting};
@@ -15,45 +15,50 @@ ghost use Rattle.auxiliary.specs.Fitting.{Fitting};
 pub const SMALL_TENSOR_THRESHOLD: u64 = 1024;
 
 // The axes of a layout by falling weight, where the lead is the chosen operand, or operand 0 if none is; on equal weight the longer first.
-pub fn compute_order(
+// They are written into an array of zeros.
+pub fn compute_order_into(
     extents: &[u64],
     strides: &[i64],
     operands: usize,
     purpose: Purpose,
-) -> [usize; 64]
+    out: &mut [usize; 64],
+)
     requires { ⌜ Fitting (now strides) (length (now extents)) operands ⌝ }
-    ensures { λ r. ⌜ r ≡ padded 64 0 (loopOrder (now (extents .entry)) operands (now (strides .entry)) purpose) ⌝ }
+    requires { ⌜ now out ≡ replicate 64 0 ⌝ }
+    ensures { λ _. ⌜ now (out .exit) ≡ padded 64 0 (loopOrder (now (extents .entry)) operands (now (strides .entry)) purpose) ⌝ }
 {
     let importance = compute_importance(extents, strides, operands, lead(purpose));
-    sort_by_importance(&importance, extents)
+    sort_by_importance_into(&importance, extents, out);
 }
 
-// The axes as they are given.
-fn as_given(rank: usize) -> [usize; 64]
+// The axes as they are given, written into an array of zeros.
+fn as_given(rank: usize, out: &mut [usize; 64])
     requires { ⌜ rank ≤ 64 ⌝ }
-    ensures { λ r. ⌜ r ≡ padded 64 0 (run 0 rank) ⌝ }
+    requires { ⌜ now out ≡ replicate 64 0 ⌝ }
+    ensures { λ _. ⌜ now (out .exit) ≡ padded 64 0 (run 0 rank) ⌝ }
 {
-    let mut out = [0usize; 64];
     let mut i: usize = 0;
     while i < rank {
         out[i] = i;
         i += 1;
     }
-    out
 }
 
-// The order in which a plan's axes are fused: as given if the layout is small, else the loop order.
-pub fn fusing_order(
+// The order in which a plan's axes are fused, written into an array of zeros: as given if the layout is small, else the loop order.
+pub fn fusing_order_into(
     extents: &[u64],
     strides: &[i64],
     operands: usize,
     purpose: Purpose,
-) -> [usize; 64]
+    out: &mut [usize; 64],
+)
     requires { ⌜ Fitting (now strides) (length (now extents)) operands ⌝ }
-    ensures { λ r. ⌜ r ≡ padded 64 0 (fusingOrder (now (extents .entry)) operands (now (strides .entry)) purpose) ⌝ }
+    requires { ⌜ now out ≡ replicate 64 0 ⌝ }
+    ensures { λ _. ⌜ now (out .exit) ≡ padded 64 0 (fusingOrder (now (extents .entry)) operands (now (strides .entry)) purpose) ⌝ }
 {
     if total_at_most(extents, SMALL_TENSOR_THRESHOLD) {
-        return as_given(extents.len());
+        as_given(extents.len(), out);
+        return;
     }
-    compute_order(extents, strides, operands, purpose)
+    compute_order_into(extents, strides, operands, purpose, out);
 }

@@ -6,9 +6,7 @@ use mathlib.Core.Option.{Option, none, some}
 use Prim.Native.Nat.{ℕ}
 use lib.IntN.{ℤ}
 use lib.ListN.{length}
-use Rattle.strided.specs.Layout.{noAxis, axesOf, extents}
-use Rattle.strided.specs.Order.{pick, fusingOrder}
-use Rattle.strided.specs.Fuse.{fuse, planAxes}
+use Rattle.strided.specs.Fuse.{planAxes}
 use Rattle.strided.specs.Costs.{costs}
 use Rattle.strided.specs.Plan.{strideTable}
 use Rattle.strided.specs.Refusals.{number, refusedBy, countRows}
@@ -32,10 +30,6 @@ kept (some r) part old = old
 pub record Part {A : Type 0} (refused : Option Refusal) (part old new : A) (r : ℕ) : Type 0 where
   pub answer : r ≡ told refused
   pub memory : new ≡ kept refused part old
-
--- the extents after fusing, in the order of fusing
-abbrev pub fusedExtents : List ℕ → ℕ → List ℤ → Purpose → List ℕ
-fusedExtents es operands ss u = extents (fuse (pick noAxis (axesOf es operands ss) (fusingOrder es operands ss u)))
 
 -- the costs of the plan's axes
 abbrev pub planCosts : List ℕ → ℕ → List ℤ → Purpose → List ℕ

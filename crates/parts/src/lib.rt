@@ -16,11 +16,11 @@ ghost use Rattle.strided.specs.Fuse.{planAxes};
 ghost use Rattle.strided.specs.Plan.{strideTable};
 ghost use Rattle.strided.specs.Memory.{purposeOf};
 ghost use Rattle.auxiliary.specs.Fitting.{Fitting};
-ghost use Rattle.parts.specs.Answers.{countsRefused, told, Part, fusedExtents, planCosts};
-use arrange::pick_into;
+ghost use Rattle.finding.specs.Mapped.{fusedExtents};
+ghost use Rattle.parts.specs.Answers.{countsRefused, told, Part, planCosts};
 use auxiliary::rank_table_into;
+use finding::map_into;
 use fuse::compute_costs;
-use fuse::fuse_dims;
 use importance::compute_importance;
 use kernel::axes_into;
 use layout::check_counts;
@@ -28,8 +28,7 @@ use layout::check_layout;
 use layout::lead;
 use layout::number;
 use layout::purpose_of;
-use order::compute_order;
-use order::fusing_order;
+use order::compute_order_into;
 use strided::Answer;
 use strided::Purpose;
 
@@ -124,32 +123,14 @@ pub extern "C" fn parts_order<'a>(
     match checked {
         Answer::Refused(refusal) => number(refusal),
         Answer::Served => {
-            let found = compute_order(extents, strides, sizes.len(), purpose);
-            *order = found;
+            *order = [0usize; 64];
+            compute_order_into(extents, strides, sizes.len(), purpose, order);
             0
         }
     }
 }
 
 // ---- fused axes
-
-// The extents after fusing, in the order of fusing, written into an array of zeros.
-fn fused_extents(
-    extents: &[u64],
-    strides: &[i64],
-    operands: usize,
-    purpose: Purpose,
-    fused: &mut [u64; 64],
-)
-    requires layout { ⌜ Fitting (now strides) (length (now extents)) operands ⌝ }
-    requires zeros { ⌜ now fused ≡ replicate 64 0 ⌝ }
-    ensures { λ _. ⌜ now (fused .exit) ≡ padded 64 0 (fusedExtents (now (extents .entry)) operands (now (strides .entry)) purpose) ⌝ }
-{
-    let rank = extents.len();
-    let order = fusing_order(extents, strides, operands, purpose);
-    pick_into(extents, &order, rank, fused);
-    fuse_dims(fused, strides, rank, operands, &order, rank);
-}
 
 // The costs of the plan's axes.
 fn costs_of(extents: &[u64], strides: &[i64], operands: usize, purpose: Purpose) -> [u64; 64]
@@ -180,8 +161,9 @@ pub extern "C" fn parts_fused<'a>(
     match checked {
         Answer::Refused(refusal) => number(refusal),
         Answer::Served => {
+            let mut order = [0usize; 64];
             *fused = [0u64; 64];
-            fused_extents(extents, strides, sizes.len(), purpose, fused);
+            map_into(extents, strides, sizes.len(), purpose, &mut order, fused);
             0
         }
     }

@@ -3,7 +3,7 @@
 use mathlib.Core.Path.{_≡_, sym, ap, _∙_, subst}
 use mathlib.Core.Bool.{Bool, true, false, cond, _&&_, not}
 use mathlib.Core.List.{List}
-use Prim.Native.Nat.{ℕ, suc, _+_, _-_, _*_, _^_, _≤_, _<_, min}
+use Prim.Native.Nat.{ℕ, suc, _+_, _-_, _*_, _^_, _≤_, _<_}
 use native.Mathlib.Nat.{mul-le-mul-right}
 use native.Mathlib.Numerals.{add-one}
 use native.Mathlib.Omega.{arith}
@@ -44,6 +44,10 @@ module _ (e x : ℕ) (s : ℤ) (f : SFits w64 s) (h : x < e) (n : ℕ) (is : n �
 abbrev pub Left : List ℕ → List ℤ → List ℕ → ℕ → ℕ → Type 0
 Left es ts c sum i = sum + belowOf (drop i es) (drop i ts) (drop i c) ≡ belowOf es ts c
 
+-- and of the reach
+abbrev pub Further : List ℕ → List ℤ → ℕ → ℕ → Type 0
+Further es ts sum i = sum + reach (drop i es) (drop i ts) ≡ reach es ts
+
 module _ (es : List ℕ) (ts : List ℤ) (c : List ℕ) (p : Placed es ts c) where
   counted : length c ≡ length es
   counted = within-length es c (p .within)
@@ -79,6 +83,21 @@ module _ (es : List ℕ) (ts : List ℤ) (c : List ℕ) (p : Placed es ts c) whe
     pub left-fits : sum + t < 2 ^ 64
     left-fits = let q = left-cons i h in omega (arith, q, is, l, under-fits)
 
+  further-cons : (i : ℕ) → i < length es → reach (drop i es) (drop i ts) ≡ (getD es i 0 - 1) * natAbs (getD ts i (pos 0)) + reach (drop (i + 1) es) (drop (i + 1) ts)
+  further-cons i h = rw (add-one i, drop-cons es i 0 h, drop-cons ts i (pos 0) (subst (λ (n : ℕ). i < n) (sym (p .long)) h))
+
+  module _ (sum i t : ℕ) (h : i < length es) (l : Further es ts sum i) (is : t ≡ (getD es i 0 - 1) * natAbs (getD ts i (pos 0))) where
+    pub further-turn : Further es ts (sum + t) (i + 1)
+    further-turn = let q = further-cons i h in omega (arith, q, is, l)
+
+    pub further-fits : sum + t < 2 ^ 64
+    further-fits = let q = further-cons i h in omega (arith, q, is, l, p .near)
+
+  pub further-end : (sum i : ℕ) → length es ≤ i → Further es ts sum i → sum ≡ reach es ts
+  further-end sum i h l =
+      let z : reach (drop i es) (drop i ts) ≡ 0 = rw (drop-of-length-le es h) in
+      omega (arith, z, l)
+
   pub left-end : (sum i : ℕ) → length es ≤ i → Left es ts c sum i → sum ≡ belowOf es ts c
   unfolding belowOf
   left-end sum i h l =
@@ -108,9 +127,9 @@ module _ (es : List ℕ) (ss : List ℤ) (c : List ℕ) (os : List ℤ) (k : ℕ
     pub low-fits : u < 2 ^ 63
     low-fits = omega (arith, u-is, under-fits es ts c placed)
 
-    module _ (r : ℕ) (r-is : r ≡ min (reach es ts) (2 ^ 63)) where
+    module _ (r : ℕ) (r-part : r ≡ reach es (take (k * 64 + length es - k * 64) (drop (k * 64) ss))) where
       reach-is : r ≡ reach es ts
-      reach-is = omega (arith, r-is, p .near)
+      reach-is = r-part ∙ ap (λ (n : ℕ). reach es (take n (drop (k * 64) ss))) (let g : k * 64 + length es - k * 64 ≡ length es = omega arith in g)
 
       pub low-le : u ≤ r
       low-le = omega (arith, u-is, reach-is, below-reach es ts c (p .within))

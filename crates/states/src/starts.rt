@@ -4,12 +4,11 @@ ghost use mathlib.Core.Path.{_≡_};
 ghost use Prim.Native.Nat.{_-_, _*_, _^_, _<_};
 ghost use lib.IntN.{pos, natAbs, _+ℤ_, _-ℤ_};
 ghost use Rattle.strided.specs.Base.{some-of};
-ghost use Rattle.strided.specs.Layout.{inI64};
+ghost use Rattle.strided.specs.Layout.{inI64, reach};
 ghost use Rattle.laws.specs.Walk.Row9.{belowTerm, belowOf};
 ghost use Rattle.states.specs.Starts.{leavesAt, someLeave, Placed, StandsAt, Standing, Begins};
 use layout::has_zero;
 use layout::magnitude;
-use layout::reach_at;
 
 // Whether `below` places lie between the least i64 and `o`.
 fn room_below(o: i64, below: u64) -> bool
@@ -41,19 +40,36 @@ fn below_on(extent: u64, at: u64, stride: i64) -> u64
     at * size
 }
 
-// How far an operand's offsets lie below the one at the counters.
-fn below_of<'a, 'b>(extents: &'a [u64], strides: &'a [i64], counters: &'b [u64]) -> u64
-    requires { ⌜ Placed (now extents) (now strides) (now counters) ⌝ }
-    ensures { λ r. ⌜ r ≡ belowOf (now (extents .entry)) (now (strides .entry)) (now (counters .entry)) ⌝ }
+// An axis's way.
+fn way_on(extent: u64, stride: i64) -> u64
+    requires { ⌜ (0 < extent) × ((extent - 1) * natAbs stride < 2 ^ 63) ⌝ }
+    ensures { λ r. ⌜ r ≡ (extent - 1) * natAbs stride ⌝ }
 {
-    let mut sum: u64 = 0;
+    (extent - 1) * magnitude(stride)
+}
+
+// How far apart an operand's offsets lie, and how far below the one at the counters.
+pub struct Span {
+    pub reach: u64,
+    pub below: u64,
+}
+
+// The reach has been tested, so that nothing is capped here, and both are found in one go.
+fn span_of<'a, 'b>(extents: &'a [u64], strides: &'a [i64], counters: &'b [u64]) -> Span
+    requires { ⌜ Placed (now extents) (now strides) (now counters) ⌝ }
+    ensures { λ r. ⌜ (r .reach ≡ reach (now (extents .entry)) (now (strides .entry))) × (r .below ≡ belowOf (now (extents .entry)) (now (strides .entry)) (now (counters .entry))) ⌝ }
+{
+    let mut reach: u64 = 0;
+    let mut below: u64 = 0;
     let mut i: usize = 0;
     while i < extents.len() {
+        let way = way_on(extents[i], strides[i]);
         let term = below_on(extents[i], counters[i], strides[i]);
-        sum = sum + term;
+        reach = reach + way;
+        below = below + term;
         i += 1;
     }
-    sum
+    Span { reach, below }
 }
 
 // Whether some offset of operand k leaves 64-bit signed, told from its offset at the counters.
@@ -69,8 +85,9 @@ fn leaves_at<'a, 'b, 'c>(
 {
     let from = k * 64;
     let to = from + extents.len();
-    let reach = reach_at(extents, strides, 64, k);
-    let under = below_of(extents, &strides[from..to], counters);
+    let span = span_of(extents, &strides[from..to], counters);
+    let reach = span.reach;
+    let under = span.below;
     let o = offsets[k];
     if room_below(o, under) {
         return !room_above(o, reach - under);

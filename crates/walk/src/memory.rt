@@ -9,8 +9,8 @@ use crate::answer_of;
 use advance::advance;
 use advance::firsts;
 use advance::length_of;
-use advance::tile_starts;
-use advance::widths;
+use advance::tile_starts_into;
+use advance::widths_into;
 use layout::negated;
 use strided::Outcome;
 use strided::Plan;
@@ -67,8 +67,10 @@ fn block_into<'a>(
         let new = stepAt w′ (now («block_counters» .exit)) (now (length .exit)) (now («block_offsets» .exit)) (now («block_strides» .exit)) in
         ⌜ Steps (stepped p (walkOf false (now (counters .entry)) (now (offsets .entry)))) old new (pos 1) ⌝ }
 {
-    let w = widths(rank, extents, blocks);
-    let mut t = tile_starts(rank, &w, counters);
+    let mut w = [0u64; 64];
+    widths_into(rank, extents, blocks, &mut w);
+    let mut t = [0u64; 64];
+    tile_starts_into(rank, &w, counters, &mut t);
     let bl = length_of(rank, extents, &w, counters);
     let bs = firsts(rank, operands, strides);
     let bc = *counters;

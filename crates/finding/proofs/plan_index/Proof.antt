@@ -1,55 +1,19 @@
 -- `finding::plan_index` meets its contract. Assumes nothing.
-use mathlib.Core.Path.{_≡_, sym, _∙_}
-use mathlib.Core.Option.{none}
 use borrow.Author.Needs.{needs}
-use Rattle.strided.specs.Refusals.{layoutRefused}
-use Rattle.laws.specs.Refusals.Rows.{served-none, refused-some}
-use Rattle.finding.proofs.Answers.{fitting, cells-few, plan-passed, plan-refused}
+use Rattle.finding.proofs.Answers.{plan-value}
 use Rattle.finding.proofs.plan_index.Statement.{statement}
 use Rattle.finding.proofs.plan_index.Tie as tie
 
--- rows 1 to 7 let the layout through
-passed : (c : tie.After-enum-told) → let a = c .before .before .before .before .before .before .args in
-    layoutRefused (a .extents .now) (a .sizes .now) (a .strides .now) (a .purpose) ≡ none
-passed c = served-none _ (sym (c .before .before .check-layout .ensures) ∙ c .enum-told .given .1)
+plan-index-into-requires : tie.Need-plan-index-into-requires
+plan-index-into-requires c κs = search needs
 
-check-layout-requires : tie.Need-check-layout-requires
-check-layout-requires c κs = search needs
-
-enum-told : tie.Need-enum-told
-enum-told c = search needs
-
-told-plan-requires : tie.Need-told-plan-requires
-told-plan-requires c κs =
-    let a = c .before .before .before .before .before .before .args in
-    (fitting (a .extents .now) (a .sizes .now) (a .strides .now) (a .purpose) (passed c), cells-few (a .extents .now) (a .sizes .now) (a .strides .now) (a .purpose) (passed c))
-
-enum-known-answer : tie.Need-enum-known-answer
-enum-known-answer c = search needs
-
-refused-requires : tie.Need-refused-requires
-refused-requires c κs = search needs
+array-read-places : tie.Need-array-read-places
+array-read-places c = search needs
 
 returns : tie.Need-returns
 returns c =
-    let a = c .before .before .before .before .before .before .before .args in
-    c .told-plan .ensures ∙ plan-passed (a .extents .now) (a .sizes .now) (a .strides .now) (a .purpose) (a .index .now) (passed (c .before))
-
-returns-2 : tie.Need-returns-2
-returns-2 c =
-    let g = c .before .before in
-    let a = g .before .before .before .before .before .before .args in
-    c .refused .ensures
-    ∙ plan-refused (a .extents .now) (a .sizes .now) (a .strides .now) (a .purpose) (a .index .now) _ (refused-some _ (sym (g .before .before .check-layout .ensures) ∙ g .answer .given .1))
+    let a = c .before .before .before .before .before .before .args in
+    plan-value (a .extents .now) (a .sizes .now) (a .strides .now) (a .purpose) (a .original .now) (c .plan-index-into .ensures)
 
 pub plan-index-spec : {M : Type 1} → statement M
-plan-index-spec =
-    tie.close
-    (tie.spec
-    check-layout-requires
-    enum-told
-    told-plan-requires
-    enum-known-answer
-    refused-requires
-    returns
-    returns-2)
+plan-index-spec = tie.close (tie.spec plan-index-into-requires array-read-places returns)

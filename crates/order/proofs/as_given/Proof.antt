@@ -21,13 +21,13 @@ abbrev μ-loop : tie.MeasureT-loop
 μ-loop rank out₀ i₀ out i = rank - i
 
 loop-holds : tie.Need-loop-holds Inv-loop μ-loop
-loop-holds c = (omega arith, fill-none 64 0)
+loop-holds c = (omega arith, c .pre .1 ∙ fill-none 64 0)
 
 mul-out : tie.Need-mul-out Inv-loop μ-loop
 mul-out c = search needs
 
-array-write-out : tie.Need-array-write-out Inv-loop μ-loop
-array-write-out c = search needs
+element-write-out : tie.Need-element-write-out Inv-loop μ-loop
+element-write-out c = search needs
 
 add-i : tie.Need-add-i Inv-loop μ-loop
 add-i c = search needs
@@ -53,7 +53,7 @@ as-given-spec =
     μ-loop
     loop-holds
     mul-out
-    array-write-out
+    element-write-out
     add-i
     loop-less
     loop-again

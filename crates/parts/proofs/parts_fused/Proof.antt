@@ -6,7 +6,8 @@ use Rattle.strided.specs.Base.{padded}
 use Rattle.strided.specs.Refusals.{answered}
 use Rattle.strided.specs.Memory.{purposeOf}
 use Rattle.strided.specs.declared.Answer.the-variants.{Served}
-use Rattle.parts.specs.Answers.{countsRefused, fusedExtents}
+use Rattle.finding.specs.Mapped.{fusedExtents}
+use Rattle.parts.specs.Answers.{countsRefused}
 use Rattle.parts.proofs.Laws.{answer-of, part-refused, part-served, counts-fit}
 use Rattle.parts.proofs.parts_fused.Statement.{statement}
 use Rattle.parts.proofs.parts_fused.Tie as tie
@@ -34,11 +35,11 @@ number-requires c κs = search needs
 enum-told : tie.Need-enum-told
 enum-told c = search needs
 
-fused-extents-requires : tie.Need-fused-extents-requires
-fused-extents-requires c κs =
-    let t = c .before .before in
+map-into-requires : tie.Need-map-into-requires
+map-into-requires c κs =
+    let t = c .before .before .before in
     let a = t .before .before .before .before .before .before .args in
-    (counts-fit (a .extents .now) (a .sizes .now) (a .strides .now) (purposeOf (a .kind) (a .chosen)) (served t), refl)
+    (counts-fit (a .extents .now) (a .sizes .now) (a .strides .now) (purposeOf (a .kind) (a .chosen)) (served t), (refl, refl))
 
 returns : tie.Need-returns
 returns c =
@@ -50,10 +51,10 @@ returns c =
 
 returns-2 : tie.Need-returns-2
 returns-2 c =
-    let t = c .before .before .before in
+    let t = c .before .before .before .before in
     let a = t .before .before .before .before .before .before .args in
     part-served (countsRefused (a .extents .now) (a .sizes .now) (a .strides .now) (purposeOf (a .kind) (a .chosen))) (served t)
-    (c .fused-extents .ensures ∙ ap (λ u. padded 64 0 (fusedExtents (a .extents .now) (length (a .sizes .now)) (a .strides .now) u)) (t .before .before .before .purpose-of .ensures))
+    (c .map-into .ensures .fused-is ∙ ap (λ u. padded 64 0 (fusedExtents (a .extents .now) (length (a .sizes .now)) (a .strides .now) u)) (t .before .before .before .purpose-of .ensures))
 
 pub parts-fused-spec : {M : Type 1} → statement M
 parts-fused-spec =
@@ -64,6 +65,6 @@ parts-fused-spec =
     enum-known-checked
     number-requires
     enum-told
-    fused-extents-requires
+    map-into-requires
     returns
     returns-2)

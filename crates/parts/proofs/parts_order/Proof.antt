@@ -1,6 +1,6 @@
 -- `parts::parts_order` meets its contract. Assumes nothing.
 use borrow.Author.Needs.{needs}
-use mathlib.Core.Path.{_≡_, ap, _∙_}
+use mathlib.Core.Path.{_≡_, refl, ap, _∙_}
 use lib.ListN.{length}
 use Rattle.strided.specs.Base.{padded}
 use Rattle.strided.specs.Order.{loopOrder}
@@ -35,10 +35,11 @@ number-requires c κs = search needs
 enum-told : tie.Need-enum-told
 enum-told c = search needs
 
-compute-order-requires : tie.Need-compute-order-requires
-compute-order-requires c κs =
-    let a = c .before .before .before .before .before .before .args in
-    counts-fit (a .extents .now) (a .sizes .now) (a .strides .now) (purposeOf (a .kind) (a .chosen)) (served c)
+compute-order-into-requires : tie.Need-compute-order-into-requires
+compute-order-into-requires c κs =
+    let t = c .before .before in
+    let a = t .before .before .before .before .before .before .args in
+    (counts-fit (a .extents .now) (a .sizes .now) (a .strides .now) (purposeOf (a .kind) (a .chosen)) (served t), refl)
 
 returns : tie.Need-returns
 returns c =
@@ -50,10 +51,10 @@ returns c =
 
 returns-2 : tie.Need-returns-2
 returns-2 c =
-    let t = c .before in
+    let t = c .before .before .before in
     let a = t .before .before .before .before .before .before .args in
     part-served (countsRefused (a .extents .now) (a .sizes .now) (a .strides .now) (purposeOf (a .kind) (a .chosen))) (served t)
-    (c .compute-order .ensures ∙ ap (λ u. padded 64 0 (loopOrder (a .extents .now) (length (a .sizes .now)) (a .strides .now) u)) (t .before .before .before .purpose-of .ensures))
+    (c .compute-order-into .ensures ∙ ap (λ u. padded 64 0 (loopOrder (a .extents .now) (length (a .sizes .now)) (a .strides .now) u)) (t .before .before .before .purpose-of .ensures))
 
 pub parts-order-spec : {M : Type 1} → statement M
 parts-order-spec =
@@ -64,6 +65,6 @@ parts-order-spec =
     enum-known-checked
     number-requires
     enum-told
-    compute-order-requires
+    compute-order-into-requires
     returns
     returns-2)

@@ -1,26 +1,23 @@
 -- `gougelily::indices::gougelily_plan_index` meets its contract. Assumes nothing.
 use borrow.Author.Needs.{needs}
-use mathlib.Core.Path.{_≡_, refl, _∙_}
+use mathlib.Core.Path.{refl, _∙_}
 use mir.Facts.{toZ-ofZ}
 use Rattle.strided.specs.Index.{toldPlan}
-use Rattle.strided.specs.Memory.{purposeOf, indexMemory}
 use Rattle.strided.specs.declared.Purpose.{Purpose}
 use Rattle.strided.specs.declared.Told.{Told}
-use Rattle.gougelily.proofs.Answers.{called, handed-refused, handed-served}
+use Rattle.gougelily.proofs.Answers.{told-as}
 use Rattle.gougelily.proofs.indices.gougelily_plan_index.Statement.{statement}
 use Rattle.gougelily.proofs.indices.gougelily_plan_index.Tie as tie
 
-told : (c : tie.After-plan-index) → let a = c .before .before .before .before .before .args in
-    c .plan-index .result ≡ toldPlan (a .extents .now) (a .sizes .now) (a .strides .now) (purposeOf (a .purpose) (a .chosen)) (a .original .now)
-told c =
-    let a = c .before .before .before .before .before .args in
-    called (λ (u : Purpose). toldPlan (a .extents .now) (a .sizes .now) (a .strides .now) u (a .original .now)) (c .plan-index .ensures) (c .before .purpose-of .ensures)
+-- what is told for a purpose
+abbrev told : tie.Start → Purpose → Told
+told s u = toldPlan (s .args .extents .now) (s .args .sizes .now) (s .args .strides .now) u (s .args .original .now)
 
 purpose-of-requires : tie.Need-purpose-of-requires
 purpose-of-requires c κs = search needs
 
-plan-index-requires : tie.Need-plan-index-requires
-plan-index-requires c κs = search needs
+plan-index-into-requires : tie.Need-plan-index-into-requires
+plan-index-into-requires c κs = search needs
 
 enum-known-answer : tie.Need-enum-known-answer
 enum-known-answer c = search needs
@@ -33,20 +30,23 @@ enum-told c = search needs
 
 returns : tie.Need-returns
 returns c =
-    let k = c .before .before .before .before in
-    handed-refused (λ (t : Told). t .answer) indexMemory (told k) (c .before .before .answer .given .1) (toZ-ofZ (record { sfits = c .negated .ok }) ∙ c .negated .ensures)
+    let g = c .before .before in
+    let k = g .before .before in
+    let p = k .before .before .before in
+    told-as (told (p .before .before .before .before)) (p .purpose-of .ensures) (k .plan-index-into .ensures) (g .answer .given .1) (toZ-ofZ (record { sfits = c .negated .ok }) ∙ c .negated .ensures)
 
 returns-2 : tie.Need-returns-2
 returns-2 c =
-    let e = c .before .before in
-    handed-served (λ (t : Told). t .answer) indexMemory (told (e .before .before)) (e .enum-told .given .1) refl
+    let k = c .before .before in
+    let p = k .before .before .before in
+    told-as (told (p .before .before .before .before)) (p .purpose-of .ensures) (k .plan-index-into .ensures) (c .enum-told .given .1) refl
 
 pub gougelily-plan-index-spec : {M : Type 1} → statement M
 gougelily-plan-index-spec =
     tie.close
     (tie.spec
     purpose-of-requires
-    plan-index-requires
+    plan-index-into-requires
     enum-known-answer
     negated-requires
     enum-told
