@@ -71,7 +71,8 @@ fn original_by<'a>(
     index: &mut [u64; 64],
 ) -> Answer
     requires { ⌜ Sound (now extents) (now order) (now fused) ⌝ }
-    ensures { λ r. ⌜ Leaves (unraveledBy (now (extents .entry)) (now (order .entry)) (now (fused .entry)) (now (counters .entry))) (now (count .entry)) (now (index .entry)) (now (count .exit)) (now (index .exit)) r ⌝ }
+    ensures { λ r. ⌜ Leaves (unraveledBy (now (extents .entry)) (now (order .entry)) (now (fused .entry)) (now (counters .entry)))
+        (now (count .entry)) (now (index .entry)) (now (count .exit)) (now (index .exit)) r ⌝ }
 {
     if radix::plan_within(fused, extents.len(), counters) {
         *count = [extents.len()];
@@ -94,7 +95,8 @@ fn plan_by<'a>(
 ) -> Answer
     requires arrays { ⌜ Sound (now extents) (now order) (now fused) ⌝ }
     requires rank { ⌜ rank ≡ length (keptExtents (take (length (now extents)) (now fused))) ⌝ }
-    ensures { λ r. ⌜ Leaves (raveledBy (now (extents .entry)) (now (order .entry)) (now (fused .entry)) (now (original .entry))) (now (count .entry)) (now (index .entry)) (now (count .exit)) (now (index .exit)) r ⌝ }
+    ensures { λ r. ⌜ Leaves (raveledBy (now (extents .entry)) (now (order .entry)) (now (fused .entry)) (now (original .entry)))
+        (now (count .entry)) (now (index .entry)) (now (count .exit)) (now (index .exit)) r ⌝ }
 {
     if radix::within(extents, original) {
         *count = [rank];
@@ -114,7 +116,8 @@ pub fn original(
     index: &mut [u64; 64],
 ) -> Answer
     requires { ⌜ Usable (now extents) map ⌝ }
-    ensures { λ r. ⌜ TellsOriginal (now (extents .entry)) map (now (counters .entry)) (now (count .entry)) (now (index .entry)) (now (count .exit)) (now (index .exit)) r ⌝ }
+    ensures { λ r. ⌜ TellsOriginal (now (extents .entry)) map (now (counters .entry))
+        (now (count .entry)) (now (index .entry)) (now (count .exit)) (now (index .exit)) r ⌝ }
 {
     original_by(extents, &map.order, &map.fused, counters, count, index)
 }
@@ -128,7 +131,8 @@ pub fn in_plan(
     index: &mut [u64; 64],
 ) -> Answer
     requires { ⌜ Usable (now extents) map ⌝ }
-    ensures { λ r. ⌜ TellsPlan (now (extents .entry)) map (now (original .entry)) (now (count .entry)) (now (index .entry)) (now (count .exit)) (now (index .exit)) r ⌝ }
+    ensures { λ r. ⌜ TellsPlan (now (extents .entry)) map (now (original .entry))
+        (now (count .entry)) (now (index .entry)) (now (count .exit)) (now (index .exit)) r ⌝ }
 {
     plan_by(
         extents,
@@ -153,7 +157,8 @@ pub fn original_index_into<'a>(
     count: &mut [usize; 1],
     index: &mut [u64; 64],
 ) -> Answer
-    ensures { λ r. ⌜ Leaves (toldOriginal (now (extents .entry)) (now (sizes .entry)) (now (strides .entry)) purpose (now (counters .entry))) (now (count .entry)) (now (index .entry)) (now (count .exit)) (now (index .exit)) r ⌝ }
+    ensures { λ r. ⌜ Leaves (toldOriginal (now (extents .entry)) (now (sizes .entry)) (now (strides .entry)) purpose (now (counters .entry)))
+        (now (count .entry)) (now (index .entry)) (now (count .exit)) (now (index .exit)) r ⌝ }
 {
     let answer = check_layout(extents, sizes, strides, purpose);
     match answer {
@@ -184,7 +189,8 @@ pub fn plan_index_into<'a>(
     count: &mut [usize; 1],
     index: &mut [u64; 64],
 ) -> Answer
-    ensures { λ r. ⌜ Leaves (toldPlan (now (extents .entry)) (now (sizes .entry)) (now (strides .entry)) purpose (now (original .entry))) (now (count .entry)) (now (index .entry)) (now (count .exit)) (now (index .exit)) r ⌝ }
+    ensures { λ r. ⌜ Leaves (toldPlan (now (extents .entry)) (now (sizes .entry)) (now (strides .entry)) purpose (now (original .entry)))
+        (now (count .entry)) (now (index .entry)) (now (count .exit)) (now (index .exit)) r ⌝ }
 {
     let answer = check_layout(extents, sizes, strides, purpose);
     match answer {

@@ -1,6 +1,6 @@
 // Index finding from C: the index is told where the caller wants it.
 ghost use Rattle.strided.specs.Index.{toldOriginal, toldPlan};
-ghost use Rattle.strided.specs.Memory.{purposeOf, Tells};
+ghost use Rattle.strided.specs.Memory.{purposeOf, indexAt, Tells};
 use finding::original_index_into;
 use finding::plan_index_into;
 use layout::negated;
@@ -19,7 +19,10 @@ pub extern "C" fn gougelily_original_index<'a>(
     count: &mut [usize; 1],
     index: &mut [u64; 64],
 ) -> i64
-    ensures { λ r. ⌜ Tells (toldOriginal (now (extents .entry)) (now (sizes .entry)) (now (strides .entry)) (purposeOf purpose chosen) (now (counters .entry))) (record { count = now (count .entry); index = now (index .entry) }) (record { count = now (count .exit); index = now (index .exit) }) r ⌝ }
+    ensures { λ r. ⌜ Tells (toldOriginal (now (extents .entry)) (now (sizes .entry)) (now (strides .entry)) (purposeOf purpose chosen) (now (counters .entry)))
+        (indexAt (now (count .entry)) (now (index .entry)))
+        (indexAt (now (count .exit)) (now (index .exit)))
+        r ⌝ }
 {
     let answer = original_index_into(
         extents,
@@ -48,7 +51,10 @@ pub extern "C" fn gougelily_plan_index<'a>(
     count: &mut [usize; 1],
     index: &mut [u64; 64],
 ) -> i64
-    ensures { λ r. ⌜ Tells (toldPlan (now (extents .entry)) (now (sizes .entry)) (now (strides .entry)) (purposeOf purpose chosen) (now (original .entry))) (record { count = now (count .entry); index = now (index .entry) }) (record { count = now (count .exit); index = now (index .exit) }) r ⌝ }
+    ensures { λ r. ⌜ Tells (toldPlan (now (extents .entry)) (now (sizes .entry)) (now (strides .entry)) (purposeOf purpose chosen) (now (original .entry)))
+        (indexAt (now (count .entry)) (now (index .entry)))
+        (indexAt (now (count .exit)) (now (index .exit)))
+        r ⌝ }
 {
     let answer = plan_index_into(
         extents,

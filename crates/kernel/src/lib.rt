@@ -63,7 +63,8 @@ pub fn plan_into<'a>(
     requires { ⌜ Allowed (aim .machine) ⌝ }
     requires { ⌜ Accepted (now extents) (now sizes) (now strides) (aim .purpose) ⌝ }
     requires { ⌜ Zeros (now es) (now table) ⌝ }
-    ensures { λ r. ⌜ Made (aim .machine) (now (extents .entry)) (now (sizes .entry)) (now (strides .entry)) (aim .purpose) r (now (es .exit)) (now (blocks .exit)) (now (table .exit)) ⌝ }
+    ensures { λ r. ⌜ Made (aim .machine) (now (extents .entry)) (now (sizes .entry)) (now (strides .entry)) (aim .purpose)
+        r (now (es .exit)) (now (blocks .exit)) (now (table .exit)) ⌝ }
 {
     let purpose = aim.purpose;
     let machine = aim.machine;

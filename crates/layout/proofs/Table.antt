@@ -2,15 +2,15 @@
 use mathlib.Core.Path.{_≡_, refl, sym, ap, _∙_}
 use mathlib.Core.Bool.{Bool, true, false, not, _&&_, _||_}
 use mathlib.Core.List.{List, _∷_}
-use mathlib.Core.Option.{none, some}
-use Prim.Native.Nat.{ℕ, _*_, _%_, _≤_}
+use mathlib.Core.Option.{none}
+use Prim.Native.Nat.{ℕ, _*_, _%_}
 use native.Mathlib.Nat.{mul-comm}
 use native.Mathlib.Omega.{arith}
-use lib.Dec.{ltb, leb, eqb}
+use lib.Dec.{leb, eqb}
 use lib.IntN.{ℤ}
 use lib.ListN.{length, drop}
-use borrow.Author.Tests.{ltb-false, eqb-true, ne-eqb, not-false}
-use Rattle.strided.specs.Refusals.{row1, row2, row3, row24, refusedBy, answered, countRows, spanRows, layoutRefused, planningRefused}
+use borrow.Author.Tests.{eqb-true, ne-eqb, not-false}
+use Rattle.strided.specs.Refusals.{row3, row24, refusedBy, answered, countRows, spanRows, layoutRefused, planningRefused}
 use Rattle.strided.specs.Machine.{lineAllowed, allowed}
 use Rattle.strided.specs.declared.Machine.{Machine}
 use Rattle.strided.specs.declared.Purpose.{Purpose}
@@ -19,19 +19,12 @@ use Rattle.strided.specs.declared.Refusal.the-variants.{Record}
 use Rattle.strided.specs.declared.Answer.{Answer}
 use Rattle.strided.specs.declared.Answer.the-variants.{Refused}
 use Rattle.laws.specs.Base.Refusals.{NoneApplies, none-applies}
-use Rattle.laws.specs.Base.Tests.{or-none}
 use Rattle.laws.specs.Refusals.Rows.{Past, rows-refuse, rows-pass, refused-some}
 use Rattle.layout.specs.Laid.{Laid}
 
 -- the first n of rows 1 to 4 do not apply
 abbrev pub Passed : ℕ → List ℕ → List ℕ → List ℤ → Purpose → Type 0
 Passed n es sizes ss u = Past (countRows es sizes ss u) (drop n (countRows es sizes ss u))
-
-pub few-axes : (rank : ℕ) {b : Bool} → b ≡ row1 rank .applies → b ≡ false → rank ≤ 64
-few-axes rank is h = ltb-false 64 rank (sym is ∙ h)
-
-pub few-operands : (operands : ℕ) {b : Bool} → b ≡ row2 operands .applies → b ≡ false → operands ≤ 8
-few-operands operands is h = ltb-false 8 operands (or-none (eqb operands 0) (ltb 8 operands) (sym is ∙ h) .1)
 
 pub rows-laid : (es : List ℕ) (operands : ℕ) (ss : List ℤ) {b : Bool} → b ≡ row3 (length es) operands ss .applies → b ≡ false
     → Laid es ss (length es) operands

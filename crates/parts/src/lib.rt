@@ -154,7 +154,9 @@ pub extern "C" fn parts_fused<'a>(
     chosen: u64,
     fused: &mut [u64; 64],
 ) -> u64
-    ensures { λ r. ⌜ Part (countsRefused (now (extents .entry)) (now (sizes .entry)) (now (strides .entry)) (purposeOf kind chosen)) (padded 64 0 (fusedExtents (now (extents .entry)) (length (now (sizes .entry))) (now (strides .entry)) (purposeOf kind chosen))) (now (fused .entry)) (now (fused .exit)) r ⌝ }
+    ensures { λ r. ⌜ Part (countsRefused (now (extents .entry)) (now (sizes .entry)) (now (strides .entry)) (purposeOf kind chosen))
+        (padded 64 0 (fusedExtents (now (extents .entry)) (length (now (sizes .entry))) (now (strides .entry)) (purposeOf kind chosen)))
+        (now (fused .entry)) (now (fused .exit)) r ⌝ }
 {
     let purpose = purpose_of(kind, chosen);
     let checked = check_counts(extents, sizes, strides, purpose);

@@ -24,6 +24,7 @@ use Rattle.laws.specs.Base.Layouts.{true-within}
 use Rattle.laws.specs.Base.Lists.{length-run, getD-run}
 use Rattle.laws.specs.Base.Tests.{and-both}
 use Rattle.laws.specs.Refusals.Zeros.{no-zero-of}
+use Rattle.laws.specs.Walk.Machine.{length-starts}
 use Rattle.layout.specs.Laid.{rowAt, Laid}
 use Rattle.states.specs.Starts.{leavesAt, someLeave, Begins}
 use Rattle.states.specs.Reaches.{standing, mayStart, Arrays, reaches}
@@ -44,11 +45,6 @@ starts-at [] os c k e h = absurd (omega arith)
 starts-at (ts ∷ tss) [] c k e h = absurd (omega arith)
 starts-at (ts ∷ tss) (o ∷ os) c zero e h = refl
 starts-at (ts ∷ tss) (o ∷ os) c (suc k) e h = starts-at tss os c k (omega arith) (omega arith)
-
-length-starts : (tss : List (List ℤ)) (os : List ℤ) (c : List ℕ) → length os ≡ length tss → length (startsFrom tss os c) ≡ length tss
-length-starts [] os c e = refl
-length-starts (ts ∷ tss) [] c e = absurd (omega arith)
-length-starts (ts ∷ tss) (o ∷ os) c e = ap suc (length-starts tss os c (omega arith))
 
 -- counters that are all 0 are within
 blank-within : (es c : List ℕ) → NoZero es → length c ≡ length es → blank c ≡ true → Within es c

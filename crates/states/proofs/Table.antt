@@ -12,7 +12,7 @@ use lib.ListN.{length, getD, take, drop, replicate, length-take}
 use borrow.Author.Tests.{ltb-false, eqb-true, not-false}
 use Rattle.strided.specs.Base.{some-of, padded}
 use Rattle.strided.specs.Layout.{NoZero, Within, hasZero, dot, reach, maxI}
-use Rattle.strided.specs.Refusals.{row1, row2, row6, row9, leaves, someOperand}
+use Rattle.strided.specs.Refusals.{row6, row9, leaves, someOperand}
 use Rattle.strided.specs.Begin.{planExtents, planRow, beginRows, beginRefused, begunOr, begunAt, noWalk}
 use Rattle.strided.specs.declared.Refusal.{Refusal}
 use Rattle.strided.specs.declared.Plan.{Plan}
@@ -33,14 +33,6 @@ use Rattle.states.specs.Starts.{leavesAt, someLeave, Standing, Begins}
 -- the part of an array that the code cuts off has the length that it was cut with
 pub cut-length : {A : Type 0} (n : ℕ) (l : List A) → n ≤ length l → n ≡ length (take n l)
 cut-length n l h = let e = length-take n l in omega (arith, e, h)
-
--- ---- what rows 1 and 2 let through
-
-pub few-axes : (rank : ℕ) {b : Bool} → b ≡ row1 rank .applies → b ≡ false → rank ≤ 64
-few-axes rank is h = ltb-false 64 rank (sym is ∙ h)
-
-pub few-operands : (operands : ℕ) {b : Bool} → b ≡ row2 operands .applies → b ≡ false → operands ≤ 8
-few-operands operands is h = ltb-false 8 operands (or-none (eqb operands 0) (ltb 8 operands) (sym is ∙ h) .1)
 
 -- ---- where no extent is 0
 

@@ -57,7 +57,8 @@ pub struct Span {
 // The reach has been tested, so that nothing is capped here, and both are found in one go.
 fn span_of<'a, 'b>(extents: &'a [u64], strides: &'a [i64], counters: &'b [u64]) -> Span
     requires { ⌜ Placed (now extents) (now strides) (now counters) ⌝ }
-    ensures { λ r. ⌜ (r .reach ≡ reach (now (extents .entry)) (now (strides .entry))) × (r .below ≡ belowOf (now (extents .entry)) (now (strides .entry)) (now (counters .entry))) ⌝ }
+    ensures { λ r. ⌜ (r .reach ≡ reach (now (extents .entry)) (now (strides .entry)))
+        × (r .below ≡ belowOf (now (extents .entry)) (now (strides .entry)) (now (counters .entry))) ⌝ }
 {
     let mut reach: u64 = 0;
     let mut below: u64 = 0;

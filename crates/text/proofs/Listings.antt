@@ -31,7 +31,7 @@ use Rattle.laws.specs.Plan.Places.{plan-extents, plan-blocks, plan-strides}
 use Rattle.laws.specs.Refusals.Record.{planning-fixed}
 use Rattle.laws.specs.Text.Begins.{planned-begins}
 use Rattle.laws.specs.Text.Planning.{as-planning}
-use Rattle.advance.specs.Plans.{Sized}
+use Rattle.advance.specs.Sized.{Sized}
 use Rattle.kernel.specs.Made.{Made}
 use Rattle.reading.specs.Lines.{Arrays}
 use Rattle.reading.specs.Texts.{Says}

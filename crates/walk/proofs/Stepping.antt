@@ -33,9 +33,9 @@ use Rattle.laws.specs.Walk.Steps.{Ready, ready, none-of, served-walk, at, raw, 
 use Rattle.advance.specs.Axis.{widthsTo, startOf, startsTo}
 use Rattle.advance.specs.Carry.{Roomy, Tiled, AdvancedTo}
 use Rattle.advance.specs.Blocks.{lengthOf, firstsOf}
-use Rattle.advance.specs.Plans.{C, O, length-is, firsts-are, first-start}
-use Rattle.advance.specs.Plans as plans
-use Rattle.advance.specs.Reached.{widths-pos, tiled, roomy, advanced}
+use Rattle.advance.proofs.Plans.{C, O, length-is, firsts-are, first-start}
+use Rattle.advance.proofs.Plans as plans
+use Rattle.advance.proofs.Reached.{widths-pos, tiled, roomy, advanced}
 use Rattle.states.specs.Reaches.{Arrays, reaches}
 use Rattle.walk.specs.Lent.{Taken, overStep}
 

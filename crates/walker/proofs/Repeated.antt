@@ -23,7 +23,7 @@ use Rattle.laws.specs.Walk.Bulk.{walk-more, blocks-more, blocks-short}
 use Rattle.laws.specs.Walk.Placed.{Placed, placedOf, placedWalk, placed-part}
 use Rattle.laws.specs.Walk.Steps.{Ready}
 use Rattle.advance.specs.Axis.{startsTo}
-use Rattle.advance.specs.Plans.{Sized}
+use Rattle.advance.specs.Sized.{Sized}
 use Rattle.walk.specs.Lent.{Taken}
 use Rattle.walk.proofs.Stepping.{begun-taken, taken-after, ended-none, tiled-here}
 use Rattle.walker.specs.declared.Way.{Way}

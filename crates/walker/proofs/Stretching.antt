@@ -28,7 +28,7 @@ use Rattle.advance.specs.Blocks.{lengthOf}
 use Rattle.advance.specs.Carry.{Tiled, AdvancedTo}
 use Rattle.advance.specs.Filled.{by-lt, filled-at, filled-length}
 use Rattle.advance.specs.Moves.{afterMove, movedAt, shifted}
-use Rattle.advance.specs.Offsets.{moved-offsets}
+use Rattle.advance.proofs.Offsets.{moved-offsets}
 use Rattle.advance.proofs.Dot.{roomy-offset}
 use Rattle.advance.proofs.Signed as signed
 use Rattle.strided.specs.Memory.{walkOf}

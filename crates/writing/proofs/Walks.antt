@@ -26,7 +26,7 @@ use Rattle.laws.specs.Text.Totals.{walk-cells, walk-blocks}
 use Rattle.laws.specs.Walk.Placed.{Placed, placedFrom, placedWalk, placed-over}
 use Rattle.laws.specs.Walk.Steps.{Ready, ready}
 use Rattle.advance.specs.Axis.{widthsTo, startsTo}
-use Rattle.advance.specs.Reached.{widths-pos}
+use Rattle.advance.proofs.Reached.{widths-pos}
 use Rattle.strided.specs.Memory.{walkOf}
 use Rattle.walk.specs.Lent.{Taken}
 use Rattle.walk.proofs.Stepping.{begun-taken}

@@ -15,7 +15,7 @@ use Rattle.strided.specs.Text.{axisLine, blockLine, blockLines, endLine, planWa
 use Rattle.strided.specs.declared.Plan.{Plan}
 use Rattle.laws.specs.Walk.Placed.{Placed}
 use Rattle.advance.specs.Filled.{filledTo}
-use Rattle.advance.specs.Plans.{Sized}
+use Rattle.advance.specs.Sized.{Sized}
 use Rattle.writing.specs.declared.plan.Measured.{Measured}
 use Rattle.writing.specs.declared.plan.Measured.the-variants.{Fits, More}
 

@@ -47,8 +47,11 @@ turn c = c .before .before .before .before .before .before
 abbrev Put : Type 0
 Put = tie.After-offsets Inv-loop μ-loop
 
+abbrev lengths-put : Put → tie.After-put-lengths Inv-loop μ-loop
+lengths-put c = c .before .before .before .before .before .before .before
+
 abbrev stride : Put → Strides
-stride c = c .before .before .before .before .before .before .before .before .before
+stride c = lengths-put c .before .before
 
 widths-requires : tie.Need-widths-requires Inv-loop μ-loop
 widths-requires c κs = axes-few _ _ (c .before .pre .0)

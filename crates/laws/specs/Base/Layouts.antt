@@ -128,7 +128,7 @@ pub length-axes : (ss : List ℤ) (n m i : ℕ) (es : List ℕ) → length (axes
 length-axes ss n m i [] = refl
 length-axes ss n m i (e ∷ es) = ap suc (length-axes ss n m (suc i) es)
 
-getD-column : (ss : List ℤ) (n i m s k : ℕ) → k < m → getD (strideColumn ss n i s m) k (pos 0) ≡ getD ss ((s + k) * n + i) (pos 0)
+pub getD-column : (ss : List ℤ) (n i m s k : ℕ) → k < m → getD (strideColumn ss n i s m) k (pos 0) ≡ getD ss ((s + k) * n + i) (pos 0)
 getD-column ss n i zero s k p = absurd (omega arith)
 getD-column ss n i (suc m) s zero p = let e : s + 0 ≡ s = omega arith in rw e
 getD-column ss n i (suc m) s (suc k) p =

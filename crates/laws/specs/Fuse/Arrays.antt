@@ -51,16 +51,6 @@ getD-axis ss p m (e ∷ es) s (suc a) h =
     let q : s + suc a ≡ suc s + a = omega arith in
     rw q (getD-axis ss p m es (suc s) a (omega arith))
 
-pub stride-at : (ss : List ℤ) (p i c s k : ℕ) → k < c → getD (strideColumn ss p i s c) k (pos 0) ≡ getD ss ((s + k) * p + i) (pos 0)
-stride-at ss p i zero s k h = absurd (bad h)
-  where
-    bad : k < 0 → ⊥
-    bad h = omega arith
-stride-at ss p i (suc c) s zero h = let q : s + 0 ≡ s = omega arith in rw q
-stride-at ss p i (suc c) s (suc k) h =
-    let q : s + suc k ≡ suc s + k = omega arith in
-    rw q (stride-at ss p i c (suc s) k (omega arith))
-
 -- ---- axes in another order
 
 module _ (ss : List ℤ) (p m : ℕ) (es : List ℕ) where

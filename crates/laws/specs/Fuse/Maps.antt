@@ -1,7 +1,7 @@
 -- A LAYOUT'S PLAN: it has no more axes than the layout and the same total; the plan index and the original index of document 01's "Fused
 -- axes" stay in range, undo each other and keep every operand's offset. Over the definitions that the entries cite.
 -- Assumes nothing.
-use mathlib.Core.Path.{_≡_, refl, sym, ap, _∙_, subst}
+use mathlib.Core.Path.{_≡_, sym, ap, _∙_, subst}
 use mathlib.Core.Bool.{Bool, true, false}
 use mathlib.Core.List.{List, [], _∷_}
 use Prim.Native.Nat.{ℕ, suc, _*_, _≤_, _<_}
@@ -12,27 +12,16 @@ use lib.ListN.{length}
 use Rattle.strided.specs.Base.{unless}
 use Rattle.strided.specs.Layout.{Axis, noAxis, Within, NoZero, dot, total, extents, row, strideRow, axesOf}
 use Rattle.strided.specs.Order.{pick, fusingOrder}
-use Rattle.strided.specs.Fuse.{fuse, fuseStep, fuseIf, canFuse, keep, orFirst, fusedAxes, planAxes}
+use Rattle.strided.specs.Fuse.{fuse, keep, orFirst, fusedAxes, planAxes}
 use Rattle.strided.specs.Index.{unravelBy, originalIndex, indexInPlan}
 use Rattle.strided.specs.declared.Purpose.{Purpose}
 use Rattle.laws.specs.Base.Layouts.{within-total, total-nozero, extents-axes, length-axes, axes-row}
 use Rattle.laws.specs.Order.Permutation.{Permutes, fusing-permutes}
 use Rattle.laws.specs.Order.Picked.{length-pick}
+use Rattle.laws.specs.Fuse.Arrays.{length-fuse}
 use Rattle.laws.specs.Fuse.Ordered.{order-total, index-range, unravel-index, told-range, index-unravel, told-dot}
 
 -- ---- fusing adds no axis
-
-length-fuseStep : (a : Axis) (bs : List Axis) → length (fuseStep a bs) ≡ suc (length bs)
-length-fuseStep a [] = refl
-length-fuseStep a (b ∷ bs) = go (canFuse a b)
-  where
-    go : (c : Bool) → length (fuseIf c a b bs) ≡ suc (suc (length bs))
-    go true = refl
-    go false = refl
-
-length-fuse : (xs : List Axis) → length (fuse xs) ≡ length xs
-length-fuse [] = refl
-length-fuse (a ∷ xs) = length-fuseStep a (fuse xs) ∙ ap suc (length-fuse xs)
 
 length-keep : (xs : List Axis) → length (keep xs) ≤ length xs
 length-keep [] = omega arith

@@ -13,8 +13,8 @@ use Rattle.strided.specs.Layout.{Axis, noAxis, extents, row, strideColumn, axes
 use Rattle.strided.specs.Order.{pick}
 use Rattle.strided.specs.Fuse.{fuse, fuseStep, fuseIf, canFuse}
 use Rattle.strided.specs.Plan.{strideTable}
-use Rattle.laws.specs.Base.Layouts.{length-extents}
-use Rattle.laws.specs.Fuse.Arrays.{Below, getD-axis, stride-at, pickRow, pickRows, over-same, length-fuse}
+use Rattle.laws.specs.Base.Layouts.{length-extents, getD-column}
+use Rattle.laws.specs.Fuse.Arrays.{Below, getD-axis, pickRow, pickRows, over-same, length-fuse}
 
 -- place i with the extent e, and the places from i on
 abbrev pub axisAt : (ℕ → List ℤ) → ℕ → ℕ → Axis
@@ -135,7 +135,7 @@ module _ (ss : List ℤ) (p m : ℕ) (order fs : List ℕ) where
           let y : 0 + j ≡ j = omega arith in
           ap (λ (x : Axis). getD (x .strides) k (pos 0)) (getD-place (columnBy ss p m order) 0 fs j (b .0))
           ∙ ap (λ (x : ℕ). getD (columnBy ss p m order x) k (pos 0)) y
-          ∙ stride-at ss p (getD order j 0) m 0 k h
+          ∙ getD-column ss p (getD order j 0) m 0 k h
           ∙ ap (λ (x : ℕ). getD ss (x * p + getD order j 0) (pos 0)) z
           ∙ sym (getD-drop (k * p) ss (getD order j 0) (pos 0))
 

@@ -2,7 +2,7 @@
 -- most that of F, since the fit only shortens; with other than two operands they are equal, and so are they with no chosen operand.
 -- Assumes nothing.
 use mathlib.Core.Path.{_≡_, refl, ap₂}
-use mathlib.Core.Bool.{Bool, true, false, cond, _&&_, _||_, not}
+use mathlib.Core.Bool.{Bool, true, false, cond, _||_}
 use mathlib.Core.List.{List, [], _∷_}
 use mathlib.Core.Option.{Option, none, some}
 use Prim.Native.Nat.{ℕ, zero, suc, _+_, _*_, _≤_}
@@ -11,7 +11,7 @@ use native.Mathlib.Omega.{arith}
 use lib.Dec.{ltb, leb, eqb}
 use lib.IntN.{ℤ, pos, natAbs}
 use lib.ListN.{length, getD, set}
-use borrow.Author.Tests.{ltb-true, eqb-false, ne-eqb, lt-leb}
+use borrow.Author.Tests.{eqb-false, ne-eqb, lt-leb}
 use Rattle.strided.specs.Base.{greatest, padded, every}
 use Rattle.strided.specs.Layout.{Axis, extents, total}
 use Rattle.strided.specs.Refusals.{refusedBy, planningRows, planningRefused}
@@ -21,14 +21,14 @@ use Rattle.strided.specs.Region.{byteTable, region}
 use Rattle.strided.specs.Costs.{costs}
 use Rattle.strided.specs.Cut.{planRanks, cutting}
 use Rattle.strided.specs.Decline.{declined}
-use Rattle.strided.specs.Fit.{load, enters, shortens, mostOf, fitFrom, fitted}
+use Rattle.strided.specs.Fit.{load, shortens, mostOf, fitFrom, fitted}
 use Rattle.strided.specs.Plan.{strideTable, grows, fittedFor, cutBlocks, planFrom, plannedOr, planned}
 use Rattle.strided.specs.declared.Purpose.{Purpose}
 use Rattle.strided.specs.declared.Purpose.the-variants.{Pointwise, PointwiseInto, Fold}
 use Rattle.strided.specs.declared.Refusal.{Refusal}
 use Rattle.strided.specs.declared.Plan.{Plan}
 use Rattle.strided.specs.declared.Machine.{Machine}
-use Rattle.laws.specs.Base.Tests.{and-both}
+use Rattle.laws.specs.Cut.Cases.{shortens-above}
 
 -- ---- the fit only shortens
 
@@ -53,13 +53,6 @@ greatest-most t (suc n) = go (t (suc n)) (greatest-most t n)
     go false h = omega arith
 
 module _ (mc : Machine) (bytes sizes : List ℕ) (rank : ℕ) (chosenSize : ℕ → ℕ) where
-  shortens-above : (b : List ℕ) (i : ℕ) → shortens mc bytes sizes rank chosenSize b i ≡ true → 1 ≤ getD b i 0
-  unfolding shortens
-  shortens-above b i h =
-      let q = and-both (not (eqb (chosenSize i) 0)) (enters mc bytes sizes rank i && ltb 1 (getD b i 0)) h in
-      let r = and-both (enters mc bytes sizes rank i) (ltb 1 (getD b i 0)) (q .1) in
-      omega (arith, ltb-true 1 (getD b i 0) (r .1))
-
   fit-from-most : (n : ℕ) (b : List ℕ) → AtMost (fitFrom mc bytes sizes rank chosenSize n b) b
   unfolding fitFrom mostOf
   fit-from-most zero b i = le-refl (getD b i 0)
@@ -70,7 +63,7 @@ module _ (mc : Machine) (bytes sizes : List ℕ) (rank : ℕ) (chosenSize : ℕ 
           → ((c : List ℕ) → getD (fitFrom mc bytes sizes rank chosenSize n c) i 0 ≤ getD c i 0)
           → getD (cond s (cond l (fitFrom mc bytes sizes rank chosenSize n (set b n 1)) (set b n (mostOf mc bytes sizes rank b n))) (fitFrom mc bytes sizes rank chosenSize n b)) i 0
           ≤ getD b i 0
-      go true true h f = le-trans (f (set b n 1)) (set-most b n 1 (shortens-above b n h) i)
+      go true true h f = le-trans (f (set b n 1)) (set-most b n 1 (omega (arith, shortens-above mc bytes sizes rank chosenSize b n h)) i)
       go true false h f = set-most b n (mostOf mc bytes sizes rank b n) (greatest-most (λ x. leb (load mc bytes sizes rank (set b n x)) (mc .live)) (getD b n 0)) i
       go false l h f = f b
 

@@ -3,12 +3,15 @@ use mathlib.Core.Path.{_≡_, refl, sym, ap, _∙_}
 use mathlib.Core.Bool.{Bool, true, false, cond, _&&_, not, false≢true}
 use mathlib.Core.List.{List, [], _∷_, _++_}
 use mathlib.Core.Option.{Option, none, some}
-use Prim.Native.Nat.{ℕ}
+use Prim.Native.Nat.{ℕ, _≤_}
 use native.Mathlib.Omega.{arith}
-use Rattle.strided.specs.Refusals.{Row, refusedBy, answered}
+use lib.Dec.{ltb, eqb}
+use borrow.Author.Tests.{ltb-false}
+use Rattle.strided.specs.Refusals.{Row, row1, row2, refusedBy, answered}
 use Rattle.strided.specs.declared.Refusal.{Refusal}
 use Rattle.strided.specs.declared.Answer.the-variants.{Served, Refused}
 use Rattle.laws.specs.Base.Refusals.{NoneApplies}
+use Rattle.laws.specs.Base.Tests.{or-none}
 
 -- ---- the code's tests, row by row
 
@@ -77,3 +80,11 @@ unless-passes false t h q = h
 pub passes-unless : (z t : Bool) → (z ≡ false → t ≡ false) → (not z && t) ≡ false
 passes-unless true t h = refl
 passes-unless false t h = h refl
+
+-- ---- what rows 1 and 2 let through
+
+pub few-axes : (rank : ℕ) {b : Bool} → b ≡ row1 rank .applies → b ≡ false → rank ≤ 64
+few-axes rank is h = ltb-false 64 rank (sym is ∙ h)
+
+pub few-operands : (operands : ℕ) {b : Bool} → b ≡ row2 operands .applies → b ≡ false → operands ≤ 8
+few-operands operands is h = ltb-false 8 operands (or-none (eqb operands 0) (ltb 8 operands) (sym is ∙ h) .1)

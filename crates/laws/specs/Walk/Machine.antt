@@ -73,7 +73,7 @@ length-offsets [] zs c h = refl
 length-offsets (ts ∷ tss) [] c h = absurd (omega arith)
 length-offsets (ts ∷ tss) (z ∷ zs) c h = ap suc (length-offsets tss zs c (omega arith))
 
-length-starts : (tss : List (List ℤ)) (zs : List ℤ) (c : List ℕ) → length zs ≡ length tss → length (startsFrom tss zs c) ≡ length tss
+pub length-starts : (tss : List (List ℤ)) (zs : List ℤ) (c : List ℕ) → length zs ≡ length tss → length (startsFrom tss zs c) ≡ length tss
 length-starts [] zs c h = refl
 length-starts (ts ∷ tss) [] c h = absurd (omega arith)
 length-starts (ts ∷ tss) (z ∷ zs) c h = ap suc (length-starts tss zs c (omega arith))

@@ -1,8 +1,8 @@
 -- `layout::check_counts` meets its contract: its tests are rows 1 to 4 of the table, one after the other. Assumes nothing.
 use borrow.Author.Needs.{needs}
 use Rattle.strided.specs.Refusals.{countRows}
-use Rattle.laws.specs.Refusals.Rows.{past-none, past-next, past-refused, past-served}
-use Rattle.layout.proofs.Table.{Passed, few-axes, few-operands}
+use Rattle.laws.specs.Refusals.Rows.{past-none, past-next, past-refused, past-served, few-axes, few-operands}
+use Rattle.layout.proofs.Table.{Passed}
 use Rattle.layout.proofs.check_counts.Statement.{statement}
 use Rattle.layout.proofs.check_counts.Tie as tie
 

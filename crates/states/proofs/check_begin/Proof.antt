@@ -9,8 +9,8 @@ use borrow.Author.Needs.{needs}
 use borrow.Author.Tests.{eq-eqb, ne-eqb}
 use Rattle.strided.specs.Begin.{beginRows, beginRefused}
 use Rattle.strided.specs.Memory.{planOf}
-use Rattle.laws.specs.Refusals.Rows.{past-none, past-next, past-refused, past-served}
-use Rattle.states.proofs.Table.{Passed, few-axes, few-operands, cut-length, laid, row6-is, row9-is, begins}
+use Rattle.laws.specs.Refusals.Rows.{past-none, past-next, past-refused, past-served, few-axes, few-operands}
+use Rattle.states.proofs.Table.{Passed, cut-length, laid, row6-is, row9-is, begins}
 use Rattle.states.proofs.check_begin.Statement.{statement}
 use Rattle.states.proofs.check_begin.Tie as tie
 

@@ -8,7 +8,7 @@ use lib.ListN.{length}
 use mir.Facts.{toZ-ofZ, toZ-pos}
 use mir.Syntax.{w64}
 use mir.Val.{SFits}
-use Rattle.strided.specs.Bulk.{SteppedMany, steppedMany}
+use Rattle.strided.specs.Bulk.{manyOf, steppedMany}
 use Rattle.strided.specs.Memory.{planOf, walkAt, walkIn}
 use Rattle.strided.specs.declared.Plan.{Plan}
 use Rattle.strided.specs.declared.Walk.{Walk}
@@ -24,8 +24,8 @@ abbrev W : tie.Start → Walk
 W s = walkIn (walkAt (s .args .ended .now) (s .args .counters .now) (s .args .offsets .now))
 
 made : (c : tie.After-step-many-on) → let s = c .before .before .before .before .before .before .before in
-    _≡_ {A = SteppedMany} (record { several = c .step-many-on .result; lengths = c .step-many-on .last .1 .1 .1 .1 .1 .1 .0; offsets = c .step-many-on .last .1 .1 .1 .1 .1 .1 .1 .0 })
-    (steppedMany (P s) (W s) (s .args .block-lengths .now) (s .args .block-offsets .now))
+    manyOf (c .step-many-on .result) (c .step-many-on .last .1 .1 .1 .1 .1 .1 .0) (c .step-many-on .last .1 .1 .1 .1 .1 .1 .1 .0)
+    ≡ steppedMany (P s) (W s) (s .args .block-lengths .now) (s .args .block-offsets .now)
 made c = c .step-many-on .ensures
 
 -- so many blocks are a number of C

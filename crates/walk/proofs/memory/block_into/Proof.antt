@@ -21,11 +21,14 @@ length-of-requires : tie.Need-length-of-requires
 length-of-requires c κs = roomy-here _ _ (c .before .before .before .before .before .before .before .before .pre) refl .within 0
 
 firsts-requires : tie.Need-firsts-requires
-firsts-requires c κs = operands-few _ _ (c .before .before .before .before .before .before .before .before .before .pre)
+firsts-requires c κs =
+    let t = c .before .before .before in
+    operands-few _ _ (t .before .before .before .before .before .before .pre)
 
 advance-requires : tie.Need-advance-requires
 advance-requires c κs =
-    let t = c .before .before .before .before .before .before .before .before .before .before .before in
+    let f = c .before .before .before .before .before .before .before in
+    let t = f .before .before .before .before in
     let w = t .before .before .before .before in
     let k = w .before .before .pre in
     (roomy-here _ _ k refl, (tiled-here _ _ k _ (w .widths-into .ensures) _ (t .tile-starts-into .ensures), single-all _ _))

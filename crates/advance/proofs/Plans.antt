@@ -32,8 +32,9 @@ use Rattle.advance.specs.Filled.{by-lt, filledTo, filled-length, filled-
 use Rattle.advance.specs.Axis.{widthOf, widthAt, widthsTo, startOf}
 use Rattle.advance.specs.Carry.{carryOf, nextOf, dotTo, startAt}
 use Rattle.advance.specs.Blocks.{lengthOf, firstAt, firstsTo, firstsOf, offsetAt, offsetsAt}
-use Rattle.advance.specs.Bridge.{from, from-take, axesAt, put, next-carry}
-use Rattle.advance.specs.Offsets.{dot-list}
+use Rattle.advance.proofs.Bridge.{from, from-take, axesAt, put, next-carry}
+use Rattle.advance.proofs.Offsets.{dot-list}
+use Rattle.advance.specs.Sized.{Sized}
 
 -- ---- the cut axes of a plan, out of its arrays
 
@@ -122,11 +123,6 @@ none-zero (suc n) zero = refl
 none-zero (suc n) (suc i) = none-zero n i
 
 -- ---- a plan as a value has it
-
-pub record Sized (p : Plan) : Type 0 where
-  pub extents-all : length (p .extents) ≡ 64
-  pub blocks-all : length (p .blocks) ≡ 64
-  pub strides-all : length (p .strides) ≡ 512
 
 module _ (p : Plan) (zs : List ℤ) (r : Ready p zs) (z : Sized p) where
   -- the block sizes in force

@@ -37,9 +37,10 @@ use Rattle.advance.specs.Filled.{by-lt, filled-length, filled-at}
 use Rattle.advance.specs.Axis.{tileAt, startsTo}
 use Rattle.advance.specs.Carry.{Carried, nextOf, dotTo, startAt, Below, Roomy, Tiled, AdvancedTo}
 use Rattle.advance.specs.Blocks.{offsetsAt}
-use Rattle.advance.specs.Bridge.{from, axesAt, put}
-use Rattle.advance.specs.Offsets.{dot-list, moved-offsets}
-use Rattle.advance.specs.Plans.{Sized, W, C, O, axes, row-length, stride-at, dot-is, offset-at, offsets-are, long, within, extent-at, next-is, long-next}
+use Rattle.advance.proofs.Bridge.{from, axesAt, put}
+use Rattle.advance.proofs.Offsets.{dot-list, moved-offsets}
+use Rattle.advance.specs.Sized.{Sized}
+use Rattle.advance.proofs.Plans.{W, C, O, axes, row-length, stride-at, dot-is, offset-at, offsets-are, long, within, extent-at, next-is, long-next}
 
 length-from : (a : List ℕ) (i n : ℕ) → length (from a i n) ≡ n
 length-from a i zero = refl
