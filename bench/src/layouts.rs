@@ -92,6 +92,29 @@ pub fn planning() -> Vec<Named> {
     all
 }
 
+/// The layouts for index finding and single steps: ranks 2, 9 and 64, with 2 and
+/// with 8 operands, dense and every other one with its axes in another order.
+pub fn finding() -> Vec<Named> {
+    let mut all = Vec::new();
+    for operands in [2, 8] {
+        let copies = |name: &str, extents: &[usize], other: Vec<usize>| {
+            let rank = extents.len();
+            let order = |k: usize| if k % 2 == 0 { up(rank) } else { other.clone() };
+            let orders: Vec<Vec<usize>> = (0..operands).map(order).collect();
+            copy(name, extents, &orders)
+        };
+        all.push(copies("10 x 10", &[10, 10], down(2)));
+        all.push(copies("transpose 64", &[64, 64], down(2)));
+        all.push(copies("rank 9", &[5; 9], turned(9, 4)));
+        let wide = wide(operands);
+        all.push(Named {
+            name: "rank 64".to_string(),
+            ..wide
+        });
+    }
+    all
+}
+
 /// The layout as a sum ordered by operand 0.
 pub fn fold(layout: &Layout) -> Layout {
     Layout {

@@ -3,6 +3,7 @@
 //! slower.
 
 mod counting;
+mod finding;
 mod layouts;
 mod parts;
 mod planning;
@@ -18,8 +19,8 @@ use tools::options::{end, unknown, Options};
 const HELP: &str = "\
 bench: times the port and the original, and prints the ratios as tables
 
-  --only WHAT      only this table: planning, walking, texts or parts; may
-                   be repeated
+  --only WHAT      only this table: planning, walking, finding, texts or
+                   parts; may be repeated
   --runs N         short runs of each side, of which the best counts (2000)
   --seed S         the seed of the layouts for parts (0)
   --instructions   count instructions of planning too, with valgrind
@@ -106,6 +107,20 @@ fn walking_table(asked: &Asked, out: &mut impl Write) -> Result<(), String> {
     put(out, &text)
 }
 
+fn finding_table(asked: &Asked, out: &mut impl Write) -> Result<(), String> {
+    let head = "| layout | operands | axes of the plan | original index ns | plan index ns | step ns | plan ns |";
+    let rule = "|---|---|---|---|---|---|---|";
+    let mut text = format!("## Index finding, and a step\n\n{head}\n{rule}\n");
+    for row in finding::times(asked.runs) {
+        text += &format!(
+            "| {} | {} | {} | {:.0} | {:.0} | {:.0} | {:.0} |\n",
+            row.name, row.operands, row.rank, row.original, row.in_plan, row.step, row.plan
+        );
+    }
+    text.push('\n');
+    put(out, &text)
+}
+
 fn texts_table(asked: &Asked, out: &mut impl Write) -> Result<(), String> {
     let mut text =
         String::from("## Texts\n\n| text | bytes | answer | microseconds |\n|---|---|---|---|\n");
@@ -163,7 +178,7 @@ fn run() -> Result<(), String> {
             _ => return Err(unknown(&option)),
         }
     }
-    if ["planning", "walking", "texts"]
+    if ["planning", "walking", "finding", "texts"]
         .iter()
         .any(|what| asked.wants(what))
     {
@@ -177,6 +192,9 @@ fn run() -> Result<(), String> {
     }
     if asked.wants("walking") {
         walking_table(&asked, &mut out)?;
+    }
+    if asked.wants("finding") {
+        finding_table(&asked, &mut out)?;
     }
     if asked.wants("texts") {
         texts_table(&asked, &mut out)?;
