@@ -29,6 +29,7 @@
 --   the text's figures: the cells are the layout's total               Text/Totals        walk-cells, planned-cells, walk-blocks
 --   a planned plan's walk begins at the starts 0                       Text/Begins        planned-begins
 --   P and F with one chosen operand differ in blocks alone             Plan/Purposes      fit-finer, fit-alone, fit-unchosen
+--   an axis that nobody moves along is never cut                       Plan/Still         still-whole
 --   a plan's arrays have 64, 64 and 512 places                         Plan/Places        plan-extents, plan-blocks, plan-strides
 --   the text entry's answer: below 0, or within the lent bytes         Text/Answers       negated-below, lists-within
 pub mod Base

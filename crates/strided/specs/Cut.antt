@@ -1,7 +1,7 @@
 -- "The plan": cutting. "Cutting looks at a tail of axes, at first all": the n axes from o on. The record's cache stands for document 01's
 -- 32,768.
 -- Assumes nothing.
-use mathlib.Core.Bool.{Bool, cond}
+use mathlib.Core.Bool.{Bool, cond, _&&_}
 use mathlib.Core.List.{List, [], _∷_}
 use mathlib.Core.Option.{Option, none, some}
 use Prim.Native.Nat.{ℕ, zero, suc, _+_, _-_, _*_, _/_}
@@ -21,11 +21,15 @@ abbrev pub later : (ℕ → ℕ) → ℕ → Option ℕ → Option ℕ
 later s i none = some i
 later s i (some j) = cond (ltb (s i) (s j)) (some j) (some i)
 
+-- "and cutting shall choose among the others": an axis is weighed if it has a cost and its block is above 1
+abbrev pub weighed : List ℕ → List ℕ → ℕ → Bool
+weighed b costs i = ltb 1 (getD b i 0) && ltb 0 (getD costs i 0)
+
 unfoldable pub greatestScore : List ℕ → List ℕ → ℕ → ℕ → Option ℕ
 greatestScore b costs o zero = none
 greatestScore b costs o (suc n) =
     let before = greatestScore b costs o n in
-    cond (ltb 1 (getD b (o + n) 0)) (later (score b costs) (o + n) before) before
+    cond (weighed b costs (o + n)) (later (score b costs) (o + n) before) before
 
 abbrev pub shorten : (ℕ → ℕ) → List ℕ → Option ℕ → Option (List ℕ)
 shorten f b none = none

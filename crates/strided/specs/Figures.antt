@@ -32,7 +32,7 @@ use Rattle.strided.specs.Order.{loopOrder, fusingOrder}
 use Rattle.strided.specs.Fuse.{eqZ, planAxes}
 use Rattle.strided.specs.Index.{originalIndex, indexInPlan, toldOriginal, toldPlan}
 use Rattle.strided.specs.Region.{regionOf, region, byteTable}
-use Rattle.strided.specs.Costs.{costOf, costs}
+use Rattle.strided.specs.Costs.{still, costOf, costs}
 use Rattle.strided.specs.Cut.{greatestScore, halving, lessening, halved, lessened, shrunk, leastRank, leastByte, keepsFirst, ones, cutting}
 use Rattle.strided.specs.Decline.{firstCut, insertRising, rising, apart, widthOf, passes, declined}
 use Rattle.strided.specs.Fit.{reuse, counts, loadOf, load, entersOf, enters, shortens, mostOf, fitFrom, fitted}
@@ -222,6 +222,20 @@ figures =
     ∷ planIs (4 ∷ 256 ∷ []) (8 ∷ 8 ∷ 8 ∷ []) (whole (1 ∷ 4 ∷ 256 ∷ 1 ∷ 0 ∷ 0 ∷ [])) (Fold 2) (4 ∷ 256 ∷ []) (4 ∷ 256 ∷ []) (whole (1 ∷ 4 ∷ []))
     ∷ planIs (2 ∷ 1 ∷ 600 ∷ []) (8 ∷ []) (whole (0 ∷ 5 ∷ 0 ∷ [])) Pointwise (1200 ∷ []) (1200 ∷ []) (whole (0 ∷ []))
     ∷ indexIs (2 ∷ 1 ∷ 600 ∷ []) (8 ∷ []) (whole (0 ∷ 5 ∷ 0 ∷ [])) Pointwise (700 ∷ []) (1 ∷ 0 ∷ 100 ∷ [])
+    -- 58 to 63: an axis that nobody moves along stays whole; of any length; for a sum, and for a copy whose other blocks are fitted. An axis along
+    -- which one operand does not move is cut, and so is one along which only an operand of size 0 moves
+    ∷ planIs (16 ∷ 16 ∷ 17 ∷ []) (16 ∷ 4 ∷ 16 ∷ []) (whole (0 ∷ 0 ∷ 0 ∷ 0 ∷ 1024 ∷ 64 ∷ 0 ∷ 64 ∷ 100 ∷ [])) Pointwise
+    (17 ∷ 16 ∷ 16 ∷ []) (16 ∷ 15 ∷ 16 ∷ []) (whole (0 ∷ 0 ∷ 0 ∷ []))
+    ∷ planIs (2 ∷ 600 ∷ 2 ^ 40 ∷ []) (8 ∷ []) (whole (1 ∷ 1000 ∷ 0 ∷ [])) Pointwise
+    (2 ∷ 600 ∷ 2 ^ 40 ∷ []) (2 ∷ 512 ∷ 2 ^ 40 ∷ []) (whole (1 ∷ 1000 ∷ 0 ∷ []))
+    ∷ planIs (33 ∷ 16 ∷ 17 ∷ []) (64 ∷ 64 ∷ []) (whole (0 ∷ 512 ∷ 1 ∷ 0 ∷ 1 ∷ 64 ∷ [])) (Fold 0)
+    (17 ∷ 16 ∷ 33 ∷ []) (16 ∷ 16 ∷ 33 ∷ []) (whole (1 ∷ 512 ∷ 0 ∷ []))
+    ∷ planIs (33 ∷ 16 ∷ 17 ∷ []) (64 ∷ 64 ∷ []) (whole (0 ∷ 512 ∷ 1 ∷ 0 ∷ 1 ∷ 64 ∷ [])) (PointwiseInto 0)
+    (17 ∷ 16 ∷ 33 ∷ []) (5 ∷ 1 ∷ 33 ∷ []) (whole (1 ∷ 512 ∷ 0 ∷ []))
+    ∷ planIs (32 ∷ 33 ∷ []) (64 ∷ 1 ∷ 16 ∷ []) (whole (0 ∷ 0 ∷ 32 ∷ 2 ∷ 16 ∷ 512 ∷ [])) Pointwise
+    (33 ∷ 32 ∷ []) (17 ∷ 29 ∷ []) (whole (0 ∷ 0 ∷ []))
+    ∷ planIs (16 ∷ 16 ∷ 32 ∷ []) (0 ∷ 64 ∷ 8 ∷ []) (whole (0 ∷ 1 ∷ 3 ∷ 5 ∷ 32 ∷ 0 ∷ 8 ∷ 8 ∷ 0 ∷ [])) Pointwise
+    (16 ∷ 32 ∷ 16 ∷ []) (15 ∷ 30 ∷ 16 ∷ []) (whole (1 ∷ 3 ∷ 0 ∷ []))
     ∷ []
 
 -- ---- what the definitions give
@@ -317,5 +331,5 @@ wrong n (f ∷ fs) = unless (right f) n (wrong (suc n) fs)
 
 -- ALL ROWS ARE RIGHT
 pub figures-right : wrong 0 figures ≡ []
-unfolding figures planOf seen called right wrong until sum product least every some-of seek greatest allowed layoutRefused planningRefused smaller rankOf ranks rankTable leadingZeros packingWidth shiftOf termOf sizeAt rankIn addend weightAt termFits sumFits axisFits try capTries widthTries weights loopOrder fusingOrder planAxes originalIndex indexInPlan toldOriginal toldPlan regionOf region costOf costs greatestScore halving lessening halved lessened shrunk leastRank leastByte keepsFirst ones cutting firstCut insertRising rising apart widthOf passes declined reuse counts loadOf load entersOf enters shortens mostOf fitFrom fitted grows cutBlocks planFrom planned beginRefused begunAt stepped steppedMany repeats markRefused marked digitsOf printedPlan printed textRefused listed
+unfolding figures planOf seen called right wrong until sum product least every some-of seek greatest allowed layoutRefused planningRefused smaller rankOf ranks rankTable leadingZeros packingWidth shiftOf termOf sizeAt rankIn addend weightAt termFits sumFits axisFits try capTries widthTries weights loopOrder fusingOrder planAxes originalIndex indexInPlan toldOriginal toldPlan regionOf region still costOf costs greatestScore halving lessening halved lessened shrunk leastRank leastByte keepsFirst ones cutting firstCut insertRising rising apart widthOf passes declined reuse counts loadOf load entersOf enters shortens mostOf fitFrom fitted grows cutBlocks planFrom planned beginRefused begunAt stepped steppedMany repeats markRefused marked digitsOf printedPlan printed textRefused listed
 figures-right = refl

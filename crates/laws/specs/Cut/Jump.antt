@@ -5,7 +5,7 @@ use mathlib.Core.Bool.{cond}
 use mathlib.Core.List.{List}
 use mathlib.Core.Logic.{_⊎_, ⊎-elim, inl, inr}
 use Prim.Native.Nat.{ℕ, zero, suc, _+_, _-_, _*_, _/_, _<_, _≤_}
-use native.Mathlib.Nat.{div-lt-iff-lt-mul, eq-zero-or-pos, eq-or-lt-of-le, le-of-eq, mul-zero, zero-mul, lt-of-lt-of-le, le-refl}
+use native.Mathlib.Nat.{div-lt-iff-lt-mul, eq-or-lt-of-le, le-of-eq, lt-of-lt-of-le, le-refl}
 use native.Mathlib.Decide.{ℕ-discrete}
 use native.Mathlib.Omega.{arith}
 use lib.Dec.{ltb}
@@ -16,7 +16,7 @@ use Rattle.strided.specs.Cut.{score, lessening, lessened, cells}
 use Rattle.strided.specs.declared.Machine.{Machine}
 use Rattle.laws.specs.Cut.Ranges.{le-or-lt, cond-lt, cond-le, none-yet, one-more, at-end}
 use Rattle.laws.specs.Cut.Until.{until-step}
-use Rattle.laws.specs.Cut.Picks.{pick-is, pick-best, above-there}
+use Rattle.laws.specs.Cut.Picks.{pos-right, pick-is, pick-best, above-there}
 use Rattle.laws.specs.Cut.Steps.{ScoresFit, scores-le, lessening-falls, lessening-at}
 use Rattle.laws.specs.Cut.Grow.{region-mono}
 
@@ -32,19 +32,6 @@ clippedOver s costs o (suc n) b out = set (clippedOver s costs o n b out) (o + n
 unfoldable pub clipped : ℕ → List ℕ → ℕ → ℕ → List ℕ → List ℕ
 clipped s costs o zero b = b
 clipped s costs o (suc n) b = set (clipped s costs o n b) (o + n) (clipAt s costs b (o + n))
-
--- a product above something has both factors above 0
-pos-left : (a c s : ℕ) → s < a * c → 0 < a
-pos-left a c s h = ⊎-elim
-    (λ e. absurd (omega (arith, ap (λ (x : ℕ). x * c) e, zero-mul c)))
-    (λ p. p)
-    (eq-zero-or-pos a)
-
-pub pos-right : (a c s : ℕ) → s < a * c → 0 < c
-pos-right a c s h = ⊎-elim
-    (λ e. absurd (omega (arith, ap (λ (x : ℕ). a * x) e, mul-zero a)))
-    (λ p. p)
-    (eq-zero-or-pos c)
 
 -- a block whose score is above s is above the block that s allows
 pub clip-below : (s x c : ℕ) → s < (x - 1) * c → s / c + 1 < x
@@ -202,7 +189,6 @@ pub one-loss : (mc : Machine) (bytes : List ℕ) (operands : ℕ) (costs : List 
     → mc .cache < region mc bytes operands b o n → Loss mc bytes operands costs o n s b
 unfolding lessened
 one-loss mc bytes operands costs o n s b i h l hs big =
-    let a = pos-left (getD b i 0 - 1) (getD costs i 0) s hs in
     let best = pick-best b costs o n i h l (omega arith) in
     let p : ℕ = best .at in
     let pk = pick-is b costs o n p (best .is) in

@@ -5,7 +5,7 @@ use mathlib.Core.List.{List}
 use mathlib.Core.Logic.{⊎-elim}
 use mathlib.Core.Option.{Option}
 use Prim.Native.Nat.{ℕ, zero, suc, _+_, _-_, _*_, _/_, _<_, _≤_}
-use native.Mathlib.Nat.{zero-mul, zero-div, suc-mul, mul-le-mul-left, div-lt-iff-lt-mul, mul-div-cancel, le-refl}
+use native.Mathlib.Nat.{eq-zero-or-pos, zero-div, suc-mul, mul-le-mul-left, div-lt-iff-lt-mul, mul-div-cancel, le-refl}
 use native.Mathlib.Numerals.{add-one}
 use native.Mathlib.Omega.{arith}
 use lib.ListN.{getD, set, length}
@@ -15,9 +15,9 @@ use Rattle.strided.specs.Region.{region}
 use Rattle.strided.specs.Cut.{score, greatestScore, lessened, cells}
 use Rattle.strided.specs.declared.Machine.{Machine}
 use Rattle.laws.specs.Cut.Ranges.{le-or-lt, cond-lt, cond-le}
-use Rattle.laws.specs.Cut.Picks.{topOf, pick-best}
-use Rattle.laws.specs.Cut.Jump.{clipAt, clippedOver, clipped, pos-right, clipAt-le, clipped-none, clipped-le, clipped-in, some-above, Loss, one-loss, over-itself}
-use Rattle.laws.specs.Cut.Steps.{lessened-fits}
+use Rattle.laws.specs.Cut.Picks.{pos-right, topOf, pick-best}
+use Rattle.laws.specs.Cut.Jump.{clipAt, clippedOver, clipped, clipAt-le, clipped-none, clipped-le, clipped-in, some-above, Loss, one-loss, over-itself}
+use Rattle.laws.specs.Cut.Steps.{lessened-fits, lessened-still}
 
 -- over what another score has clipped
 over-set : (s : ℕ) (costs : List ℕ) (o n : ℕ) (b out : List ℕ) (i x : ℕ) → o + n ≤ i → clippedOver s costs o n b (set out i x) ≡ set (clippedOver s costs o n b out) i x
@@ -39,12 +39,9 @@ over-again s r costs o (suc n) b out =
 -- no score is above the greatest
 top-most : (b costs : List ℕ) (o n i : ℕ) → o ≤ i → i < o + n → score b costs i ≤ topOf (score b costs) (greatestScore b costs o n)
 top-most b costs o n i h l = ⊎-elim
-    (λ (w : getD b i 0 ≤ 1).
-    let z : getD b i 0 - 1 ≡ 0 = omega arith in
-    let e : score b costs i ≡ 0 = ap (λ (x : ℕ). x * getD costs i 0) z ∙ zero-mul (getD costs i 0) in
-    omega (arith, e))
-    (λ (w : 1 < getD b i 0). let r = pick-best b costs o n i h l w in subst⁻¹ (λ (p : Option ℕ). score b costs i ≤ topOf (score b costs) p) (r .is) (r .most))
-    (le-or-lt (getD b i 0) 1)
+    (λ (w : score b costs i ≤ 0). omega (arith, w))
+    (λ (w : 0 < score b costs i). let r = pick-best b costs o n i h l w in subst⁻¹ (λ (p : Option ℕ). score b costs i ≤ topOf (score b costs) p) (r .is) (r .most))
+    (le-or-lt (score b costs i) 0)
 
 -- s is the least score at which the clipped blocks are still too large
 pub record Least (mc : Machine) (bytes : List ℕ) (operands : ℕ) (costs : List ℕ) (o n : ℕ) (b : List ℕ) (s : ℕ) : Type 0 where
@@ -168,12 +165,16 @@ clip-none costs b j h = ⊎-elim
     (le-or-lt (score b costs j) 0)
 
 -- FROM THE LEAST SCORE at most as many single steps are left as there are axes: each step takes 1 off one block
-pub few-left : (mc : Machine) (bytes : List ℕ) (operands : ℕ) (costs : List ℕ) (o n : ℕ) (b : List ℕ) (s : ℕ) → o + n ≤ length b → ((i : ℕ) → o ≤ i → i < o + n → 0 < getD costs i 0)
+pub few-left : (mc : Machine) (bytes : List ℕ) (operands : ℕ) (costs : List ℕ) (o n : ℕ) (b : List ℕ) (s : ℕ) → o + n ≤ length b
     → Least mc bytes operands costs o n b s → cells o n (clipped s costs o n b) ≤ cells o n (lessened mc bytes operands costs o n b) + n
-few-left mc bytes operands costs o n b zero long some k =
+few-left mc bytes operands costs o n b zero long k =
     more-each (λ i. getD (clipped 0 costs o n b) i 0) (λ i. getD (lessened mc bytes operands costs o n b) i 0) o n
-    (λ i p q. omega (arith, clipped-in 0 costs o n b i p q (omega arith), clip-none costs b i (some i p q)))
-few-left mc bytes operands costs o n b (suc r) long some k =
+    (λ i p q. ⊎-elim
+    -- an axis that has no cost stays as it is
+    (λ (z : getD costs i 0 ≡ 0). omega (arith, clipped-le 0 costs o n b i, lessened-still mc bytes operands costs o n b i z))
+    (λ (c : 0 < getD costs i 0). omega (arith, clipped-in 0 costs o n b i p q (omega arith), clip-none costs b i c))
+    (eq-zero-or-pos (getD costs i 0)))
+few-left mc bytes operands costs o n b (suc r) long k =
     more-each (λ i. getD (clipped (suc r) costs o n b) i 0) (λ i. getD (lessened mc bytes operands costs o n b) i 0) o n
     (λ i p q.
     let u = clipped-in (suc r) costs o n b i p q (omega arith) in

@@ -5,7 +5,7 @@ use mathlib.Core.Logic.{_⊎_, ⊎-elim, inl, inr}
 use mathlib.Core.Bool.{Bool, true, false, cond}
 use Prim.Native.Nat.{ℕ, zero, suc, _+_, _-_, _*_, _<_, _≤_, min}
 use native.Mathlib.Decide.{decLe}
-use native.Mathlib.Nat.{eq-or-lt-of-le, le-refl, add-le-add, mul-le-mul, sub-zero, zero-add, zero-mul, add-mul}
+use native.Mathlib.Nat.{eq-or-lt-of-le, le-of-eq, le-refl, add-le-add, mul-le-mul, sub-zero, zero-add, zero-mul, add-mul}
 use native.Mathlib.Numerals.{add-one}
 use native.Mathlib.Omega.{arith}
 use lib.Dec.{ltb}
@@ -100,6 +100,16 @@ least-first f = refl
 
 pub least-more : (f : ℕ → ℕ) (k : ℕ) → 0 < k → least f 0 (k + 1) ≡ min (least f 0 k) (f k)
 least-more f k h = ap (least f 0) (sym (sub-zero (k + 1))) ∙ least-step f 0 k h ∙ ap (λ (x : ℕ). min (least f 0 x) (f k)) (sub-zero k)
+
+-- none of them is below the least
+pub least-in : (f : ℕ → ℕ) (o n i : ℕ) → o ≤ i → i < o + n → least f o n ≤ f i
+unfolding least
+least-in f o zero i h l = absurd (omega arith)
+least-in f o (suc zero) i h l = let e : o ≡ i = omega arith in le-of-eq (ap f e)
+least-in f o (suc (suc n)) i h l = ⊎-elim
+    (λ (e : i ≡ o + suc n). omega (arith, ap f e))
+    (λ (e : i < o + suc n). omega (arith, least-in f o (suc n) i h e))
+    (eq-or-lt-of-le {n = i} {m = o + suc n} (omega arith))
 
 pub every-start : (t : ℕ → Bool) (o : ℕ) → every t o (o - o) ≡ true
 unfolding every

@@ -9,7 +9,7 @@ use lib.Dec.{ltb, leb, eqb}
 use lib.ListN.{getD, set}
 use Rattle.strided.specs.Base.{product, least, greatest, until}
 use Rattle.strided.specs.Region.{byteAt, near, far, regionOf, region}
-use Rattle.strided.specs.Cut.{score, later, greatestScore, shorten, halving, lessening, cells, halved, lessened, shrunk, rankAt, leastRank, leastByte, keepsFirst, ones, cutting}
+use Rattle.strided.specs.Cut.{score, weighed, later, greatestScore, shorten, halving, lessening, cells, halved, lessened, shrunk, rankAt, leastRank, leastByte, keepsFirst, ones, cutting}
 use Rattle.strided.specs.Fit.{reuse, counts, aliases, factor, loadOf, load, entersOf, enters, shortens, mostOf, fitFrom, fitted}
 use Rattle.strided.specs.declared.Machine.{Machine}
 use Rattle.laws.specs.Cut.Ranges.{sum-cong, product-cong, least-cong, every-cong, seek-cong, seek-le}
@@ -54,10 +54,10 @@ module _ (mc : Machine) (operands rank : ℕ) (bytes bytes′ : List ℕ) (same 
     pick-same b o (suc n) h =
         let old : Option ℕ = greatestScore b costs o n in
         let i : ℕ = o + n in
-        ap (λ (p : Option ℕ). cond (ltb 1 (getD b i 0)) p old)
+        ap (λ (p : Option ℕ). cond (weighed b costs i) p old)
         (later-same (score b costs) (score b costs′) i old (score-same b i (omega arith))
         (λ j e. let r = pick-is b costs o n j e in score-same b j (omega (arith, r .below))))
-        ∙ ap (λ (p : Option ℕ). cond (ltb 1 (getD b i 0)) (later (score b costs′) i p) p) (pick-same b o n (omega arith))
+        ∙ ap₂ (λ (c : ℕ) (p : Option ℕ). cond (ltb 1 (getD b i 0) && ltb 0 c) (later (score b costs′) i p) p) (even i (omega arith)) (pick-same b o n (omega arith))
 
     halving-same : (o n : ℕ) → o + n ≤ rank → (b : List ℕ) → halving mc bytes operands costs o n b ≡ halving mc bytes′ operands costs′ o n b
     unfolding halving

@@ -73,37 +73,39 @@ cond-some : (t : Bool) (x : Option (List ℕ)) (b : List ℕ) → cond t x none 
 cond-some true x b e = e
 cond-some false x b e = absurd (let z : _≡_ {A = ℕ} 0 1 = cc in omega arith)
 
--- fewer cells, no block greater, as many places, and none outside the tail changed
-pub record Shorter (o n : ℕ) (b b′ : List ℕ) : Type 0 where
+-- fewer cells, no block greater, as many places, and an axis that has no cost as it was
+pub record Shorter (costs : List ℕ) (o n : ℕ) (b b′ : List ℕ) : Type 0 where
   pub fewer : cells o n b′ < cells o n b
   pub less : (j : ℕ) → getD b′ j 0 ≤ getD b j 0
   pub long : length b′ ≡ length b
+  pub still : (j : ℕ) → getD costs j 0 ≡ 0 → getD b′ j 0 ≡ getD b j 0
 
-module _ (f : ℕ → ℕ) (less : (x : ℕ) → 1 < x → f x < x) (o n : ℕ) (b b′ : List ℕ) where
-  shorten-shorter : (p : Option ℕ) → ((i : ℕ) → p ≡ some i → Pickable b o n i) → shorten f b p ≡ some b′ → Shorter o n b b′
+module _ (f : ℕ → ℕ) (less : (x : ℕ) → 1 < x → f x < x) (costs : List ℕ) (o n : ℕ) (b b′ : List ℕ) where
+  shorten-shorter : (p : Option ℕ) → ((i : ℕ) → p ≡ some i → Pickable b costs o n i) → shorten f b p ≡ some b′ → Shorter costs o n b b′
   shorten-shorter none q e = absurd (let z : _≡_ {A = ℕ} 0 1 = cc in omega arith)
   shorten-shorter (some i) q e =
       let r = q i refl in
       let there = above-there b i (r .above) in
       let smaller = less (getD b i 0) (r .above) in
-      subst (λ (l : List ℕ). Shorter o n b l) (some-inj (set b i (f (getD b i 0))) b′ e)
+      subst (λ (l : List ℕ). Shorter costs o n b l) (some-inj (set b i (f (getD b i 0))) b′ e)
       (record {
         fewer = cells-set b i (f (getD b i 0)) o n (r .from) (r .below) there smaller;
         less = λ j. set-le b i (f (getD b i 0)) j there (omega arith);
         long = length-set b i (f (getD b i 0));
+        still = λ j z. getD-set-other b i j (f (getD b i 0)) 0 (λ e. absurd (let q : getD costs j 0 ≡ getD costs i 0 = ap (λ (k : ℕ). getD costs k 0) e in omega (arith, r .cost, q, z)));
       })
 
 module _ (mc : Machine) (bytes : List ℕ) (operands : ℕ) (costs : List ℕ) (o n : ℕ) where
-  pub halving-shorter : (b b′ : List ℕ) → halving mc bytes operands costs o n b ≡ some b′ → Shorter o n b b′
+  pub halving-shorter : (b b′ : List ℕ) → halving mc bytes operands costs o n b ≡ some b′ → Shorter costs o n b b′
   unfolding halving
   halving-shorter b b′ e =
-      shorten-shorter (λ x. (x + 1) / 2) (λ x h. omega arith) o n b b′ (greatestScore b costs o n) (λ i q. pick-is b costs o n i q)
+      shorten-shorter (λ x. (x + 1) / 2) (λ x h. omega arith) costs o n b b′ (greatestScore b costs o n) (λ i q. pick-is b costs o n i q)
       (cond-some (leb (2 * mc .cache) (region mc bytes operands b o n)) (shorten (λ x. (x + 1) / 2) b (greatestScore b costs o n)) b′ e)
 
-  pub lessening-shorter : (b b′ : List ℕ) → lessening mc bytes operands costs o n b ≡ some b′ → Shorter o n b b′
+  pub lessening-shorter : (b b′ : List ℕ) → lessening mc bytes operands costs o n b ≡ some b′ → Shorter costs o n b b′
   unfolding lessening
   lessening-shorter b b′ e =
-      shorten-shorter (λ x. x - 1) (λ x h. omega arith) o n b b′ (greatestScore b costs o n) (λ i q. pick-is b costs o n i q)
+      shorten-shorter (λ x. x - 1) (λ x h. omega arith) costs o n b b′ (greatestScore b costs o n) (λ i q. pick-is b costs o n i q)
       (cond-some (ltb (mc .cache) (region mc bytes operands b o n)) (shorten (λ x. x - 1) b (greatestScore b costs o n)) b′ e)
 
   pub halving-falls : (b b′ : List ℕ) → halving mc bytes operands costs o n b ≡ some b′ → cells o n b′ < cells o n b
@@ -158,16 +160,17 @@ module _ (mc : Machine) (bytes : List ℕ) (operands : ℕ) (costs : List ℕ) (
 -- ---- all the steps
 
 module _ (mc : Machine) (bytes : List ℕ) (operands : ℕ) (costs : List ℕ) (o n : ℕ) (b : List ℕ) where
-  -- blocks only shrink, and there are as many of them
+  -- blocks only shrink, there are as many of them, and an axis that has no cost stays as it is
   record Shrunk (r : List ℕ) : Type 0 where
     less : (j : ℕ) → getD r j 0 ≤ getD b j 0
     long : length r ≡ length b
+    still : (j : ℕ) → getD costs j 0 ≡ 0 → getD r j 0 ≡ getD b j 0
 
   start : Shrunk b
-  start = record { less = λ j. le-refl (getD b j 0); long = refl }
+  start = record { less = λ j. le-refl (getD b j 0); long = refl; still = λ j z. refl }
 
-  go-on : (r r′ : List ℕ) → Shorter o n r r′ → Shrunk r → Shrunk r′
-  go-on r r′ h s = record { less = λ j. le-trans (h .less j) (s .less j); long = h .long ∙ s .long }
+  go-on : (r r′ : List ℕ) → Shorter costs o n r r′ → Shrunk r → Shrunk r′
+  go-on r r′ h s = record { less = λ j. le-trans (h .less j) (s .less j); long = h .long ∙ s .long; still = λ j z. h .still j z ∙ s .still j z }
 
   halved-shrunk : Shrunk (halved mc bytes operands costs o n b)
   unfolding halved
@@ -191,6 +194,13 @@ module _ (mc : Machine) (bytes : List ℕ) (operands : ℕ) (costs : List ℕ) (
   unfolding shrunk
   shrunk-length = lessened-from (halved mc bytes operands costs o n b) halved-shrunk .long
 
+  pub lessened-still : (j : ℕ) → getD costs j 0 ≡ 0 → getD (lessened mc bytes operands costs o n b) j 0 ≡ getD b j 0
+  lessened-still = lessened-from b start .still
+
+  pub shrunk-still : (j : ℕ) → getD costs j 0 ≡ 0 → getD (shrunk mc bytes operands costs o n b) j 0 ≡ getD b j 0
+  unfolding shrunk
+  shrunk-still = lessened-from (halved mc bytes operands costs o n b) halved-shrunk .still
+
   -- the counts are never met: nothing is left to do
   pub halved-ends : halving mc bytes operands costs o n (halved mc bytes operands costs o n b) ≡ none
   unfolding halved
@@ -200,7 +210,7 @@ module _ (mc : Machine) (bytes : List ℕ) (operands : ℕ) (costs : List ℕ) (
   unfolding lessened
   lessened-ends = until-ends (lessening mc bytes operands costs o n) (cells o n) (lessening-falls mc bytes operands costs o n) (cells o n b) b (le-refl (cells o n b))
 
-  -- so that what comes out fits, or has no block above 1
+  -- so that what comes out fits, or has no block above 1 on an axis with a cost
   pub lessened-small : (region mc bytes operands (lessened mc bytes operands costs o n b) o n ≤ mc .cache)
       ⊎ (greatestScore (lessened mc bytes operands costs o n b) costs o n ≡ none)
   lessened-small =
@@ -215,7 +225,7 @@ module _ (mc : Machine) (bytes : List ℕ) (operands : ℕ) (costs : List ℕ) (
       (none-or-some (greatestScore r costs o n)))
       (le-or-lt (region mc bytes operands r o n) (mc .cache))
 
--- ---- the rules as a reader expects them: done where the region fits or no block is above 1, else one step and on
+-- ---- the rules as a reader expects them: done where the region fits or there is no block to shorten, else one step and on
 
 module _ (mc : Machine) (bytes : List ℕ) (operands : ℕ) (costs : List ℕ) (o n : ℕ) (b : List ℕ) where
   pub halved-small : region mc bytes operands b o n < 2 * mc .cache → halved mc bytes operands costs o n b ≡ b
@@ -257,7 +267,7 @@ pub record Turn (rule : List ℕ → List ℕ) (o n rank : ℕ) (costs b b′ : 
 
 module _ (mc : Machine) (bytes : List ℕ) (operands : ℕ) (costs : List ℕ) (o n rank : ℕ) (b : List ℕ) (i : ℕ)
     (fit : ScoresFit rank costs b) (pick : greatestScore b costs o n ≡ some i) where
-  turned : (rule : List ℕ → List ℕ) (b′ : List ℕ) → Shorter o n b b′ → rule b ≡ rule b′ → Turn rule o n rank costs b b′
+  turned : (rule : List ℕ → List ℕ) (b′ : List ℕ) → Shorter costs o n b b′ → rule b ≡ rule b′ → Turn rule o n rank costs b b′
   turned rule b′ s e = record { fewer = s .fewer; fit = scores-le rank costs b b′ (s .less) fit; same = sym e }
 
   pub halved-turn : (v : ℕ) → v ≡ (getD b i 0 + 1) / 2 → 2 * mc .cache ≤ region mc bytes operands b o n

@@ -1,22 +1,25 @@
--- What stands in the plan's tables: byte strides and costs axis by axis, and that scores fit 64 bits where reaches fit 63. Assumes nothing.
+-- What stands in the plan's tables: byte strides and costs axis by axis, that 0 says none, and that scores fit 64 bits where reaches fit 63. Assumes nothing.
 use mathlib.Core.Path.{_≡_, refl, sym, ap, _∙_}
-use mathlib.Core.Bool.{Bool, true, false, cond}
+use mathlib.Core.Bool.{true, false}
 use mathlib.Core.List.{List, [], _∷_, _++_, map}
 use mathlib.Core.Logic.{_⊎_, ⊎-elim, inl, inr}
+use mathlib.Core.Option.{none, some}
 use Prim.Native.Nat.{ℕ, zero, suc, _+_, _-_, _*_, _^_, _≤_, _<_, min}
-use native.Mathlib.Nat.{zero-add, suc-add, mul-zero, zero-mul, mul-one, mul-le-mul-left, mul-left-comm, le-refl}
+use native.Mathlib.Nat.{eq-zero-or-pos, zero-add, suc-add, mul-zero, zero-mul, mul-one, mul-le-mul-left, mul-left-comm}
 use native.Mathlib.Omega.{arith}
 use lib.Dec.{eqb}
 use lib.IntN.{ℤ, pos, natAbs}
 use lib.ListN.{getD, take, drop}
 use lib.Seq.{getD-drop}
+use borrow.Author.Tests.{eq-eqb, ne-eqb}
 use Rattle.strided.specs.Base.{sum, least}
 use Rattle.strided.specs.Layout.{reach, maxI}
 use Rattle.strided.specs.Region.{byteTable, byteAt}
-use Rattle.strided.specs.Costs.{costOf, costs}
+use Rattle.strided.specs.Costs.{still, costOf, costNumber, costs}
 use Rattle.strided.specs.Cut.{score}
 use Rattle.laws.specs.Base.Lists.{getD-run}
-use Rattle.laws.specs.Cut.Ranges.{sum-none, sum-cong, term-in}
+use Rattle.laws.specs.Base.Ranges.{every-holds, every-fails}
+use Rattle.laws.specs.Cut.Ranges.{true-or-false, least-in, sum-none, sum-cong, term-in}
 use Rattle.laws.specs.Cut.Steps.{ScoresFit}
 
 -- the size of operand k's stride on axis i
@@ -60,41 +63,70 @@ byte-at (z ∷ sizes) strides (suc k) i h =
 -- ---- costs and scores
 
 pub cost-at : (strides : List ℤ) (operands rank i : ℕ) → i < rank
-    → getD (costs strides operands rank) i 0 ≡ costOf (least (λ k. strideSize strides k i) 0 operands)
+    → getD (costs strides operands rank) i 0 ≡ costNumber (costOf (λ k. strideSize strides k i) operands)
 unfolding costs
 cost-at strides operands rank i h =
-    getD-run (λ i. costOf (least (λ k. strideSize strides k i) 0 operands)) 0 rank 0 i h
-    ∙ ap (λ (j : ℕ). costOf (least (λ k. strideSize strides k j) 0 operands)) (zero-add i)
+    getD-run (λ i. costNumber (costOf (λ k. strideSize strides k i) operands)) 0 rank 0 i h
+    ∙ ap (λ (j : ℕ). costNumber (costOf (λ k. strideSize strides k j) operands)) (zero-add i)
 
--- a cost is 1, or at most twice the first operand's stride size
-cost-le : (m : ℕ) → (costOf m ≡ 1) ⊎ (costOf m ≤ 2 * m)
-unfolding costOf
-cost-le m = go (eqb m 0)
-  where
-    go : (b : Bool) → (cond b 1 (min (2 * m) (2 ^ 63 - 1)) ≡ 1) ⊎ (cond b 1 (min (2 * m) (2 ^ 63 - 1)) ≤ 2 * m)
-    go true = inl refl
-    go false = inr (omega arith)
+-- the three costs: none, 1, and twice the least stride size
+module _ (size : ℕ → ℕ) (operands : ℕ) where
+  pub cost-none : still size operands ≡ true → costOf size operands ≡ none
+  unfolding costOf
+  cost-none e = rw e
 
-least-le : (f : ℕ → ℕ) (n : ℕ) → 0 < n → least f 0 n ≤ f 0
-unfolding least
-least-le f zero h = absurd (omega arith)
-least-le f (suc zero) h = le-refl (f 0)
-least-le f (suc (suc n)) h = omega (arith, least-le f (suc n) (omega arith))
+  pub cost-one : still size operands ≡ false → least size 0 operands ≡ 0 → costOf size operands ≡ some 1
+  unfolding costOf
+  cost-one e m = rw (e, eq-eqb (least size 0 operands) 0 m)
+
+  pub cost-twice : still size operands ≡ false → (least size 0 operands ≡ 0 → ⊥) → costOf size operands ≡ some (min (2 * least size 0 operands) (2 ^ 63 - 1))
+  unfolding costOf
+  cost-twice e m = rw (e, ne-eqb (least size 0 operands) 0 m)
+
+  -- 0 SAYS NONE: no other cost is 0
+  pub cost-zero : costNumber (costOf size operands) ≡ 0 → costOf size operands ≡ none
+  cost-zero z = ⊎-elim
+      (λ e. cost-none e)
+      (λ e. ⊎-elim
+      (λ (m : least size 0 operands ≡ 0). absurd (omega (arith, ap costNumber (cost-one e m), z)))
+      (λ (m : 0 < least size 0 operands). absurd (omega (arith, ap costNumber (cost-twice e (λ q. omega arith)), z)))
+      (eq-zero-or-pos (least size 0 operands)))
+      (true-or-false (still size operands))
+
+  -- a cost is at most 1, or at most twice the least stride size
+  cost-le : (costNumber (costOf size operands) ≤ 1) ⊎ (costNumber (costOf size operands) ≤ 2 * least size 0 operands)
+  cost-le = ⊎-elim
+      (λ e. inl (omega (arith, ap costNumber (cost-none e))))
+      (λ e. ⊎-elim
+      (λ (m : least size 0 operands ≡ 0). inl (omega (arith, ap costNumber (cost-one e m))))
+      (λ (m : 0 < least size 0 operands). inr (omega (arith, ap costNumber (cost-twice e (λ q. omega arith)))))
+      (eq-zero-or-pos (least size 0 operands)))
+      (true-or-false (still size operands))
+
+-- nobody moves along an axis exactly if every stride there is 0
+module _ (size : ℕ → ℕ) (operands : ℕ) where
+  pub still-each : ((k : ℕ) → k < operands → size k ≡ 0) → still size operands ≡ true
+  unfolding still
+  still-each h = every-holds (λ k. eqb (size k) 0) 0 operands (λ k l. eq-eqb (size (0 + k)) 0 (ap size (zero-add k) ∙ h k l))
+
+  pub still-not : (k : ℕ) → k < operands → (size k ≡ 0 → ⊥) → still size operands ≡ false
+  unfolding still
+  still-not k l n = every-fails (λ k. eqb (size k) 0) 0 operands k l (ne-eqb (size (0 + k)) 0 (λ e. n (ap size (sym (zero-add k)) ∙ e)))
 
 -- so that the reach of the first operand bounds every score
 score-fits : (es : List ℕ) (strides : List ℤ) (operands rank i : ℕ) → 0 < operands → i < rank → getD es i 0 < 2 ^ 64
     → sum (λ j. (getD es j 0 - 1) * strideSize strides 0 j) 0 rank < 2 ^ 63
     → score es (costs strides operands rank) i < 2 ^ 64
-score-fits es strides operands rank i some h fits reach =
-    let m : ℕ = least (λ k. strideSize strides k i) 0 operands in
+score-fits es strides operands rank i one h fits reach =
+    let c : ℕ = costNumber (costOf (λ k. strideSize strides k i) operands) in
     let s : ℕ = strideSize strides 0 i in
     let e : ℕ = getD es i 0 - 1 in
-    let is : score es (costs strides operands rank) i ≡ e * costOf m = ap (λ (c : ℕ). e * c) (cost-at strides operands rank i h) in
+    let is : score es (costs strides operands rank) i ≡ e * c = ap (λ (c : ℕ). e * c) (cost-at strides operands rank i h) in
     ⊎-elim
-    (λ (q : costOf m ≡ 1). omega (arith, is, ap (λ (c : ℕ). e * c) q, mul-one e))
-    (λ (q : costOf m ≤ 2 * m).
-    let l : m ≤ s = least-le (λ k. strideSize strides k i) operands some in
-    let l′ : costOf m ≤ 2 * s = omega arith in
+    (λ (q : c ≤ 1). omega (arith, is, mul-le-mul-left e q, mul-one e))
+    (λ (q : c ≤ 2 * least (λ k. strideSize strides k i) 0 operands).
+    let l : least (λ k. strideSize strides k i) 0 operands ≤ s = least-in (λ k. strideSize strides k i) 0 operands 0 (omega arith) (omega arith) in
+    let l′ : c ≤ 2 * s = omega arith in
     omega (
       arith,
       is,
@@ -102,7 +134,7 @@ score-fits es strides operands rank i some h fits reach =
       mul-left-comm e 2 s,
       term-in (λ j. (getD es j 0 - 1) * strideSize strides 0 j) 0 rank i (omega arith) (omega arith),
     ))
-    (cost-le m)
+    (cost-le (λ k. strideSize strides k i) operands)
 
 -- ---- an operand's reach, as a sum over the axes
 
@@ -140,5 +172,5 @@ pub scores-fit : (es : List ℕ) (strides : List ℤ) (operands rank : ℕ) → 
     → ((i : ℕ) → i < rank → getD es i 0 < 2 ^ 64)
     → ((k : ℕ) → k < operands → reach (take rank es) (take rank (drop (k * 64) strides)) ≤ maxI)
     → ScoresFit rank (costs strides operands rank) es
-scores-fit es strides operands rank some fits near i h =
-    score-fits es strides operands rank i some h (fits i h) (omega (arith, near 0 some, reach-sum es strides rank 0))
+scores-fit es strides operands rank one fits near i h =
+    score-fits es strides operands rank i one h (fits i h) (omega (arith, near 0 one, reach-sum es strides rank 0))
