@@ -14,7 +14,7 @@ ghost use Rattle.strided.specs.Layout.{strideColumn, extents as extentsOf};
 ghost use Rattle.strided.specs.Order.{pick};
 ghost use Rattle.strided.specs.Fuse.{joins as joinsAt, allJoin, fuse as fuseAxes, compress};
 ghost use Rattle.strided.specs.Plan.{strideTable};
-ghost use Rattle.strided.specs.Costs.{costOf, costs};
+ghost use Rattle.strided.specs.Costs.{still, costOf, costNumber, costs};
 ghost use Rattle.laws.specs.Fuse.Places.{axesBy};
 ghost use Rattle.arrange.specs.Axes.{InOrder};
 ghost use Rattle.fuse.specs.Room.{roomOf};
@@ -262,20 +262,42 @@ fn least_size(strides: &[i64; 512], operands: usize, axis: usize) -> u64
     size
 }
 
-// The cost of an axis, from the least size of its strides. It only ranks axes, so it saturates.
-fn cost(size: u64) -> u64
-    ensures { λ r. ⌜ r ≡ costOf size ⌝ }
+// Whether every stride of an axis is 0, so that nobody moves along it.
+fn stays(strides: &[i64; 512], operands: usize, axis: usize) -> bool
+    requires { ⌜ (operands ≤ 8) × (axis < 64) ⌝ }
+    ensures { λ r. ⌜ r ≡ still (λ k. natAbs (getD (now (strides .entry)) (k * 64 + axis) (pos 0))) operands ⌝ }
 {
+    let mut k: usize = 0;
+    while k < operands {
+        let t = strides[k * 64 + axis];
+        if magnitude(t) != 0 {
+            return false;
+        }
+        k += 1;
+    }
+    true
+}
+
+// The cost of an axis, 0 where it has none. It only ranks axes, so it saturates.
+fn cost(strides: &[i64; 512], operands: usize, axis: usize) -> u64
+    requires { ⌜ (0 < operands) × ((operands ≤ 8) × (axis < 64)) ⌝ }
+    ensures { λ r. ⌜ r ≡ costNumber (costOf (λ k. natAbs (getD (now (strides .entry)) (k * 64 + axis) (pos 0))) operands) ⌝ }
+{
+    let size = least_size(strides, operands, axis);
     if size == 0 {
-        1
-    } else if size < 4611686018427387904 {
+        if stays(strides, operands, axis) {
+            return 0;
+        }
+        return 1;
+    }
+    if size < 4611686018427387904 {
         2 * size
     } else {
         9223372036854775807
     }
 }
 
-// The costs of the axes, 0 behind them.
+// The costs of the axes, 0 where an axis has none, and behind them.
 pub fn compute_costs(strides: &[i64; 512], operands: usize, rank: usize) -> [u64; 64]
     requires { ⌜ (0 < operands) × ((operands ≤ 8) × (rank ≤ 64)) ⌝ }
     ensures { λ r. ⌜ r ≡ padded 64 0 (costs (now (strides .entry)) operands rank) ⌝ }
@@ -283,7 +305,7 @@ pub fn compute_costs(strides: &[i64; 512], operands: usize, rank: usize) -> [u64
     let mut found = [0u64; 64];
     let mut i: usize = 0;
     while i < rank {
-        found[i] = cost(least_size(strides, operands, i));
+        found[i] = cost(strides, operands, i);
         i += 1;
     }
     found

@@ -132,7 +132,7 @@ pub extern "C" fn parts_order<'a>(
 
 // ---- fused axes
 
-// The costs of the plan's axes.
+// The costs of the plan's axes, 0 where an axis has none.
 fn costs_of(extents: &[u64], strides: &[i64], operands: usize, purpose: Purpose) -> [u64; 64]
     requires layout { ⌜ Fitting (now strides) (length (now extents)) operands ⌝ }
     requires operands { ⌜ 0 < operands ⌝ }
@@ -207,7 +207,7 @@ pub extern "C" fn parts_axes<'a>(
     }
 }
 
-// The costs of the plan's axes.
+// The costs of the plan's axes, 0 where an axis has none.
 #[no_mangle]
 pub extern "C" fn parts_costs<'a>(
     extents: &'a [u64],

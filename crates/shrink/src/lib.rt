@@ -22,22 +22,20 @@ pub enum Pick {
     Nothing,
 }
 
-// The greatest (block - 1) * cost over the blocks above 1 of the tail; the last wins ties.
+// The greatest (block - 1) * cost over the blocks above 1 of the tail whose axis has a cost; the last wins ties. Any other score is 0, and the
+// score to reach is 1 at first.
 fn last_argmax_weighted<'a>(tail: Tail, blocks: &'a [u64; 64], costs: &'a [u64; 64]) -> Pick
     requires { ⌜ Within tail × ScoresFit (tail .rank) (now costs) (now blocks) ⌝ }
     ensures { λ r. ⌜ picked r ≡ greatestScore (now (blocks .entry)) (now (costs .entry)) (tail .offset) (axes tail) ⌝ }
 {
     let mut best = Pick::Nothing;
-    let mut top: u64 = 0;
+    let mut top: u64 = 1;
     let mut i = tail.offset;
     while i < tail.rank {
-        let b = blocks[i];
-        if 1 < b {
-            let s = (b - 1) * costs[i];
-            if s >= top {
-                best = Pick::At(i);
-                top = s;
-            }
+        let s = less_one(blocks[i]) * costs[i];
+        if s >= top {
+            best = Pick::At(i);
+            top = s;
         }
         i += 1;
     }

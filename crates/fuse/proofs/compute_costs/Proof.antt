@@ -7,10 +7,11 @@ use lib.ListN.{length, getD, take, set}
 use lib.Seq.{take-all}
 use borrow.Author.Needs.{needs}
 use Rattle.strided.specs.Base.{padded}
-use Rattle.strided.specs.Costs.{costOf, costs}
+use Rattle.strided.specs.Costs.{costs}
 use Rattle.laws.specs.Base.Filling.{fill-none}
 use Rattle.laws.specs.Base.Stores.{fill-first}
-use Rattle.fuse.proofs.Costing.{length-costs, cost-at}
+use Rattle.laws.specs.Cut.Tables.{cost-at}
+use Rattle.fuse.proofs.Costing.{length-costs}
 use Rattle.fuse.proofs.compute_costs.Statement.{statement}
 use Rattle.fuse.proofs.compute_costs.Tie as tie
 
@@ -22,9 +23,6 @@ abbrev μ-loop : tie.MeasureT-loop
 
 loop-holds : tie.Need-loop-holds Inv-loop μ-loop
 loop-holds c = (omega arith, fill-none 64 0)
-
-least-size-requires : tie.Need-least-size-requires Inv-loop μ-loop
-least-size-requires c κs = search needs
 
 cost-requires : tie.Need-cost-requires Inv-loop μ-loop
 cost-requires c κs = search needs
@@ -43,14 +41,13 @@ loop-less c = omega arith
 
 loop-again : tie.Need-loop-again Inv-loop μ-loop
 loop-again c =
-    let z = c .before in
-    let t = z .before in
+    let t = c .before in
     let l = t .before in
     let s = l .before in
     let C : List ℕ = costs (s .args .strides .now) (s .args .operands) (s .args .rank) in
     let long : length C ≡ s .args .rank = length-costs (s .args .strides .now) (s .args .operands) (s .args .rank) in
     let e : c .cost .result ≡ getD C (l .loop .i) 0 =
-    c .cost .ensures ∙ ap costOf (z .least-size .ensures) ∙ sym (cost-at (s .args .strides .now) (s .args .operands) (s .args .rank) (l .loop .i) (t .loop-test .taken)) in (
+    c .cost .ensures ∙ sym (cost-at (s .args .strides .now) (s .args .operands) (s .args .rank) (l .loop .i) (t .loop-test .taken)) in (
       omega (arith, t .loop-test),
       ap₂ (λ (r : List ℕ) (v : ℕ). set r (l .loop .i) v) (l .loop .inv .1) e ∙ fill-first 0 64 C (l .loop .i) (omega (arith, s .pre, long)) (omega (arith, t .loop-test, long)),
     )
@@ -69,7 +66,6 @@ compute-costs-spec =
     Inv-loop
     μ-loop
     loop-holds
-    least-size-requires
     cost-requires
     mul-found
     array-write-found

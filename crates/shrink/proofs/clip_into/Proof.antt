@@ -8,7 +8,8 @@ use native.Mathlib.Nat.{div-le-self}
 use lib.ListN.{getD}
 use borrow.Author.Tests.{lt-ltb, le-ltb}
 use Rattle.strided.specs.Cut.{score}
-use Rattle.laws.specs.Cut.Jump.{pos-right, clippedOver, over-start, over-step}
+use Rattle.laws.specs.Cut.Picks.{pos-right}
+use Rattle.laws.specs.Cut.Jump.{clippedOver, over-start, over-step}
 use Rattle.shrink.proofs.clip_into.Statement.{statement}
 use Rattle.shrink.proofs.clip_into.Tie as tie
 
