@@ -84,11 +84,22 @@ pub fn planning() -> Vec<Named> {
     all.push(copy("rank 9", &[5; 9], &[up(9), turned(9, 4)]));
     all.push(wide(2));
     all.push(wide(8));
-    // No operand moves along the last axis, so that cutting it shrinks no region.
+    // No operand moves along the last axis, which is passed over.
     for extent in [16_384, 1_048_576] {
         let name = format!("broadcast of 2 x 600 x {extent}");
         all.push(named(&name, vec![2, 600, extent], vec![vec![1, 1000, 0]]));
     }
+    let rows = vec![vec![1, 1000, 0], vec![0, 1, 0]];
+    all.push(named(
+        "broadcast of 2 x 600 x 1000, 2 operands",
+        vec![2, 600, 1000],
+        rows,
+    ));
+    // Only an operand of size 0 moves there: cutting it shrinks no region.
+    let rows = vec![vec![1, 1000, 0], vec![0, 0, 1]];
+    let mut alone = named("size 0 alone along 16384", vec![2, 600, 16_384], rows);
+    alone.layout.sizes[1] = 0;
+    all.push(alone);
     all
 }
 

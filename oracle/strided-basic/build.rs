@@ -11,7 +11,8 @@ const PACKAGE: &str = "strided-basic";
 
 /// Changes that document 02 asks for: the file, the text, and what stands for it.
 /// Ask 9: on equal weight the larger extent comes first; the sort is stable, so on
-/// equal extents the lower axis does.
+/// equal extents the lower axis does. Ask 7: the cost of an axis on which every
+/// stride is 0 is 0, which says that it has none, and such axes are passed over.
 const ASKED_CHANGES: &[(&str, &str, &str)] = &[
     (
         "fuse.rs",
@@ -28,6 +29,13 @@ const ASKED_CHANGES: &[(&str, &str, &str)] = &[
         "sort_by_importance(&importance)",
         "sort_by_importance(&importance, dims)",
     ),
+    (
+        "fuse.rs",
+        "*slot = if min == 0 { 1 } else { min.saturating_mul(2) };",
+        "let still = all_strides.iter().all(|strides| strides.as_ref()[axis] == 0);
+        *slot = if still { 0 } else if min == 0 { 1 } else { min.saturating_mul(2) };",
+    ),
+    ("block.rs", "if b <= 1 {", "if b <= 1 || c == 0 {"),
 ];
 
 /// Changes of the counted copy of block.rs: the text, and what stands for it.
@@ -165,13 +173,19 @@ fn main() {
     );
     let unchanged = std::env::var("CARGO_PKG_NAME").as_deref() == Ok("strided-unchanged");
     let asked = if unchanged { &[] } else { ASKED_CHANGES };
+    let asked_of = |file: &str| -> Vec<(&str, &str)> {
+        let here = asked.iter().filter(|(changed, _, _)| *changed == file);
+        here.map(|&(_, from, to)| (from, to)).collect()
+    };
+    let counted = |file: &str, changes: &[(&'static str, &'static str)], doors: &str| {
+        let all: Vec<(&str, &str)> = [asked_of(file), changes.to_vec()].concat();
+        source::counted_module(PACKAGE, file, &all, doors)
+    };
     let mut modules = String::new();
     for file in ["block.rs", "fuse.rs", "inline.rs", "kernel.rs", "order.rs"] {
-        let here = asked.iter().filter(|(changed, _, _)| *changed == file);
-        let changes: Vec<(&str, &str)> = here.map(|&(_, from, to)| (from, to)).collect();
-        modules += &source::changed_module(PACKAGE, file, &changes);
+        modules += &source::changed_module(PACKAGE, file, &asked_of(file));
     }
-    modules += &source::counted_module(PACKAGE, "block.rs", BLOCK_CHANGES, BLOCK_DOORS);
-    modules += &source::counted_module(PACKAGE, "fuse.rs", FUSE_CHANGES, "");
+    modules += &counted("block.rs", BLOCK_CHANGES, BLOCK_DOORS);
+    modules += &counted("fuse.rs", FUSE_CHANGES, "");
     source::write_modules(PACKAGE, &modules);
 }

@@ -14,7 +14,7 @@ GROUPS = {
     "kept whole": ["rank 0", "total at most 1,024", "region fits", "region just fits", "all grow"],
     "cutting": ["a region beyond 64 bits", "first axis kept", "tail empty", "tail fits", "tail just fits", "tail to 1",
                 "least byte stride is the cache", "halved", "halved from just twice the cache", "1 taken off", "1 taken off, in a jump",
-                "nothing shortened"],
+                "an axis that nobody moves along", "nothing shortened"],
     "declining": ["axis 0 is cut", "width no multiple of the line", "a stride no multiple of the line", "a stride below the span",
                   "an operand of size 0 passes", "declined"],
     "not fitted": ["not fitted: a fold", "not fitted: none chosen", "not fitted: not two operands"],

@@ -31,8 +31,18 @@ def region(extents, rows, line):
 
 
 def costs(rows):
-    """The cost of each axis. "Cost is 1 if some operand's stride is 0, else twice the least stride size, at most 2^63 - 1." """
-    return [1 if 0 in column else min(2 * min(map(abs, column)), 2**63 - 1) for column in zip(*rows)]
+    """The cost of each axis, None where it has none.
+
+    "Cost is 1 if some operand's stride is 0, else twice the least stride size, at most 2^63 - 1."; in 02 "An axis on which every stride is 0 [...] The
+    cost of such an axis shall say that it has none"
+    """
+
+    def cost(column):
+        if not any(column):
+            return None
+        return 1 if 0 in column else min(2 * min(map(abs, column)), 2**63 - 1)
+
+    return [cost(column) for column in zip(*rows)]
 
 
 def plan_ranks(strides, sizes):
@@ -44,8 +54,12 @@ def plan_ranks(strides, sizes):
 
 
 def greatest(blocks, cost):
-    """The block to shorten. "Score is (block - 1) x cost over blocks above 1; the last wins ties." """
-    return max((i for i, block in enumerate(blocks) if block > 1), key=lambda i: ((blocks[i] - 1) * cost[i], i))
+    """The block to shorten.
+
+    "Score is (block - 1) x cost over blocks above 1; the last wins ties."; in 02 "cutting shall choose among the others", those with a cost.
+    """
+    weighed = (i for i, block in enumerate(blocks) if block > 1 and cost[i] is not None)
+    return max(weighed, key=lambda i: ((blocks[i] - 1) * cost[i], i))
 
 
 def halve(blocks, cost, measure, cache):
@@ -70,14 +84,14 @@ def jump(blocks, cost, measure, cache):
     """Takes off blocks that are too much what single steps of the second phase would, but for the last one on each axis.
 
     A step shortens a block whose score is the greatest. So when every score has come down to some level, a block is the longest with a score of at
-    most that, or has never been touched. The least level at which the blocks are still too much is found by halving (at 0 they are all 1, and fit);
-    from there one step an axis is left at most.
+    most that, or has never been touched. The least level at which the blocks are still too much is found by halving (at 0 all that have a cost are 1,
+    and fit); from there one step an axis is left at most.
     """
 
     def at(level):
-        return [min(block, level // each + 1) for block, each in zip(blocks, cost)]
+        return [block if each is None else min(block, level // each + 1) for block, each in zip(blocks, cost)]
 
-    fits, over = 0, max((block - 1) * each for block, each in zip(blocks, cost))
+    fits, over = 0, max((block - 1) * each for block, each in zip(blocks, cost) if each is not None)
     while over - fits > 1:
         middle = (fits + over) // 2
         if measure(at(middle)) > cache:
@@ -103,6 +117,8 @@ def shorten(blocks, rows, cost, machine, met):
     def measure(tried):
         return region(tried, rows, machine.line)
 
+    if None in cost:
+        met.add("an axis that nobody moves along")
     rule = blocks, cost, measure, machine.cache
     met.update(halve(*rule))
     met.update(islice(lessen(*rule), STEPS))

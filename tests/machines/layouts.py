@@ -138,6 +138,19 @@ def huge(rng, machine):
     return purposed(rng, extents, operands)
 
 
+def broadcast(rng, machine):
+    """A large layout with an axis more, which nobody moves along, or only operands of size 0."""
+    good = large(rng, machine)
+    place, alone = rng.randint(0, len(good.extents)), rng.choice((0, 0, 0, 1, -7))
+    length = rng.choice((2, 9, 100, 1_000, 5_000, 2**20, 2**30))
+
+    def with_one_more(values, more):
+        return values[:place] + (more,) + values[place:]
+
+    operands = [Operand(operand.size, with_one_more(operand.strides, 0 if operand.size else alone)) for operand in good.operands]
+    return Layout(good.purpose, good.chosen, with_one_more(good.extents, length), tuple(operands))
+
+
 def high(rng, machine):
     """Many axes."""
     extents = [rng.choice((1, 1, 2, 2, 3, 4)) for _ in range(rng.choice((9, 10, 11, 12, 16, 24)))]
@@ -183,5 +196,5 @@ def damaged(rng, machine):
 
 
 def layout(rng, machine):
-    draw = rng.choices((large, crowded, huge, high, small, damaged), (64, 18, 6, 4, 4, 4))[0]
+    draw = rng.choices((large, crowded, huge, broadcast, high, small, damaged), (58, 18, 6, 6, 4, 4, 4))[0]
     return draw(rng, machine)

@@ -74,7 +74,8 @@ class Recorded(unittest.TestCase):
                 self.assertEqual(case.lines(b"weights"), numbers("weights", *planning.weights(view)))
                 self.assertEqual(case.lines(b"order"), numbers("order", *planning.loop_order(view)))
                 self.assertEqual(case.lines(b"fused"), numbers("fused", *(axis.extent for axis in planning.fused_axes(view))))
-                self.assertEqual(case.lines(b"costs"), numbers("costs", *cutting.costs(axes.strides)))
+                # in arrays 0 says that an axis has no cost
+                self.assertEqual(case.lines(b"costs"), numbers("costs", *(cost or 0 for cost in cutting.costs(axes.strides))))
                 if 0 not in told.extents:
                     self.assertEqual(case.lines(b"region"), numbers("region", cutting.region(axes.extents, axes.bytes, 64)))
                 if b"cap" not in case.answer:
@@ -98,7 +99,7 @@ class Cutting(unittest.TestCase):
             count = rng.randint(1, 4)
             tail = [rng.randint(1, 60) for _ in range(count)]
             rows = [[rng.choice((0, 1, 8, 40, 64, 100, 4_096)) for _ in tail] for _ in range(rng.randint(1, 3))]
-            cost = [rng.choice((1, 1, 2, 2, 6, 16, 1_000)) for _ in tail]
+            cost = [rng.choice((1, 1, 2, 2, 6, 16, 1_000)) if any(column) else rng.choice((1, None)) for column in zip(*rows)]
             machine = replace(FIXED, cache=rng.randint(4_096, 20_000), line=rng.choice((32, 64, 128)))
 
             def measure(tried):
@@ -118,13 +119,23 @@ class Cutting(unittest.TestCase):
     def test_ties_go_to_the_last(self):
         self.assertEqual(cutting.greatest([3, 5, 5, 1], [2, 1, 1, 1_000]), 2)
 
+    def test_an_axis_that_nobody_moves_along_is_passed_over(self):
+        self.assertEqual(cutting.greatest([3, 9, 5, 900], [2, 1, 1, None]), 1)
+        # as in the oracle's tests, there by the changed Rust; beside it an operand that moves along the axis, of size 1 and of size 0
+        rows = (64, [0, 512, 1]), (64, [0, 1, 64])
+        self.assertEqual(blocks(layout([33, 16, 17], *rows, purpose="F", chosen=0)), [16, 16, 33])
+        self.assertEqual(blocks(layout([33, 16, 17], *rows, chosen=0)), [5, 1, 33])
+        for size in (1, 0):
+            self.assertNotIn(33, blocks(layout([33, 16, 17], *rows, (size, [1, 0, 0]))))
+
     def test_ranks_are_not_taken_afresh(self):
         # afresh the second axis would be kept as well, and the third would fit
         self.assertEqual(blocks(layout([64, 64, 64], (8, [1, 100, 10_000]), (8, [5, 0, 7_000]))), [64, 64, 7])
         self.assertEqual(cutting.plan_ranks([[0, 2, 1], [5, 5, 9]], [8, 0]), [[1, 2, 1], [1, 1, 1]])
 
     def test_costs(self):
-        self.assertEqual(cutting.costs([[0, -3, 2**62, -(2**63)], [5, 7, 2**62 + 1, 2**63 - 1]]), [1, 6, 2**63 - 1, 2**63 - 1])
+        rows = [[0, 0, -3, 2**62, -(2**63)], [0, 5, 7, 2**62 + 1, 2**63 - 1]]
+        self.assertEqual(cutting.costs(rows), [None, 1, 6, 2**63 - 1, 2**63 - 1])
 
     def test_twice_the_cache(self):
         # the region of the whole is 65,536; worked out by hand

@@ -66,6 +66,10 @@ branches! {
     Halved = "cut: halved",
     Lessened = "cut: 1 taken off",
     NothingShortened = "cut: rule ran, nothing shortened",
+    StillNone = "cut: every axis has a cost, the unchanged Rust's blocks",
+    StillAxis = "cut: an axis that nobody moves along",
+    StillMoved = "cut: such an axis, other blocks than the unchanged Rust's",
+    StillSlow = "cut: such an axis, the unchanged Rust takes more steps than the cap",
     Declined = "declined",
     DeclinedWideTail = "declined, more than 8 axes from the cut on",
     DeclinedSizeZero = "declined, an operand of size 0",
@@ -115,6 +119,8 @@ pub struct Study {
     pub branches: BTreeSet<Branch>,
     /// The plan, unless the layout is refused or its cutting takes more steps.
     pub plan: Option<original::Plan>,
+    /// Single steps of its cutting, and those of the unchanged Rust's.
+    pub steps: [u64; 2],
 }
 
 /// The branches that a layout reaches, its cutting within so many steps.
@@ -135,6 +141,7 @@ pub fn study(layout: &Layout, steps: u64) -> Study {
         return Study {
             branches: found,
             plan: None,
+            steps: [0; 2],
         };
     }
     let mut note = |branch: Branch, here: bool| {
@@ -198,6 +205,7 @@ pub fn study(layout: &Layout, steps: u64) -> Study {
             return Study {
                 branches: found,
                 plan: None,
+                steps: [0; 2],
             };
         }
         let plan = plan(layout, axes.total);
@@ -206,7 +214,10 @@ pub fn study(layout: &Layout, steps: u64) -> Study {
     } else {
         (plan(layout, axes.total), None)
     };
+    let mut taken = [0; 2];
     if let Some(seen) = seen {
+        let old = still_branches(layout, &axes, &plan.blocks, steps, &mut note);
+        taken = [seen.steps, old.steps];
         block_branches(layout, &axes, &seen, &plan.blocks, &mut note);
     }
     note(walk_rank(plan.extents.len()), true);
@@ -219,7 +230,59 @@ pub fn study(layout: &Layout, steps: u64) -> Study {
     Study {
         branches: found,
         plan: Some(plan),
+        steps: taken,
     }
+}
+
+/// Whether nobody moves along an axis: every stride there is 0.
+fn is_still(strides: &[&[isize]], axis: usize) -> bool {
+    strides.iter().all(|row| row[axis] == 0)
+}
+
+/// Ask 7 of document 02: the unchanged Rust on the same axes. It comes to the same
+/// blocks, but for an axis that nobody moves along, which is whole now.
+///
+/// # Panics
+///
+/// If it does not.
+fn still_branches(
+    layout: &Layout,
+    axes: &Axes,
+    answer: &[usize],
+    steps: u64,
+    note: &mut impl FnMut(Branch, bool),
+) -> unchanged::probe::Seen {
+    let (extents, sizes) = (&axes.extents, &layout.sizes);
+    let strides = rows(&axes.strides);
+    let (old, seen) = unchanged::probe::blocks(extents, &strides, sizes, fits(layout), steps);
+    let ruled = !original::model_exits(extents, &strides, sizes);
+    let still = (0..extents.len()).any(|axis| is_still(&strides, axis));
+    note(Branch::StillNone, ruled && !still);
+    note(Branch::StillAxis, ruled && still);
+    note(Branch::StillSlow, seen.capped);
+    note(Branch::StillMoved, !seen.capped && old != answer);
+    if !seen.capped {
+        // No region and no product sees its block, so the others stay as they are.
+        let whole = |axis: usize| match ruled && is_still(&strides, axis) {
+            true => extents[axis],
+            false => old[axis],
+        };
+        let expected: Vec<usize> = (0..old.len()).map(whole).collect();
+        assert_eq!(answer, expected, "the unchanged Rust has other blocks");
+    } else {
+        assert!(ruled && still, "the unchanged Rust takes more steps");
+    }
+    if ruled && still {
+        // It is the last axis, behind the first one cut, and its byte strides of 0 are
+        // less than any span.
+        let cut = original::reduced_block_sizes(extents, &strides, sizes).expect("the rule runs");
+        let declined = original::declines_tiles(extents, &strides, sizes, &cut);
+        assert!(
+            !declined,
+            "tiles declined beside an axis that nobody moves along"
+        );
+    }
+    seen
 }
 
 /// Whether the unchanged Rust has another loop order: extents decide between axes

@@ -61,17 +61,19 @@ pub enum Kind {
     Block,
     Refuse,
     Small,
+    Still,
     Mixed,
     Walk,
 }
 
 impl Kind {
-    pub const NAMES: [(&'static str, Kind); 7] = [
+    pub const NAMES: [(&'static str, Kind); 8] = [
         ("order", Kind::Order),
         ("fuse", Kind::Fuse),
         ("block", Kind::Block),
         ("refuse", Kind::Refuse),
         ("small", Kind::Small),
+        ("still", Kind::Still),
         ("mixed", Kind::Mixed),
         ("walk", Kind::Walk),
     ];
@@ -99,6 +101,7 @@ pub fn layout(random: &mut Random, kind: Kind) -> Layout {
             Kind::Fuse => fuse(random),
             Kind::Block => block(random),
             Kind::Small => small(random),
+            Kind::Still => still(random),
             Kind::Refuse => return refuse(random),
             Kind::Mixed | Kind::Walk => {
                 let kinds = [
@@ -549,6 +552,39 @@ fn block_any(random: &mut Random) -> Layout {
     };
     let strides = (0..operands).map(|_| row(random)).collect();
     let sizes = sizes(random, operands);
+    finish(random, extents, sizes, strides)
+}
+
+/// Broadcasts: beside axes with small costs one that nobody moves along, or only an
+/// operand of size 0, so that its score may be the greatest.
+fn still(random: &mut Random) -> Layout {
+    let rank = random.pick(&[1, 2, 2, 2, 3, 3, 4, 8]);
+    let operands = random.pick(&[1, 2, 2, 2, 3, 3, 7]);
+    let mut extents = block_extents(random, rank);
+    let mut sizes = sizes(random, operands);
+    let mut order: Vec<usize> = (0..rank).collect();
+    let mut strides = Vec::new();
+    for _ in 0..operands {
+        let mut row = packed(&extents, &order, random.pick(&[1, 1, 1, 2, 8]), 0);
+        for stride in &mut row {
+            if random.chance(1, 4) {
+                *stride = random.pick(&[0, 0, -*stride]);
+            }
+        }
+        strides.push(row);
+        random.shuffle(&mut order);
+    }
+    let place = random.within(0, rank);
+    extents.insert(place, random.pick(&[2, 33, 100, 1000, 3000]));
+    for row in &mut strides {
+        row.insert(place, 0);
+    }
+    if random.chance(1, 4) {
+        let mut row = vec![0; rank + 1];
+        row[place] = signed(random, 8, 4);
+        sizes.push(0);
+        strides.push(row);
+    }
     finish(random, extents, sizes, strides)
 }
 

@@ -1,7 +1,8 @@
 //! Blocks of layouts on which the original takes too many single steps. It is
-//! document 01's cutting with the phase that takes 1 off worked out at once. All
-//! else comes from the original: its exits, ranks, costs, regions, declining and
-//! fit. The tests compare the model with the original where that comes back.
+//! document 01's cutting with the phase that takes 1 off worked out at once; axes
+//! without a cost are passed over (ask 7 of document 02). All else comes from the
+//! original: its exits, ranks, costs, regions, declining and fit. The tests compare
+//! the model with the original where that comes back.
 
 use crate::layout::Layout;
 use strided_basic as original;
@@ -73,8 +74,8 @@ fn score(block: usize, cost: u128) -> u128 {
 /// Halves the block with the greatest score, the last of several.
 fn halve(tail: &mut [usize], costs: &[u128], region: impl Fn(&[usize]) -> u128) {
     while region(tail) >= 2 * MEMORY {
-        let above_one = (0..tail.len()).filter(|&axis| tail[axis] > 1);
-        let Some(axis) = above_one.max_by_key(|&axis| score(tail[axis], costs[axis])) else {
+        let weighed = (0..tail.len()).filter(|&axis| tail[axis] > 1 && costs[axis] > 0);
+        let Some(axis) = weighed.max_by_key(|&axis| score(tail[axis], costs[axis])) else {
             return;
         };
         tail[axis] = tail[axis].div_ceil(2);
@@ -89,6 +90,9 @@ fn lessen(tail: &mut [usize], costs: &[u128], region: impl Fn(&[usize]) -> u128)
     let start = tail.to_vec();
     let clipped = |level: u128| -> Vec<usize> {
         let clip = |(&block, &cost): (&usize, &u128)| {
+            if cost == 0 {
+                return block;
+            }
             let most = usize::try_from(level / cost).map_or(usize::MAX, |n| n.saturating_add(1));
             block.min(most)
         };
@@ -98,7 +102,7 @@ fn lessen(tail: &mut [usize], costs: &[u128], region: impl Fn(&[usize]) -> u128)
         return;
     }
     if region(&clipped(0)) > MEMORY {
-        tail.fill(1);
+        tail.copy_from_slice(&clipped(0));
         return;
     }
     // Clipped at `low` the region is within the memory, at `high` it is not.

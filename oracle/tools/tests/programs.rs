@@ -137,7 +137,13 @@ fn the_same_seed_gives_the_same_text_that_reads_back() {
 
 #[test]
 fn few_generated_layouts_are_refused() {
-    for kind in [Kind::Order, Kind::Fuse, Kind::Block, Kind::Small] {
+    for kind in [
+        Kind::Order,
+        Kind::Fuse,
+        Kind::Block,
+        Kind::Small,
+        Kind::Still,
+    ] {
         let mut random = Random::new(6);
         let refused = (0..1000).filter(|_| layout(&mut random, kind).refusal().is_some());
         assert!(refused.count() <= 50, "{kind:?}");

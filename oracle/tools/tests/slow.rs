@@ -10,7 +10,7 @@ use tools::record::SLOW;
 #[test]
 fn slow_layouts_hit_the_cap() {
     let slow = read_all(SLOW).expect("slow.txt is in the text form");
-    assert!(slow.len() >= 10, "{}", slow.len());
+    assert!(slow.len() >= 8, "{}", slow.len());
     for (comments, request) in slow {
         assert!(!comments.is_empty(), "no comment before\n{request}");
         let Request::Layout(layout) = &request else {

@@ -11,8 +11,8 @@ generate: prints seeded layouts in the text form
 
   --seed S     the seed (0)
   --count N    how many (100)
-  --kind KIND  order, fuse, block, refuse, small, mixed (all of these), or
-               walk: walk requests (mixed)
+  --kind KIND  order, fuse, block, refuse, small, mixed (all of these), still,
+               or walk: walk requests (mixed)
   --help       this text
 ";
 
