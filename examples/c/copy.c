@@ -26,7 +26,7 @@ static int padded[PITCH * CHANNELS * SEGMENTS];
 
 static int refused(const char *what, int64_t answer)
 {
-    fprintf(stderr, "%s: refused with %" PRId64 "\n", what, -answer);
+    fprintf(stderr, "%s: refused with %" PRId64 ", %s\n", what, -answer, gougelily_refusal_text(answer));
     return 1;
 }
 
@@ -63,13 +63,13 @@ int main(void)
     answer = gougelily_begin_walk(&plan, starts, 2, &walk);
     if (answer < 0)
         return refused("begin", answer);
-    while ((answer = gougelily_next_block(&plan, &walk, &block)) == 1) {
+    while ((answer = gougelily_step_walk(&plan, &walk, &block)) == 1) {
         gougelily_index_t first;
         for (uint64_t k = 0; k < block.length; k++) {
             const int64_t cell = (int64_t)k;
             dense[block.offsets[0] + cell * block.strides[0]] = padded[block.offsets[1] + cell * block.strides[1]];
         }
-        answer = gougelily_find_original(&layout, block.counters, plan.rank, &first);
+        answer = gougelily_original_index_of(&layout, block.counters, plan.rank, &first);
         if (answer < 0)
             return refused("original index", answer);
         printf("%" PRIu64 " cells from %" PRId64 " to %" PRId64 ": sample %" PRIu64 ", channel %" PRIu64

@@ -17,7 +17,7 @@ int main(void)
 {
     const int64_t answer = gougelily_walklist((const uint8_t *)text, strlen(text), room, sizeof room);
     if (answer < 0) {
-        fprintf(stderr, "refused with %" PRId64 "\n", -answer);
+        fprintf(stderr, "refused with %" PRId64 ", %s\n", -answer, gougelily_refusal_text(answer));
         return 1;
     }
     return fwrite(room, 1, (size_t)answer, stdout) == (size_t)answer ? 0 : 1;

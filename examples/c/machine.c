@@ -22,7 +22,7 @@ static const int64_t strides[4] = {
 
 static int refused(const char *what, int64_t answer)
 {
-    fprintf(stderr, "machine: %s is refused with %" PRId64 "\n", what, -answer);
+    fprintf(stderr, "machine: %s is refused with %" PRId64 ", %s\n", what, -answer, gougelily_refusal_text(answer));
     return 1;
 }
 
@@ -59,7 +59,7 @@ int main(int count, char **words)
     answer = gougelily_begin_walk(&plan, starts, 2, &walk);
     if (answer < 0)
         return refused("the walk's beginning", answer);
-    while ((answer = gougelily_next_block(&plan, &walk, &block)) == 1) {
+    while ((answer = gougelily_step_walk(&plan, &walk, &block)) == 1) {
         printf("B,%" PRIu64 ",%" PRIu64 ",%" PRId64 ",%" PRId64 "\n", blocks, block.length, block.offsets[0],
                block.offsets[1]);
         blocks++;

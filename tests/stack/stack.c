@@ -82,9 +82,9 @@ static void plan_transposed(void) { answer = gougelily_plan_layout(&transposed, 
 static void plan_wide(void) { answer = gougelily_plan_layout(&wide, &fixed, &plan); }
 static void check(void) { answer = gougelily_check(&wide); }
 static void begin(void) { answer = gougelily_begin_walk(&plan, starts, plan.operands, &walk); }
-static void step(void) { answer = gougelily_next_block(&plan, &walk, &block); }
-static void find(void) { answer = gougelily_find_original(&wide, zeros, plan.rank, &told); }
-static void find_back(void) { answer = gougelily_find_in_plan(&wide, zeros, 64, &told); }
+static void step(void) { answer = gougelily_step_walk(&plan, &walk, &block); }
+static void find(void) { answer = gougelily_original_index_of(&wide, zeros, plan.rank, &told); }
+static void find_back(void) { answer = gougelily_plan_index_of(&wide, zeros, 64, &told); }
 static void mark(void) { answer = gougelily_repeat_mark(wide_extents, 64, wide_strides, 64); }
 static void list(void)
 {

@@ -8,4 +8,5 @@ pub mod many;
 pub mod marks;
 pub mod plans;
 pub mod texts;
+pub mod versions;
 pub mod walks;

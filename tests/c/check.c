@@ -3,7 +3,7 @@
  * argument that is a pointer is lent from memory of its own, with guard bytes on
  * one side and a page that cannot be touched on the other. Checked are:
  * - known layouts and texts, and one call for each refusal; a layout's check is
- *   what planning it for the fixed machine answers;
+ *   what planning it for the fixed machine answers; the words of a refusal;
  * - layouts at random: a walk meets every cell once, at the offsets that its
  *   original index tells, and the index maps are inverse; many steps in one call
  *   hand out the blocks of single steps;
@@ -285,9 +285,22 @@ static void known_walk(void)
     CHECK(many_of(&p, &w, &m, 2, 4) == 2 && m.lengths[0] == 2 && m.lengths[1] == 2 && m.offsets[0] == 10 &&
           m.offsets[1] == 16 && m.offsets[2] == 0 && w.counters[0] == 4);
     CHECK(many_of(&p, &w, &m, 4, 4) == 1 && m.lengths[0] == 1 && m.offsets[0] == 22 && m.lengths[1] == 2 && w.ended);
-    CHECK(many_of(&p, &w, &m, 4, 4) == 0 && gougelily_next_blocks(&p, &w, m.lengths, 4, m.offsets, 4) == 0);
+    CHECK(many_of(&p, &w, &m, 4, 4) == 0 && gougelily_step_walk_many(&p, &w, m.lengths, 4, m.offsets, 4) == 0);
     p.extents[0] = 0;
     CHECK(begin_of(&p, &start, 1, &w) == 0 && w.ended == 1);
+}
+
+/* The words of an answer, which is negative where the enum's number is not; the library is that of the header; older names are names. */
+static void known_words(void)
+{
+    CHECK(gougelily_refused(-6) == GOUGELILY_REACH && gougelily_refused(0) == GOUGELILY_SERVED);
+    CHECK(gougelily_refused(GOUGELILY_REACH) == GOUGELILY_SERVED);
+    CHECK(strcmp(gougelily_refusal_text(-GOUGELILY_RANK), "the rank is above 64") == 0);
+    CHECK(strcmp(gougelily_refusal_text(-24), "the machine record is outside its bounds") == 0);
+    CHECK(strcmp(gougelily_refusal_text(0), "not refused") == 0 && strcmp(gougelily_refusal_text(6), "not refused") == 0);
+    CHECK(strcmp(gougelily_refusal_text(-99), "no refusal has this number") == 0);
+    CHECK(gougelily_version() == GOUGELILY_VERSION);
+    CHECK(gougelily_next_block == gougelily_step_walk && gougelily_find_original == gougelily_original_index_of);
 }
 
 static void known_refusals(void)
@@ -670,6 +683,7 @@ int main(int argc, char **argv)
     make_areas();
     known_plans();
     known_walk();
+    known_words();
     known_refusals();
     known_texts();
     for (round_number = 1; round_number <= rounds; round_number++) {

@@ -1,0 +1,67 @@
+# The library for those who use it.
+#   make lib          target/lib: libgougelily, static and shared. rt proves it first; where that is done it takes seconds
+#   make install      header, libraries, pkg-config file, walklist, Python module and man pages, under DESTDIR and PREFIX
+#   make uninstall    takes away what install put there
+# What is proved and tested is the gate's matter: .ci/run.
+PREFIX = /usr/local
+BINDIR = $(PREFIX)/bin
+LIBDIR = $(PREFIX)/lib
+INCLUDEDIR = $(PREFIX)/include
+MANDIR = $(PREFIX)/share/man
+PYTHON = python3
+CC = cc
+
+number = $(shell sed -n 's/^.define GOUGELILY_VERSION_$(1) //p' include/gougelily.h)
+MAJOR := $(call number,MAJOR)
+VERSION := $(MAJOR).$(call number,MINOR).$(call number,PATCH)
+SONAME = libgougelily.so.$(MAJOR)
+SHARED = libgougelily.so.$(VERSION)
+
+SOURCES := $(shell find crates crates.txt -name '*.rt' -o -name '*.antt' -o -name crates.txt)
+PROVED = target/staticlib
+OUT = target/lib
+
+lib: $(OUT)/libgougelily.a $(OUT)/$(SHARED) $(OUT)/gougelily.pc
+
+$(PROVED)/lib%.a: $(SOURCES)
+	rt staticlib $*
+	touch $@
+
+target/bin/walklist: $(SOURCES)
+	rt check walklist
+	touch $@
+
+$(OUT)/libgougelily.a: $(PROVED)/libgougelily.a
+	mkdir -p $(OUT)
+	cp $< $@
+
+# The archive is position-independent and has no global symbol but the public ones, so that it is linked whole as it is.
+$(OUT)/$(SHARED): $(PROVED)/libgougelily.a
+	mkdir -p $(OUT)
+	$(CC) -shared $(LDFLAGS) -Wl,-soname,$(SONAME) -Wl,-z,defs -Wl,-z,relro -Wl,-z,now -o $@ -Wl,--whole-archive $< -Wl,--no-whole-archive
+	ln -sf $(SHARED) $(OUT)/$(SONAME)
+	ln -sf $(SONAME) $(OUT)/libgougelily.so
+
+# Made anew each time, since it says where the library is installed.
+$(OUT)/gougelily.pc: FORCE
+	mkdir -p $(OUT)
+	sed -e 's|@PREFIX@|$(PREFIX)|' -e 's|@INCLUDEDIR@|$(INCLUDEDIR)|' -e 's|@LIBDIR@|$(LIBDIR)|' -e 's|@VERSION@|$(VERSION)|' \
+	    include/gougelily.pc.in > $@
+
+install: lib target/bin/walklist
+	install -d $(DESTDIR)$(INCLUDEDIR) $(DESTDIR)$(LIBDIR)/pkgconfig $(DESTDIR)$(BINDIR)
+	install -m 644 include/gougelily.h $(DESTDIR)$(INCLUDEDIR)
+	install -m 644 $(OUT)/libgougelily.a $(OUT)/$(SHARED) $(DESTDIR)$(LIBDIR)
+	ln -sf $(SHARED) $(DESTDIR)$(LIBDIR)/$(SONAME)
+	ln -sf $(SONAME) $(DESTDIR)$(LIBDIR)/libgougelily.so
+	install -m 644 $(OUT)/gougelily.pc $(DESTDIR)$(LIBDIR)/pkgconfig
+	install -m 755 target/bin/walklist $(DESTDIR)$(BINDIR)
+
+uninstall:
+	rm -f $(DESTDIR)$(INCLUDEDIR)/gougelily.h $(DESTDIR)$(LIBDIR)/pkgconfig/gougelily.pc $(DESTDIR)$(BINDIR)/walklist
+	cd $(DESTDIR)$(LIBDIR) && rm -f libgougelily.a libgougelily.so $(SONAME) $(SHARED)
+
+FORCE:
+
+.PHONY: lib install uninstall FORCE
+.DELETE_ON_ERROR:

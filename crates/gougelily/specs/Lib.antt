@@ -1,0 +1,2 @@
+-- What the C functions promise beyond the entries that they call.
+pub mod Version
