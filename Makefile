@@ -9,6 +9,9 @@ LIBDIR = $(PREFIX)/lib
 INCLUDEDIR = $(PREFIX)/include
 MANDIR = $(PREFIX)/share/man
 PYTHON = python3
+# Where this Python looks below the prefix, or else where it would by habit.
+PYTHONDIR = $(shell $(PYTHON) -c 'import sys, sysconfig; own = [p for p in sys.path if p.startswith("$(PREFIX)/lib/") and p.endswith("-packages")]; \
+    print(own[0] if own else sysconfig.get_path("purelib", "posix_prefix", {"base": "$(PREFIX)"}))')
 CC = cc
 
 number = $(shell sed -n 's/^.define GOUGELILY_VERSION_$(1) //p' include/gougelily.h)
@@ -56,10 +59,12 @@ install: lib target/bin/walklist
 	ln -sf $(SONAME) $(DESTDIR)$(LIBDIR)/libgougelily.so
 	install -m 644 $(OUT)/gougelily.pc $(DESTDIR)$(LIBDIR)/pkgconfig
 	install -m 755 target/bin/walklist $(DESTDIR)$(BINDIR)
+	python=$(DESTDIR)$(PYTHONDIR)/gougelily && install -d $$python && install -m 644 python/gougelily/*.py python/gougelily/py.typed $$python
 
 uninstall:
 	rm -f $(DESTDIR)$(INCLUDEDIR)/gougelily.h $(DESTDIR)$(LIBDIR)/pkgconfig/gougelily.pc $(DESTDIR)$(BINDIR)/walklist
 	cd $(DESTDIR)$(LIBDIR) && rm -f libgougelily.a libgougelily.so $(SONAME) $(SHARED)
+	rm -rf $(DESTDIR)$(PYTHONDIR)/gougelily
 
 FORCE:
 

@@ -1,0 +1,53 @@
+"""Gougelily plans loops over strided arrays and walks their blocks: the library libgougelily, by ctypes. NumPy is not needed.
+
+>>> import gougelily
+>>> layout = gougelily.Layout(extents=(2, 3), sizes=(8, 8), strides=((1, 2), (3, 1)))
+>>> plan = gougelily.plan_layout(layout)
+>>> print(plan)
+K,2
+A,0,2,2,1,3
+A,1,3,3,2,1
+>>> for length, offsets in gougelily.blocks(plan):
+...     print(length, offsets)
+2 (0, 0)
+2 (2, 1)
+2 (4, 2)
+
+`plan` does the same from arrays, `machine` tells the record of this processor, and a call that is refused raises `Refused`, which has the number
+and the sentence. `python3 -m gougelily` explains a layout's plan in the terminal.
+"""
+
+from .layout import Layout, repeat_mark
+from .library import version
+from .machine import FIXED, Machine, machine
+from .planning import Plan, original_index, plan, plan_index, plan_layout
+from .refusals import REFUSALS, Refused, refusal_text
+from .texts import NotInForm, read_layout, walklist, write_layout
+from .version import VERSION as __version__
+from .walking import Block, Run, Walk, blocks
+
+__all__ = [
+    "FIXED",
+    "REFUSALS",
+    "Block",
+    "Layout",
+    "Machine",
+    "NotInForm",
+    "Plan",
+    "Refused",
+    "Run",
+    "Walk",
+    "__version__",
+    "blocks",
+    "machine",
+    "original_index",
+    "plan",
+    "plan_index",
+    "plan_layout",
+    "read_layout",
+    "refusal_text",
+    "repeat_mark",
+    "version",
+    "walklist",
+    "write_layout",
+]

@@ -1,0 +1,198 @@
+"""Tests of the Python module on the library, without NumPy: the example texts, refusals, walks, index finding, the machine record.
+
+    python3 -B tests/python/test_module.py
+"""
+
+import doctest
+import importlib
+import os
+import pkgutil
+import random
+import subprocess
+import sys
+import tempfile
+import unittest
+from pathlib import Path
+
+from seeded import LAYOUTS, MACHINES, ROOT, layout
+
+import gougelily as g
+from gougelily.texts import NotInForm
+
+ALPHABET = b"LEOPF,-0123456789\n\r x"
+
+
+def refused(case, number, call, *arguments):
+    with case.assertRaises(g.Refused) as raised:
+        call(*arguments)
+    case.assertEqual(raised.exception.number, number)
+
+
+class Documented(unittest.TestCase):
+    def test_examples_in_docstrings(self):
+        attempted = 0
+        for found in pkgutil.walk_packages(g.__path__, "gougelily."):
+            if not found.name.endswith("__main__"):
+                outcome = doctest.testmod(importlib.import_module(found.name))
+                self.assertEqual(outcome.failed, 0, found.name)
+                attempted += outcome.attempted
+        self.assertEqual(doctest.testmod(g).failed, 0)
+        self.assertGreater(attempted, 20)
+
+
+class Texts(unittest.TestCase):
+    def test_the_examples(self):
+        for path in sorted(LAYOUTS.glob("*.txt")):
+            text, due = path.read_bytes(), path.with_suffix(".out").read_text()
+            with self.subTest(path.stem):
+                if due.startswith("R,"):
+                    refused(self, int(due[2:]), g.walklist, text)
+                    continue
+                self.assertEqual(g.walklist(text), due)
+                told = g.read_layout(text)
+                self.assertEqual(g.write_layout(told).encode(), text)
+                plan = g.plan_layout(told)
+                self.assertEqual(str(plan).splitlines(), [line for line in due.splitlines() if line[0] in "KA"])
+                blocks = [f"B,{n},{length},{','.join(map(str, offsets))}" for n, (length, offsets) in enumerate(g.blocks(plan, room=7))]
+                self.assertEqual(blocks, [line for line in due.splitlines() if line[0] == "B"])
+
+    def test_what_is_not_in_the_form(self):
+        """The module's reader and the library's refuse the same texts."""
+        rng, outside = random.Random(1), 0
+        texts = [path.read_bytes() for path in sorted(LAYOUTS.glob("*.txt")) if path.stat().st_size < 200]
+        for _ in range(6_000):
+            text = bytearray(rng.choice(texts))
+            for _ in range(rng.randint(1, 2)):
+                at = rng.randrange(len(text) + 1)
+                text[at : at + rng.randint(0, 1)] = bytes(rng.choices(ALPHABET, k=rng.randint(0, 2)))
+            try:
+                g.read_layout(bytes(text))
+                form = True
+            except NotInForm as reason:
+                self.assertGreater(len(reason.reason), 5)
+                form, outside = False, outside + 1
+            try:
+                g.walklist(bytes(text))
+                told = 0
+            except g.Refused as refusal:
+                told = refusal.number
+            self.assertEqual(form, told != 12, bytes(text))
+        self.assertGreater(outside, 1_000)
+
+    def test_the_line_and_the_reason(self):
+        for text, line, word in (("", 1, "LF"), ("L,P,1,1,-\nE,4\nO,8,1", 3, "LF"), ("L,Q,1,1,-\nE,4\nO,8,1\n", 1, "'Q'"), ("L,P,2,1,-\nE,4\nO,8,1\n", 2, "2 are due"),
+                                 ("L,P,1,2,-\nE,4\nO,8,1\n", 4, "ends"), ("L,P,1,1,-\nE,4\nO,8,1\nO,8,1\n", 4, "too many"), ("L,P,1,1,-\nE,4\nO,8,-0\n", 3, "'-0'"),
+                                 ("L,P,1,1,-\nE,18446744073709551616\nO,8,1\n", 2, "outside"), ("x" * 16_385, 0, "16,384")):
+            with self.assertRaises(NotInForm) as raised:
+                g.read_layout(text)
+            self.assertEqual(raised.exception.line, line)
+            self.assertIn(word, str(raised.exception))
+
+
+class Refusals(unittest.TestCase):
+    def test_each_row(self):
+        one = g.Layout((5,), (8,), ((1,),))
+        plan = g.plan_layout(one)
+        for number, call, *arguments in (
+            (1, g.plan_layout, g.Layout((1,) * 65, (8,), ((1,) * 65,))),
+            (1, g.Walk, g.Plan((1,) * 65, (1,) * 65, ((1,) * 65,))),
+            (2, g.plan_layout, g.Layout((5,), (), ())),
+            (2, g.Walk, g.Plan((5,), (5,), ((1,),) * 9)),
+            (3, g.repeat_mark, (5,), (1, 2)),
+            (4, g.plan_layout, g.Layout((5,), (8,), ((1,),), "F", 1)),
+            (5, g.plan_layout, g.Layout((2**32, 2**32), (8,), ((0, 0),))),
+            (6, g.plan_layout, g.Layout((3,), (8,), ((2**62,),))),
+            (8, g.Walk, plan, (0, 0)),
+            (9, g.blocks, plan, (2**63 - 1,)),
+            (11, g.original_index, one, (5,)),
+            (11, g.plan_index, one, (0, 0)),
+            (12, g.walklist, "x"),
+            (14, g.walklist, "L,P,1,1,-\nE,4\nO,8,1\n", 10),
+            (24, g.plan_layout, one, g.Machine(48, 32_768, 4_080, 6)),
+        ):
+            with self.subTest(number=number, call=call.__name__):
+                refused(self, number, call, *arguments)
+
+    def test_a_state_that_no_walk_comes_to(self):
+        walk = g.Walk(g.Plan((5,), (5,), ((1,),)))
+        walk.state.counters[0] = 5
+        refused(self, 10, walk.step)
+
+    def test_numbers_outside_64_bits_are_not_cut(self):
+        for call in (lambda: g.plan_layout(g.Layout((2**64 + 2,), (8,), ((1,),))), lambda: g.plan_layout(g.Layout((2,), (8,), ((2**63,),))),
+                     lambda: g.plan_layout(g.Layout((2,), (8,), ((1,),), "P", 2**64)), lambda: g.Walk(g.Plan((2,), (2,), ((2**64 + 1,),))),
+                     lambda: g.Layout((-1,), (8,), ((1,),)).check(), lambda: g.plan_layout(g.Layout((2,), (8,), ((1,),)), g.Machine(2**64 + 64, 32_768, 4_096, 6))):
+            self.assertRaises(OverflowError, call)
+
+    def test_arguments_that_are_no_layout(self):
+        for arguments in (((2,), (8,), ((1, 2),)), ((2,), (8, 8), ((1,),)), ((2,), (8,), ((1,),), "Q"), ((2,), (8,), ((1,),), "F")):
+            self.assertRaises(ValueError, g.Layout, *arguments)
+        rows = memoryview(bytes(48))
+        self.assertRaises(ValueError, g.plan, rows, rows[1:])
+        self.assertRaises(ValueError, g.plan)
+
+
+class Walks(unittest.TestCase):
+    def test_seeded_walks(self):
+        """Every index once, at its offsets; single steps and many are the same blocks; index finding there and back."""
+        rng = random.Random(2)
+        for _ in range(120):
+            told, machine = layout(rng, 600), rng.choice(MACHINES)
+            starts = [rng.randint(-9, 9) for _ in told.sizes]
+            plan = g.plan_layout(told, machine)
+            single, walk, seen = [], g.Walk(plan, starts), set()
+            while (block := walk.step()) is not None:
+                single.append((block.length, block.offsets))
+                self.assertEqual(block.strides, plan.steps)
+                for k in range(block.length):
+                    counters = (block.counters[0] + k, *block.counters[1:])
+                    index = g.original_index(told, counters)
+                    self.assertEqual(g.plan_index(told, index), counters)
+                    seen.add(index)
+                    for start, row, offset, step in zip(starts, told.strides, block.offsets, block.strides):
+                        self.assertEqual(start + sum(i * s for i, s in zip(index, row)), offset + k * step)
+            self.assertIsNone(walk.step())
+            self.assertEqual(single, list(g.blocks(plan, starts, room=rng.choice((1, 3, 1_000)))))
+            total = sum(length for length, _ in single)
+            self.assertEqual(len(seen), total)
+
+    def test_rank_0_and_no_cells(self):
+        point = g.plan_layout(g.Layout((), (8, 8), ((), ())))
+        self.assertEqual(list(g.blocks(point, (4, 5))), [(1, (4, 5))])
+        self.assertEqual(list(g.blocks(g.plan_layout(g.Layout((3, 0), (8,), ((1, 3),))))), [])
+
+    def test_arrays_without_numpy(self):
+        rows = memoryview(bytearray(range(24))).cast("B", (2, 3, 4))
+        self.assertEqual(g.Layout.of(rows), g.Layout((4, 3, 2), (1,), ((1, 4, 12),)))
+        self.assertEqual(str(g.plan(rows)), "K,1\nA,0,24,24,1")
+
+
+class Machines(unittest.TestCase):
+    def record(self, **files):
+        with tempfile.TemporaryDirectory() as name:
+            for index, kind in (("index0", "Instruction"), ("index1", "Data")):
+                folder = Path(name) / index
+                folder.mkdir()
+                for file, text in {"level": "1", "type": kind, "size": "48K", "coherency_line_size": "64", "ways_of_associativity": "12", **files}.items():
+                    (folder / file).write_text(text + "\n")
+            return g.machine(Path(name))
+
+    def test_the_record_of_a_processor(self):
+        self.assertEqual(self.record(), g.Machine(64, 49_152, 4_096, 9))
+        self.assertEqual(self.record(size="32K", ways_of_associativity="8"), g.FIXED)
+        self.assertEqual(self.record(size="64K", ways_of_associativity="4"), g.Machine(64, 65_536, 16_384, 3))
+
+    def test_what_falls_back(self):
+        for files in ({"ways_of_associativity": "0"}, {"size": "much"}, {"coherency_line_size": "48"}, {"size": "2M"}, {"level": "2"}):
+            self.assertEqual(self.record(**files), g.FIXED)
+        self.assertEqual(g.machine(Path("/nowhere")), g.FIXED)
+        self.assertTrue(g.machine().allowed())
+
+    def test_no_library(self):
+        environment = {**os.environ, "GOUGELILY_LIBRARY": "/nowhere.so", "PYTHONPATH": str(ROOT / "python")}
+        ran = subprocess.run([sys.executable, "-B", "-c", "import gougelily; gougelily.version()"], env=environment, capture_output=True, text=True, check=False)
+        self.assertIn("make lib", ran.stderr)
+
+
+if __name__ == "__main__":
+    unittest.main()
