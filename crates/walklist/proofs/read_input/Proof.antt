@@ -19,10 +19,10 @@ use Rattle.walklist.proofs.read_input.Statement.{statement}
 use Rattle.walklist.proofs.read_input.Tie as tie
 
 abbrev Inv-loop : tie.InvT-loop
-Inv-loop bytes₀ n₀ bytes n = (n ≤ length bytes) × (length bytes ≡ length bytes₀)
+Inv-loop fd bytes₀ n₀ bytes n = (n ≤ length bytes) × (length bytes ≡ length bytes₀)
 
 abbrev μ-loop : tie.MeasureT-loop
-μ-loop bytes₀ n₀ bytes n = length bytes - n
+μ-loop fd bytes₀ n₀ bytes n = length bytes - n
 
 -- a read that has not failed and is not at the end: some bytes, no more than there were places
 record Took (size : ℕ) (z : ℤ) : Type 0 where

@@ -1,10 +1,10 @@
--- `walklist::main` is safe: what was read is lent, and the bytes lent for output are 0. Assumes nothing.
+-- `walklist::print_input` is safe: what was read is lent, and the bytes lent for output are 0. Assumes nothing.
 use Prim.Native.Nat.{_≤_}
 use native.Mathlib.Omega.{arith}
 use lib.ListN.{length, length-take}
 use borrow.Author.Needs.{needs}
-use Rattle.walklist.proofs.main.Statement.{statement}
-use Rattle.walklist.proofs.main.Tie as tie
+use Rattle.walklist.proofs.print_input.Statement.{statement}
+use Rattle.walklist.proofs.print_input.Tie as tie
 
 slice-aggregate-read-input : tie.Need-slice-aggregate-read-input
 slice-aggregate-read-input c = search needs
@@ -16,16 +16,16 @@ enum-known-n : tie.Need-enum-known-n
 enum-known-n c = search needs
 
 -- as many bytes as were read are there
-there : (c : tie.After-known-told) → c .before .n .given .0 .0 ≤ length (c .before .before .before .before .read-input .last .0)
+there : (c : tie.After-known-told) → c .before .n .given .0 .0 ≤ length (c .before .before .before .before .read-input .last .1 .0)
 there c =
     let r = c .before .before .before .before .read-input in
-    omega (arith, r .ensures .within (c .before .n .given .0 .0) (c .before .n .given .1), r .kept .0)
+    omega (arith, r .ensures .within (c .before .n .given .0 .0) (c .before .n .given .1), r .kept .1 .0)
 
 array-share-prefix-bytes : tie.Need-array-share-prefix-bytes
 array-share-prefix-bytes c = there c
 
 slice-aggregate-print-text : tie.Need-slice-aggregate-print-text
-slice-aggregate-print-text c = omega (arith, there (c .before), length-take (c .before .before .n .given .0 .0) (c .before .before .before .before .before .read-input .last .0))
+slice-aggregate-print-text c = omega (arith, there (c .before), length-take (c .before .before .n .given .0 .0) (c .before .before .before .before .before .read-input .last .1 .0))
 
 slice-aggregate-print-text-2 : tie.Need-slice-aggregate-print-text-2
 slice-aggregate-print-text-2 c = search needs
@@ -48,8 +48,8 @@ returns c = search needs
 returns-2 : tie.Need-returns-2
 returns-2 c = search needs
 
-pub main-spec : {M : Type 1} → statement M
-main-spec =
+pub print-input-spec : {M : Type 1} → statement M
+print-input-spec =
     tie.close
     (tie.spec
     slice-aggregate-read-input
