@@ -24,7 +24,7 @@ SOURCES := $(shell find crates crates.txt -name '*.rt' -o -name '*.antt' -o -nam
 PROVED = target/staticlib
 OUT = target/lib
 
-lib: $(OUT)/libgougelily.a $(OUT)/$(SHARED) $(OUT)/gougelily.pc
+lib: $(OUT)/libgougelily.a $(OUT)/$(SHARED) $(OUT)/libparts.so $(OUT)/gougelily.pc
 
 $(PROVED)/lib%.a: $(SOURCES)
 	rt staticlib $*
@@ -45,6 +45,11 @@ $(OUT)/$(SHARED): $(PROVED)/libgougelily.a
 	ln -sf $(SHARED) $(OUT)/$(SONAME)
 	ln -sf $(SONAME) $(OUT)/libgougelily.so
 
+# For the Python module alone, which explains plans by it.
+$(OUT)/libparts.so: $(PROVED)/libparts.a
+	mkdir -p $(OUT)
+	$(CC) -shared $(LDFLAGS) -Wl,-z,defs -o $@ -Wl,--whole-archive $< -Wl,--no-whole-archive
+
 # Made anew each time, since it says where the library is installed.
 $(OUT)/gougelily.pc: FORCE
 	mkdir -p $(OUT)
@@ -59,7 +64,8 @@ install: lib target/bin/walklist
 	ln -sf $(SONAME) $(DESTDIR)$(LIBDIR)/libgougelily.so
 	install -m 644 $(OUT)/gougelily.pc $(DESTDIR)$(LIBDIR)/pkgconfig
 	install -m 755 target/bin/walklist $(DESTDIR)$(BINDIR)
-	python=$(DESTDIR)$(PYTHONDIR)/gougelily && install -d $$python && install -m 644 python/gougelily/*.py python/gougelily/py.typed $$python
+	to=$(DESTDIR)$(PYTHONDIR)/gougelily && install -d $$to/rules && install -m 644 python/gougelily/*.py python/gougelily/py.typed $(OUT)/libparts.so $$to && \
+	    install -m 644 python/gougelily/rules/*.py $$to/rules
 
 uninstall:
 	rm -f $(DESTDIR)$(INCLUDEDIR)/gougelily.h $(DESTDIR)$(LIBDIR)/pkgconfig/gougelily.pc $(DESTDIR)$(BINDIR)/walklist

@@ -3,9 +3,8 @@
 from dataclasses import replace
 
 import records
-from cutting import region
 from layouts import layout
-from neighbours import NotInForm, limits, read_cases, read_text
+from neighbours import NotInForm, cutting, limits, read_cases, read_text
 from reference import for_blocks, refusal
 
 PER_LAYOUT = 5  # records for each known layout
@@ -47,7 +46,7 @@ def to_the_byte(rng, told, machine):
     if refusal(told, machine, set()) is not None:
         return machine
     axes = for_blocks(told)
-    whole = region(axes.extents, axes.bytes, machine.line)
+    whole = cutting.region(axes.extents, axes.bytes, machine.line)
     cache = rng.choice((whole, whole - 1, whole // 2, whole // 2 + 1, whole // 4, whole // 8))
     return replace(machine, cache=cache) if max(records.LEAST, machine.way) <= cache <= records.MOST else machine
 

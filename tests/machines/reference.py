@@ -6,11 +6,8 @@ It is made to judge the port where no Rust decides, so it shares nothing with ei
 
 from dataclasses import dataclass
 
-import cutting
-from declining import declined
-from fitting import fit
 from machine import faults, limits_of
-from neighbours import SMALL, Axis, applying, planning, reading, total
+from neighbours import SMALL, Axis, applying, cutting, declined, fit, planning, reading, total
 
 ORDER = 1, 2, 3, 4, 24, 5, 6, 7
 

@@ -7,12 +7,10 @@ import random
 import unittest
 from dataclasses import replace
 
-import cutting
-from fitting import load, products
 from layouts import large
 from library import PATTERN, PLACES, axes_of, first_difference, memory_of
 from machine import FIXED, Machine, faults, limits_of, only_difference
-from neighbours import SMALL, Axis, limits, planning, read_axes, read_cases, read_text, small_plan, total
+from neighbours import SMALL, Axis, cutting, limits, load, planning, products, read_axes, read_cases, read_text, small_plan, total
 from records import allowed, bounds, one_other, refused
 from reference import for_axes, for_blocks, plan
 

@@ -6,8 +6,6 @@ Axes of a plan come as lists: the extents or blocks, and for each operand a row 
 from itertools import islice
 from math import prod
 
-from neighbours import planning
-
 STEPS = 200  # single steps of the second phase; what is left then is worked out in one jump
 
 
@@ -45,12 +43,17 @@ def costs(rows):
     return [cost(column) for column in zip(*rows)]
 
 
+def ranks(strides):
+    """The ranks of an operand's axes. "1 if its stride is 0, else 1 + the count of nonzero strides of smaller size" """
+    return [1 if s == 0 else 1 + sum(0 < abs(t) < abs(s) for t in strides) for s in strides]
+
+
 def plan_ranks(strides, sizes):
     """The ranks that cutting looks at.
 
     "ranks are those of the plan's axes, taken once over all of them and not afresh (an operand of size 0 has ranks all 1)"
     """
-    return [planning.ranks(row) if size else [1] * len(row) for row, size in zip(strides, sizes)]
+    return [ranks(row) if size else [1] * len(row) for row, size in zip(strides, sizes)]
 
 
 def greatest(blocks, cost):
