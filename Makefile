@@ -64,12 +64,16 @@ install: lib target/bin/walklist
 	ln -sf $(SONAME) $(DESTDIR)$(LIBDIR)/libgougelily.so
 	install -m 644 $(OUT)/gougelily.pc $(DESTDIR)$(LIBDIR)/pkgconfig
 	install -m 755 target/bin/walklist $(DESTDIR)$(BINDIR)
+	install -d $(DESTDIR)$(MANDIR)/man1 $(DESTDIR)$(MANDIR)/man3
+	install -m 644 docs/man/walklist.1 $(DESTDIR)$(MANDIR)/man1
+	install -m 644 docs/man/gougelily.3 $(DESTDIR)$(MANDIR)/man3
 	to=$(DESTDIR)$(PYTHONDIR)/gougelily && install -d $$to/rules && install -m 644 python/gougelily/*.py python/gougelily/py.typed $(OUT)/libparts.so $$to && \
 	    install -m 644 python/gougelily/rules/*.py $$to/rules
 
 uninstall:
 	rm -f $(DESTDIR)$(INCLUDEDIR)/gougelily.h $(DESTDIR)$(LIBDIR)/pkgconfig/gougelily.pc $(DESTDIR)$(BINDIR)/walklist
 	cd $(DESTDIR)$(LIBDIR) && rm -f libgougelily.a libgougelily.so $(SONAME) $(SHARED)
+	rm -f $(DESTDIR)$(MANDIR)/man1/walklist.1 $(DESTDIR)$(MANDIR)/man3/gougelily.3
 	rm -rf $(DESTDIR)$(PYTHONDIR)/gougelily
 
 FORCE:

@@ -69,6 +69,14 @@ class Words(unittest.TestCase):
                     self.assertTrue(told.startswith(f"Refused with {int(answer[2:])}: "))
                     self.assertRegex(told.splitlines()[1], r"^  line [0-9]+: ")
 
+    def test_the_tour(self):
+        """docs/TOUR.md shows parts of an explanation."""
+        shown = (ROOT / "docs" / "TOUR.md").read_text().split("Of this layout it says", 1)[1].split("After the first halving", 1)[0]
+        told = explain((LAYOUTS / "cut.txt").read_bytes()).splitlines()
+        lines = [line[4:] for line in shown.splitlines() if line.startswith("    ")]
+        self.assertGreater(len(lines), 10)
+        self.assertEqual([line for line in lines if line not in told], [])
+
     def test_the_terminal(self):
         worked = (LAYOUTS / "worked.txt").read_bytes()
         self.assertEqual(run("explain", text=worked), (0, explain(worked), ""))
