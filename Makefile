@@ -1,6 +1,6 @@
 # The library for those who use it.
 #   make lib          target/lib: libgougelily, static and shared. rt proves it first; where that is done it takes seconds
-#   make install      header, libraries, pkg-config file, walklist, Python module and man pages, under DESTDIR and PREFIX
+#   make install      header, libraries, pkg-config file, walklist, Python module, man pages and licences, under DESTDIR and PREFIX
 #   make uninstall    takes away what install put there
 # What is proved and tested is the gate's matter: .ci/run.
 PREFIX = /usr/local
@@ -8,6 +8,7 @@ BINDIR = $(PREFIX)/bin
 LIBDIR = $(PREFIX)/lib
 INCLUDEDIR = $(PREFIX)/include
 MANDIR = $(PREFIX)/share/man
+DOCDIR = $(PREFIX)/share/doc/gougelily
 PYTHON = python3
 # Where this Python looks below the prefix, or else where it would by habit.
 PYTHONDIR = $(shell $(PYTHON) -c 'import sys, sysconfig; own = [p for p in sys.path if p.startswith("$(PREFIX)/lib/") and p.endswith("-packages")]; \
@@ -64,19 +65,21 @@ install: lib target/bin/walklist
 	ln -sf $(SONAME) $(DESTDIR)$(LIBDIR)/libgougelily.so
 	install -m 644 $(OUT)/gougelily.pc $(DESTDIR)$(LIBDIR)/pkgconfig
 	install -m 755 target/bin/walklist $(DESTDIR)$(BINDIR)
-	install -d $(DESTDIR)$(MANDIR)/man1 $(DESTDIR)$(MANDIR)/man3
+	install -d $(DESTDIR)$(MANDIR)/man1 $(DESTDIR)$(MANDIR)/man3 $(DESTDIR)$(DOCDIR)
 	install -m 644 docs/man/walklist.1 $(DESTDIR)$(MANDIR)/man1
 	install -m 644 docs/man/gougelily.3 $(DESTDIR)$(MANDIR)/man3
+	install -m 644 NOTICE $(DESTDIR)$(DOCDIR)
 	to=$(DESTDIR)$(PYTHONDIR)/gougelily && install -d $$to/rules && install -m 644 python/gougelily/*.py python/gougelily/py.typed $(OUT)/libparts.so $$to && \
 	    install -m 644 python/gougelily/rules/*.py $$to/rules
 
 uninstall:
 	rm -f $(DESTDIR)$(INCLUDEDIR)/gougelily.h $(DESTDIR)$(LIBDIR)/pkgconfig/gougelily.pc $(DESTDIR)$(BINDIR)/walklist
-	cd $(DESTDIR)$(LIBDIR) && rm -f libgougelily.a libgougelily.so $(SONAME) $(SHARED)
-	rm -f $(DESTDIR)$(MANDIR)/man1/walklist.1 $(DESTDIR)$(MANDIR)/man3/gougelily.3
+	rm -f $(addprefix $(DESTDIR)$(LIBDIR)/,libgougelily.a libgougelily.so $(SONAME) $(SHARED))
+	rm -f $(DESTDIR)$(MANDIR)/man1/walklist.1 $(DESTDIR)$(MANDIR)/man3/gougelily.3 $(DESTDIR)$(DOCDIR)/NOTICE
 	rm -rf $(DESTDIR)$(PYTHONDIR)/gougelily
 
 FORCE:
 
 .PHONY: lib install uninstall FORCE
 .DELETE_ON_ERROR:
+.NOTPARALLEL:

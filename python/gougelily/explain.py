@@ -44,7 +44,6 @@ class Story:
         self.total = prod(layout.extents)
         rows = [list(row) for row in self.plan.strides]
         self.axes = Axes(list(self.plan.extents), rows, list(layout.sizes), [cutting.byte_strides(row, size) for row, size in zip(rows, layout.sizes)])
-        self.costs = self.parts.costs[: self.plan.rank]
         self.lines: list[str] = []
         self.blocks = self.told()
 
@@ -128,7 +127,7 @@ class Story:
         rows = [Row("axis", range(self.plan.rank)), Row("extent", axes.extents)]
         for k, (row, byte_row, ranks) in enumerate(zip(axes.strides, axes.bytes, cutting.plan_ranks(axes.strides, axes.sizes))):
             rows += [Row(f"stride of operand {k}", row), Row("  in bytes", byte_row), Row("  rank", ranks)]
-        self.say(*table([*rows, Row("cost", self.costs, "twice the least stride size; 1 if an operand does not move")]))
+        self.say(*table([*rows, Row("cost", self.parts.costs[: self.plan.rank], "twice the least stride size; 1 if an operand does not move")]))
         line, cache = machine.line, machine.cache
         self.head(f"Region: {line} x (floor(C / {line}) + 1) x M for each operand; C sums (extent - 1) x byte stride over byte strides below {line},")
         self.say("M multiplies the other extents")
@@ -178,7 +177,7 @@ class Story:
 
     def shortened(self, first: int, rows: list[list[int]]) -> list[int]:
         """The blocks of the axes from one on, with a line for each halving and one for the single steps."""
-        blocks, cost, cache = list(self.axes.extents[first:]), self.costs[first:], self.machine.cache
+        blocks, cost, cache = list(self.axes.extents[first:]), cutting.costs(self.axes.strides)[first:], self.machine.cache
         least = min(min(row) for row in rows)
         if least > cache:
             self.say(f"  The least byte stride from axis {first} on is {shown(least)}, above the cache's {shown(cache)}: these blocks become 1.")
