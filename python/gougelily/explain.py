@@ -34,7 +34,7 @@ class Axes:
     bytes: list[list[int]]  # the byte strides, a row for each operand
 
 
-class Story:
+class Explanation:
     """The lines of an explanation, and the blocks that its rules lead to."""
 
     def __init__(self, layout: Layout, machine: Machine) -> None:
@@ -241,10 +241,10 @@ def explain_layout(layout: Layout, machine: Machine = FIXED) -> str:
     >>> print(explain_layout(Layout((2, 3), (8,), ((1, 2),))).splitlines()[0])
     The layout: a pointwise loop (P), no operand chosen; cells: 6
     """
-    story = Story(layout, machine)
-    if story.blocks != list(story.plan.blocks):
-        raise AssertionError(f"the rules lead to blocks {story.blocks}, the library's plan has {list(story.plan.blocks)}")
-    return "\n".join(story.lines) + "\n"
+    told = Explanation(layout, machine)
+    if told.blocks != list(told.plan.blocks):
+        raise AssertionError(f"the rules lead to blocks {told.blocks}, the library's plan has {list(told.plan.blocks)}")
+    return "\n".join(told.lines) + "\n"
 
 
 def explain(text: str | bytes, machine: Machine = FIXED) -> str:

@@ -49,8 +49,11 @@ class Numbers(unittest.TestCase):
             told = explain_layout(layout(rng), rng.choice(MACHINES))
             met.update(title for title in TITLES if title in told)
         for path in sorted(LAYOUTS.glob("*.txt")):
-            told = explain(path.read_bytes())
+            told, listed = explain(path.read_bytes()), path.with_suffix(".out").read_text().splitlines()[-1]
             met.update(title for title in TITLES if title in told)
+            if listed.startswith("Z,"):
+                blocks, cells = map(int, listed[2:].split(","))
+                self.assertIn(f"  blocks of a walk: {blocks:,}, cells: {cells:,}\n", told)
         self.assertEqual([title for title in TITLES if not met[title]], [])
 
     def test_long_axes(self):
