@@ -69,7 +69,8 @@ install: lib target/bin/walklist
 	install -m 644 docs/man/walklist.1 $(DESTDIR)$(MANDIR)/man1
 	install -m 644 docs/man/gougelily.3 $(DESTDIR)$(MANDIR)/man3
 	install -m 644 NOTICE $(DESTDIR)$(DOCDIR)
-	to=$(DESTDIR)$(PYTHONDIR)/gougelily && install -d $$to/rules && install -m 644 python/gougelily/*.py python/gougelily/py.typed $(OUT)/libparts.so $$to && \
+	to=$(DESTDIR)$(PYTHONDIR)/gougelily && install -d $$to/rules && \
+	    install -m 644 python/gougelily/*.py python/gougelily/py.typed $(OUT)/libparts.so $$to && \
 	    install -m 644 python/gougelily/rules/*.py $$to/rules
 
 uninstall:

@@ -228,7 +228,7 @@ class Explanation:
             named = ", ".join(map(str, axis_numbers)) or "none"
             self.say(f"  An operand counts with the product of its blocks on axes: {named}")
         if fitted == blocks:
-            self.say(f"  The load is {shown(load)}" + (": the blocks stay." if load <= machine.live else "; no axis may be shortened: the blocks stay."))
+            self.say(f"  The load is {shown(load)}{'' if load <= machine.live else ', and no axis may be shortened'}: the blocks stay.")
             return blocks
         after = fitting.load(fitted, entering)
         self.say(*table([Row("axis", range(len(blocks))), Row("cut", [*blocks, "load", load]), Row("fitted", [*fitted, "load", after])]))
@@ -288,7 +288,8 @@ def reasons(layout: Layout, machine: Machine, row: int) -> Iterator[str]:
             if row == 6 and reach > most:
                 yield f"line {k + 3}: operand {k} reaches {shown(reach)} = {summed}; {shown(most)} is the most"
             elif row == 7 and size * (1 + reach) > most:
-                yield f"line {k + 3}: operand {k} spans {shown(size * (1 + reach))} = {shown(size)} x (1 + {summed or 0}) bytes; {shown(most)} are the most"
+                spanned = f"{shown(size * (1 + reach))} = {shown(size)} x (1 + {summed or 0}) bytes"
+                yield f"line {k + 3}: operand {k} spans {spanned}; {shown(most)} are the most"
     elif row == 24:
         yield f"the record is line {machine.line}, cache {machine.cache}, way {machine.way}, live {machine.live}"
     else:

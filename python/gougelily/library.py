@@ -44,7 +44,13 @@ FUNCTIONS: dict[str, list[Any]] = {
 class PlanMemory(ctypes.Structure):
     """gougelily_plan_t"""
 
-    _fields_ = [("rank", SIZE), ("operands", SIZE), ("extents", U64 * MAX_RANK), ("blocks", U64 * MAX_RANK), ("strides", I64 * (MAX_OPERANDS * MAX_RANK))]
+    _fields_ = [
+        ("rank", SIZE),
+        ("operands", SIZE),
+        ("extents", U64 * MAX_RANK),
+        ("blocks", U64 * MAX_RANK),
+        ("strides", I64 * (MAX_OPERANDS * MAX_RANK)),
+    ]
 
 
 class WalkMemory(ctypes.Structure):

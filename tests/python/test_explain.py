@@ -20,8 +20,8 @@ sys.path.insert(0, str(ROOT / "tools" / "draw"))
 import planning  # noqa: E402
 import reading  # noqa: E402
 
-TITLES = ("Loop order: by", "Blocks: full", "no cut.", "No cut.", "Cutting", "halved", "1 off", "kept whole", "become 1", "the rest stays whole", "Tiles are declined",
-          "Tiles are not declined", "L1 fit: not due", "fitted", "the blocks stay", "joined", "gone")
+TITLES = ("Loop order: by", "Blocks: full", "no cut.", "No cut.", "Cutting", "halved", "1 off", "kept whole", "become 1", "the rest stays whole",
+          "Tiles are declined", "Tiles are not declined", "L1 fit: not due", "fitted", "the blocks stay", "joined", "gone")
 
 
 def run(*words, text=b""):

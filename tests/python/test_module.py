@@ -80,9 +80,17 @@ class Texts(unittest.TestCase):
         self.assertGreater(outside, 1_000)
 
     def test_the_line_and_the_reason(self):
-        for text, line, word in (("", 1, "LF"), ("L,P,1,1,-\nE,4\nO,8,1", 3, "LF"), ("L,Q,1,1,-\nE,4\nO,8,1\n", 1, "'Q'"), ("L,P,2,1,-\nE,4\nO,8,1\n", 2, "2 are due"),
-                                 ("L,P,1,2,-\nE,4\nO,8,1\n", 4, "ends"), ("L,P,1,1,-\nE,4\nO,8,1\nO,8,1\n", 4, "too many"), ("L,P,1,1,-\nE,4\nO,8,-0\n", 3, "'-0'"),
-                                 ("L,P,1,1,-\nE,18446744073709551616\nO,8,1\n", 2, "outside"), ("x" * 16_385, 0, "16,384")):
+        for text, line, word in (
+            ("", 1, "LF"),
+            ("L,P,1,1,-\nE,4\nO,8,1", 3, "LF"),
+            ("L,Q,1,1,-\nE,4\nO,8,1\n", 1, "'Q'"),
+            ("L,P,2,1,-\nE,4\nO,8,1\n", 2, "2 are due"),
+            ("L,P,1,2,-\nE,4\nO,8,1\n", 4, "ends"),
+            ("L,P,1,1,-\nE,4\nO,8,1\nO,8,1\n", 4, "too many"),
+            ("L,P,1,1,-\nE,4\nO,8,-0\n", 3, "'-0'"),
+            ("L,P,1,1,-\nE,18446744073709551616\nO,8,1\n", 2, "outside"),
+            ("x" * 16_385, 0, "16,384"),
+        ):
             with self.assertRaises(NotInForm) as raised:
                 g.read_layout(text)
             self.assertEqual(raised.exception.line, line)
@@ -119,10 +127,15 @@ class Refusals(unittest.TestCase):
         refused(self, 10, walk.step)
 
     def test_numbers_outside_64_bits_are_not_cut(self):
-        for call in (lambda: g.plan_layout(g.Layout((2**64 + 2,), (8,), ((1,),))), lambda: g.plan_layout(g.Layout((2,), (8,), ((2**63,),))),
-                     lambda: g.plan_layout(g.Layout((2,), (8,), ((1,),), "P", 2**64)), lambda: g.Walk(g.Plan((2,), (2,), ((2**64 + 1,),))),
-                     lambda: g.Layout((-1,), (8,), ((1,),)).check(), lambda: g.plan_layout(g.Layout((2,), (8,), ((1,),)), g.Machine(2**64 + 64, 32_768, 4_096, 6))):
-            self.assertRaises(OverflowError, call)
+        for call, *arguments in (
+            (g.plan_layout, g.Layout((2**64 + 2,), (8,), ((1,),))),
+            (g.plan_layout, g.Layout((2,), (8,), ((2**63,),))),
+            (g.plan_layout, g.Layout((2,), (8,), ((1,),), "P", 2**64)),
+            (g.plan_layout, g.Layout((2,), (8,), ((1,),)), g.Machine(2**64 + 64, 32_768, 4_096, 6)),
+            (g.Walk, g.Plan((2,), (2,), ((2**64 + 1,),))),
+            (g.Layout((-1,), (8,), ((1,),)).check,),
+        ):
+            self.assertRaises(OverflowError, call, *arguments)
 
     def test_arguments_that_are_no_layout(self):
         for arguments in (((2,), (8,), ((1, 2),)), ((2,), (8, 8), ((1,),)), ((2,), (8,), ((1,),), "Q"), ((2,), (8,), ((1,),), "F")):
@@ -173,7 +186,8 @@ class Machines(unittest.TestCase):
             for index, kind in (("index0", "Instruction"), ("index1", "Data")):
                 folder = Path(name) / index
                 folder.mkdir()
-                for file, text in {"level": "1", "type": kind, "size": "48K", "coherency_line_size": "64", "ways_of_associativity": "12", **files}.items():
+                held = {"level": "1", "type": kind, "size": "48K", "coherency_line_size": "64", "ways_of_associativity": "12", **files}
+                for file, text in held.items():
                     (folder / file).write_text(text + "\n")
             return g.machine(Path(name))
 
@@ -190,8 +204,8 @@ class Machines(unittest.TestCase):
 
     def test_no_library(self):
         environment = {**os.environ, "GOUGELILY_LIBRARY": "/nowhere.so", "PYTHONPATH": str(ROOT / "python")}
-        ran = subprocess.run([sys.executable, "-B", "-c", "import gougelily; gougelily.version()"], env=environment, capture_output=True, text=True, check=False)
-        self.assertIn("make lib", ran.stderr)
+        command = [sys.executable, "-B", "-c", "import gougelily; gougelily.version()"]
+        self.assertIn("make lib", subprocess.run(command, env=environment, capture_output=True, text=True, check=False).stderr)
 
 
 if __name__ == "__main__":
