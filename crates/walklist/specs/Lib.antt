@@ -1,2 +1,3 @@
--- What the function that turns a text into the bytes printed leaves.
+-- What the function that turns a text into the bytes printed leaves, and when help is asked for.
+pub mod Asking
 pub mod Printing

@@ -3,6 +3,7 @@
 ghost use mathlib.Core.Path.{_≡_};
 ghost use lib.ListN.{length, replicate};
 ghost use Rattle.strided.specs.Text.{Prints};
+ghost use Rattle.walklist.specs.Asking.{Asks};
 ghost use Rattle.walklist.specs.Printing.{Received, Printing};
 use layout::magnitude;
 use libc::STDERR_FILENO;
@@ -120,7 +121,9 @@ fn print_help() {
 }
 
 // Whether an argument asks for help.
-fn is_help(word: &[u8]) -> bool {
+fn is_help(word: &[u8]) -> bool
+    ensures { λ r. ⌜ Asks (now (word .entry)) r ⌝ }
+{
     let help = b"--help";
     if word.len() != help.len() {
         return false;
