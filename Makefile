@@ -27,7 +27,7 @@ OUT = target/lib
 
 lib: $(OUT)/libgougelily.a $(OUT)/$(SHARED) $(OUT)/libparts.so $(OUT)/gougelily.pc
 
-$(PROVED)/lib%.a: $(SOURCES)
+$(PROVED)/lib%.a: $(filter-out crates/walklist/%,$(SOURCES))
 	rt staticlib $*
 	touch $@
 
