@@ -1,8 +1,10 @@
--- Laws of "The plan": cutting ends and may jump, regions and loads grow with the blocks, declining and the fit by the tests of a loop.
+-- Laws of "The plan": cutting ends, may jump and leaves no block below 1, regions and loads grow with the blocks, declining and the fit by the
+-- tests of a loop.
 pub mod Ranges
 pub mod Until
 pub mod Picks
 pub mod Steps
+pub mod Above
 pub mod Grow
 pub mod Jump
 pub mod Level

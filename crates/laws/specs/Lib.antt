@@ -9,6 +9,7 @@
 --   index finding there and back, at the entries                       Fuse/Entries       told-inverse
 --   the plan keeps each operand's reach (row 6)                        Fuse/Reach         plan-reach
 --   cutting: the counts never run out, blocks only shrink              Cut/Steps          halved-ends, lessened-small, shrunk-le
+--   cutting leaves every block at least 1                              Cut/Above          cutting-above
 --   many single steps may be one jump                                  Cut/Jump           jump
 --   from the score jumped to few single steps are left, one an axis    Cut/Level          few-left
 --   regions and loads grow with the blocks                             Cut/Grow           region-mono, load-mono
@@ -28,8 +29,10 @@
 --   a text has one listing at most; some text is in the form           Text/Planning, Text/Example  one-listing, example-in-form
 --   the text's figures: the cells are the layout's total               Text/Totals        walk-cells, planned-cells, walk-blocks
 --   a planned plan's walk begins at the starts 0                       Text/Begins        planned-begins
---   P and F with one chosen operand differ in blocks alone             Plan/Purposes      fit-finer, fit-alone, fit-unchosen
 --   an axis that nobody moves along is never cut                       Plan/Still         still-whole
+--   how good the L1 fit is, by itself and in the plans of P and F      Fit/Good, Fit/Plans  fit-good, fitted-above; plans-good
+--   where the load fits the fit changes nothing; fitting twice         Fit/Idle           idle, last-idle, untested, again
+--   P and F have one plan with other than two operands, or none chosen Plan/Purposes      fit-alone, fit-unchosen
 --   a plan's arrays have 64, 64 and 512 places                         Plan/Places        plan-extents, plan-blocks, plan-strides
 --   the text entry's answer: below 0, or within the lent bytes         Text/Answers       negated-below, lists-within
 pub mod Base
@@ -37,6 +40,7 @@ pub mod Refusals
 pub mod Order
 pub mod Fuse
 pub mod Cut
+pub mod Fit
 pub mod Walk
 pub mod Demand3
 pub mod Plan

@@ -60,6 +60,8 @@ pub data Figure : Type 0 where
   -- the same with another machine record than the fixed four
   planOn : Machine → List ℕ → List ℕ → List ℤ → Purpose → List ℕ → List ℕ → List ℤ → Figure
   refusedOn : Machine → List ℕ → List ℕ → List ℤ → Purpose → ℕ → Figure
+  -- the load of blocks on the axes of a plan: extents, sizes, strides, purpose; the blocks, and their load
+  loadIs : List ℕ → List ℕ → List ℤ → Purpose → List ℕ → ℕ → Figure
   -- index finding: extents, sizes, strides, purpose; the counters and the original index, told both ways
   indexIs : List ℕ → List ℕ → List ℤ → Purpose → List ℕ → List ℕ → Figure
   -- a walk of one operand to its end: extents, blocks, strides, start; the offsets and the lengths of its blocks
@@ -236,6 +238,27 @@ figures =
     (33 ∷ 32 ∷ []) (17 ∷ 29 ∷ []) (whole (0 ∷ 0 ∷ []))
     ∷ planIs (16 ∷ 16 ∷ 32 ∷ []) (0 ∷ 64 ∷ 8 ∷ []) (whole (0 ∷ 1 ∷ 3 ∷ 5 ∷ 32 ∷ 0 ∷ 8 ∷ 8 ∷ 0 ∷ [])) Pointwise
     (16 ∷ 32 ∷ 16 ∷ []) (15 ∷ 30 ∷ 16 ∷ []) (whole (1 ∷ 3 ∷ 0 ∷ []))
+    -- 64 to 66: how good the fit is (ask 14). Rows 9 and 8: the load of the model's blocks, of the fitted ones, and of one more
+    ∷ loadIs (64 ∷ 64 ∷ []) (8 ∷ 8 ∷ []) (whole (1 ∷ 64 ∷ 512 ∷ 1 ∷ [])) (Fold 0) (64 ∷ 32 ∷ []) 64
+    ∷ loadIs (64 ∷ 64 ∷ []) (8 ∷ 8 ∷ []) (whole (1 ∷ 64 ∷ 512 ∷ 1 ∷ [])) (Fold 0) (6 ∷ 32 ∷ []) 6
+    ∷ loadIs (64 ∷ 64 ∷ []) (8 ∷ 8 ∷ []) (whole (1 ∷ 64 ∷ 512 ∷ 1 ∷ [])) (Fold 0) (7 ∷ 32 ∷ []) 7
+    -- 67 to 70: the load stays above 6, and the one axis that may be shortened has block 1; on axis 1 the chosen stride is 0
+    ∷ planIs (16 ∷ 32 ∷ 3 ∷ []) (8 ∷ 8 ∷ []) (whole (64 ∷ 512 ∷ 0 ∷ 2048 ∷ 0 ∷ 0 ∷ [])) (Fold 1) (16 ∷ 32 ∷ 3 ∷ []) (16 ∷ 32 ∷ 3 ∷ []) (whole (64 ∷ 512 ∷ 0 ∷ []))
+    ∷ planIs (16 ∷ 32 ∷ 3 ∷ []) (8 ∷ 8 ∷ []) (whole (64 ∷ 512 ∷ 0 ∷ 2048 ∷ 0 ∷ 0 ∷ [])) (PointwiseInto 1) (16 ∷ 32 ∷ 3 ∷ []) (1 ∷ 32 ∷ 3 ∷ []) (whole (64 ∷ 512 ∷ 0 ∷ []))
+    ∷ loadIs (16 ∷ 32 ∷ 3 ∷ []) (8 ∷ 8 ∷ []) (whole (64 ∷ 512 ∷ 0 ∷ 2048 ∷ 0 ∷ 0 ∷ [])) (Fold 1) (16 ∷ 32 ∷ 3 ∷ []) 48
+    ∷ loadIs (16 ∷ 32 ∷ 3 ∷ []) (8 ∷ 8 ∷ []) (whole (64 ∷ 512 ∷ 0 ∷ 2048 ∷ 0 ∷ 0 ∷ [])) (Fold 1) (1 ∷ 32 ∷ 3 ∷ []) 33
+    -- 71 to 75: axes 2 and 1 are shortened, one after the other. One more on axis 2 is too many with axis 1 as in the model, and would fit
+    -- with axis 1 as fitted
+    ∷ planIs (2 ∷ 33 ∷ 4 ∷ 5 ∷ []) (8 ∷ 16 ∷ []) (whole (2048 ∷ 2048 ∷ 0 ∷ 4096 ∷ 1024 ∷ 2048 ∷ 2048 ∷ 0 ∷ [])) (Fold 1)
+    (2 ∷ 33 ∷ 4 ∷ 5 ∷ []) (2 ∷ 33 ∷ 4 ∷ 5 ∷ []) (whole (2048 ∷ 2048 ∷ 0 ∷ 4096 ∷ []))
+    ∷ planIs (2 ∷ 33 ∷ 4 ∷ 5 ∷ []) (8 ∷ 16 ∷ []) (whole (2048 ∷ 2048 ∷ 0 ∷ 4096 ∷ 1024 ∷ 2048 ∷ 2048 ∷ 0 ∷ [])) (PointwiseInto 1)
+    (2 ∷ 33 ∷ 4 ∷ 5 ∷ []) (2 ∷ 1 ∷ 1 ∷ 5 ∷ []) (whole (2048 ∷ 2048 ∷ 0 ∷ 4096 ∷ []))
+    ∷ loadIs (2 ∷ 33 ∷ 4 ∷ 5 ∷ []) (8 ∷ 16 ∷ []) (whole (2048 ∷ 2048 ∷ 0 ∷ 4096 ∷ 1024 ∷ 2048 ∷ 2048 ∷ 0 ∷ [])) (Fold 1) (2 ∷ 1 ∷ 1 ∷ 5 ∷ []) 4
+    ∷ loadIs (2 ∷ 33 ∷ 4 ∷ 5 ∷ []) (8 ∷ 16 ∷ []) (whole (2048 ∷ 2048 ∷ 0 ∷ 4096 ∷ 1024 ∷ 2048 ∷ 2048 ∷ 0 ∷ [])) (Fold 1) (2 ∷ 33 ∷ 2 ∷ 5 ∷ []) 198
+    ∷ loadIs (2 ∷ 33 ∷ 4 ∷ 5 ∷ []) (8 ∷ 16 ∷ []) (whole (2048 ∷ 2048 ∷ 0 ∷ 4096 ∷ 1024 ∷ 2048 ∷ 2048 ∷ 0 ∷ [])) (Fold 1) (2 ∷ 1 ∷ 2 ∷ 5 ∷ []) 6
+    -- 76 and 77: up to a total of 1,024 nothing is fitted, and the load is what it is
+    ∷ planIs (16 ∷ 16 ∷ []) (8 ∷ 8 ∷ []) (whole (1 ∷ 16 ∷ 512 ∷ 1 ∷ [])) (PointwiseInto 0) (16 ∷ 16 ∷ []) (16 ∷ 16 ∷ []) (whole (1 ∷ 16 ∷ []))
+    ∷ loadIs (16 ∷ 16 ∷ []) (8 ∷ 8 ∷ []) (whole (1 ∷ 16 ∷ 512 ∷ 1 ∷ [])) (Fold 0) (16 ∷ 16 ∷ []) 16
     ∷ []
 
 -- ---- what the definitions give
@@ -308,6 +331,9 @@ right (planIs es sizes ss u fs bs ts) = let a : Planned = planned fixedFour es s
 right (refusedIs es sizes ss u n) = let a : Planned = planned fixedFour es sizes ss u in refusedRight a n
 right (planOn mc es sizes ss u fs bs ts) = let a : Planned = planned mc es sizes ss u in planRight a (length sizes) fs bs ts
 right (refusedOn mc es sizes ss u n) = let a : Planned = planned mc es sizes ss u in refusedRight a n
+right (loadIs es sizes ss u bs n) =
+    let p : Plan = planned fixedFour es sizes ss u .plan in
+    eqb (load fixedFour (byteTable sizes (p .strides)) sizes (p .rank) bs) n
 right (indexIs es sizes ss u cs x) =
     let a : Told = toldOriginal es sizes ss u cs in
     let b : Told = toldPlan es sizes ss u x in

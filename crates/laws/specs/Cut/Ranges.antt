@@ -2,7 +2,7 @@
 -- whose test is known. The range from o on is written i - o, since a loop holds i. Assumes nothing.
 use mathlib.Core.Path.{_≡_, refl, sym, ap, ap₂, _∙_}
 use mathlib.Core.Logic.{_⊎_, ⊎-elim, inl, inr}
-use mathlib.Core.Bool.{Bool, true, false, cond}
+use mathlib.Core.Bool.{Bool, true, false, cond, false≢true}
 use Prim.Native.Nat.{ℕ, zero, suc, _+_, _-_, _*_, _<_, _≤_, min}
 use native.Mathlib.Decide.{decLe}
 use native.Mathlib.Nat.{eq-or-lt-of-le, le-of-eq, le-refl, add-le-add, mul-le-mul, sub-zero, zero-add, zero-mul, add-mul}
@@ -172,6 +172,41 @@ greatest-is t (suc n) v h p e f = ⊎-elim
     cond-false (t (suc n)) (suc n) (greatest t n) (f (suc n) q (le-refl (suc n)))
     ∙ greatest-is t n v (omega arith) p e (λ x a b. f x a (omega arith)))
     (eq-or-lt-of-le h)
+
+-- it is at most n, the test fails behind it, and holds at it where it holds anywhere from 1 on
+pub greatest-le : (t : ℕ → Bool) (n : ℕ) → greatest t n ≤ n
+unfolding greatest
+greatest-le t zero = le-refl 0
+greatest-le t (suc n) = go (t (suc n)) (greatest-le t n)
+  where
+    go : (b : Bool) → greatest t n ≤ n → cond b (suc n) (greatest t n) ≤ suc n
+    go true h = le-refl (suc n)
+    go false h = omega arith
+
+pub greatest-behind : (t : ℕ → Bool) (n x : ℕ) → greatest t n < x → x ≤ n → t x ≡ false
+unfolding greatest
+greatest-behind t zero x g h = absurd (omega arith)
+greatest-behind t (suc n) x g h = go (t (suc n)) refl g (λ (l : greatest t n < x) (k : x ≤ n). greatest-behind t n x l k)
+  where
+    go : (b : Bool) → t (suc n) ≡ b → cond b (suc n) (greatest t n) < x → (greatest t n < x → x ≤ n → t x ≡ false) → t x ≡ false
+    go true e l f = absurd (omega arith)
+    go false e l f = ⊎-elim
+        (λ (q : x ≡ suc n). ap t q ∙ e)
+        (λ (q : x < suc n). f l (omega arith))
+        (eq-or-lt-of-le h)
+
+pub greatest-holds : (t : ℕ → Bool) (n x : ℕ) → 1 ≤ x → x ≤ n → t x ≡ true → (t (greatest t n) ≡ true) × (x ≤ greatest t n)
+unfolding greatest
+greatest-holds t zero x p h q = absurd (omega arith)
+greatest-holds t (suc n) x p h q = go (t (suc n)) refl (λ (k : x ≤ n). greatest-holds t n x p k q)
+  where
+    go : (b : Bool) → t (suc n) ≡ b → (x ≤ n → (t (greatest t n) ≡ true) × (x ≤ greatest t n))
+        → (t (cond b (suc n) (greatest t n)) ≡ true) × (x ≤ cond b (suc n) (greatest t n))
+    go true e f = (e, h)
+    go false e f = ⊎-elim
+        (λ (r : x ≡ suc n). absurd (false≢true (sym e ∙ ap t (sym r) ∙ q)))
+        (λ (r : x < suc n). f (omega arith))
+        (eq-or-lt-of-le h)
 
 -- ---- two ranges
 

@@ -1,5 +1,5 @@
--- A step of `halving` or `lessening`: which block it shortens, that the tail has fewer cells after it, that scores still fit 64 bits, and
--- that the counts of `halved` and `lessened` never run out. Assumes nothing.
+-- A step of `halving` or `lessening`: which block it shortens, that the tail has fewer cells after it, that no block falls below 1, that
+-- scores still fit 64 bits, and that the counts of `halved` and `lessened` never run out. Assumes nothing.
 use mathlib.Core.Path.{_≡_, refl, sym, subst, subst⁻¹, ap, ap₂, _∙_}
 use mathlib.Core.List.{List}
 use mathlib.Core.Logic.{_⊎_, ⊎-elim, inl, inr}
@@ -11,7 +11,7 @@ use native.Mathlib.Nat.{mul-le-mul-right, le-of-eq, le-refl, le-trans, lt-of-le-
 use native.Mathlib.Decide.{ℕ-discrete}
 use lib.Dec.{ltb, leb}
 use lib.ListN.{getD, set, length, length-set}
-use lib.Seq.{getD-set-same, getD-set-other}
+use lib.Seq.{getD-set-same, getD-set-other, set-out}
 use borrow.Author.Tests.{le-leb, lt-leb, lt-ltb, le-ltb}
 use Rattle.strided.specs.Base.{sum}
 use Rattle.strided.specs.Region.{region}
@@ -52,10 +52,20 @@ cells-set b i v o (suc n) ho hn hl hv = ⊎-elim
     (eq-or-lt-of-le {n = i} {m = o + n} (omega arith))
 
 -- it makes no block greater
-set-le : (b : List ℕ) (i v j : ℕ) → i < length b → v ≤ getD b i 0 → getD (set b i v) j 0 ≤ getD b j 0
+pub set-le : (b : List ℕ) (i v j : ℕ) → i < length b → v ≤ getD b i 0 → getD (set b i v) j 0 ≤ getD b j 0
 set-le b i v j hl hv = elim (ℕ-discrete j i) [
   | yes e ↦ subst⁻¹ (λ (k : ℕ). getD (set b i v) k 0 ≤ getD b k 0) e (subst⁻¹ (λ (x : ℕ). x ≤ getD b i 0) (getD-set-same b i v 0 hl) hv)
   | no e ↦ le-of-eq (getD-set-other b i j v 0 e)
+]
+
+-- a block of 1 or more leaves every other such block so
+pub set-above : (b : List ℕ) (i v j : ℕ) → 1 ≤ v → 1 ≤ getD b j 0 → 1 ≤ getD (set b i v) j 0
+set-above b i v j h l = elim (ℕ-discrete j i) [
+  | yes e ↦ subst⁻¹ (λ (k : ℕ). 1 ≤ getD (set b i v) k 0) e (⊎-elim
+      (λ (o : length b ≤ i). subst⁻¹ (λ (c : List ℕ). 1 ≤ getD c i 0) (set-out b i v o) (subst (λ (k : ℕ). 1 ≤ getD b k 0) e l))
+      (λ (o : i < length b). omega (arith, getD-set-same b i v 0 o))
+      (le-or-lt (length b) i))
+  | no e ↦ omega (arith, getD-set-other b i j v 0 e)
 ]
 
 -- smaller blocks, smaller scores
@@ -73,14 +83,15 @@ cond-some : (t : Bool) (x : Option (List ℕ)) (b : List ℕ) → cond t x none 
 cond-some true x b e = e
 cond-some false x b e = absurd (let z : _≡_ {A = ℕ} 0 1 = cc in omega arith)
 
--- fewer cells, no block greater, as many places, and an axis that has no cost as it was
+-- fewer cells, no block greater, none below 1, as many places, and an axis that has no cost as it was
 pub record Shorter (costs : List ℕ) (o n : ℕ) (b b′ : List ℕ) : Type 0 where
   pub fewer : cells o n b′ < cells o n b
   pub less : (j : ℕ) → getD b′ j 0 ≤ getD b j 0
+  pub above : (j : ℕ) → 1 ≤ getD b j 0 → 1 ≤ getD b′ j 0
   pub long : length b′ ≡ length b
   pub still : (j : ℕ) → getD costs j 0 ≡ 0 → getD b′ j 0 ≡ getD b j 0
 
-module _ (f : ℕ → ℕ) (less : (x : ℕ) → 1 < x → f x < x) (costs : List ℕ) (o n : ℕ) (b b′ : List ℕ) where
+module _ (f : ℕ → ℕ) (less : (x : ℕ) → 1 < x → (f x < x) × (1 ≤ f x)) (costs : List ℕ) (o n : ℕ) (b b′ : List ℕ) where
   shorten-shorter : (p : Option ℕ) → ((i : ℕ) → p ≡ some i → Pickable b costs o n i) → shorten f b p ≡ some b′ → Shorter costs o n b b′
   shorten-shorter none q e = absurd (let z : _≡_ {A = ℕ} 0 1 = cc in omega arith)
   shorten-shorter (some i) q e =
@@ -89,8 +100,9 @@ module _ (f : ℕ → ℕ) (less : (x : ℕ) → 1 < x → f x < x) (costs : Lis
       let smaller = less (getD b i 0) (r .above) in
       subst (λ (l : List ℕ). Shorter costs o n b l) (some-inj (set b i (f (getD b i 0))) b′ e)
       (record {
-        fewer = cells-set b i (f (getD b i 0)) o n (r .from) (r .below) there smaller;
-        less = λ j. set-le b i (f (getD b i 0)) j there (omega arith);
+        fewer = cells-set b i (f (getD b i 0)) o n (r .from) (r .below) there (smaller .0);
+        less = λ j. set-le b i (f (getD b i 0)) j there (omega (arith, smaller .0));
+        above = λ j. set-above b i (f (getD b i 0)) j (smaller .1);
         long = length-set b i (f (getD b i 0));
         still = λ j z. getD-set-other b i j (f (getD b i 0)) 0 (λ e. absurd (let q : getD costs j 0 ≡ getD costs i 0 = ap (λ (k : ℕ). getD costs k 0) e in omega (arith, r .cost, q, z)));
       })
@@ -99,13 +111,13 @@ module _ (mc : Machine) (bytes : List ℕ) (operands : ℕ) (costs : List ℕ) (
   pub halving-shorter : (b b′ : List ℕ) → halving mc bytes operands costs o n b ≡ some b′ → Shorter costs o n b b′
   unfolding halving
   halving-shorter b b′ e =
-      shorten-shorter (λ x. (x + 1) / 2) (λ x h. omega arith) costs o n b b′ (greatestScore b costs o n) (λ i q. pick-is b costs o n i q)
+      shorten-shorter (λ x. (x + 1) / 2) (λ x h. (omega arith, omega arith)) costs o n b b′ (greatestScore b costs o n) (λ i q. pick-is b costs o n i q)
       (cond-some (leb (2 * mc .cache) (region mc bytes operands b o n)) (shorten (λ x. (x + 1) / 2) b (greatestScore b costs o n)) b′ e)
 
   pub lessening-shorter : (b b′ : List ℕ) → lessening mc bytes operands costs o n b ≡ some b′ → Shorter costs o n b b′
   unfolding lessening
   lessening-shorter b b′ e =
-      shorten-shorter (λ x. x - 1) (λ x h. omega arith) costs o n b b′ (greatestScore b costs o n) (λ i q. pick-is b costs o n i q)
+      shorten-shorter (λ x. x - 1) (λ x h. (omega arith, omega arith)) costs o n b b′ (greatestScore b costs o n) (λ i q. pick-is b costs o n i q)
       (cond-some (ltb (mc .cache) (region mc bytes operands b o n)) (shorten (λ x. x - 1) b (greatestScore b costs o n)) b′ e)
 
   pub halving-falls : (b b′ : List ℕ) → halving mc bytes operands costs o n b ≡ some b′ → cells o n b′ < cells o n b
@@ -160,17 +172,24 @@ module _ (mc : Machine) (bytes : List ℕ) (operands : ℕ) (costs : List ℕ) (
 -- ---- all the steps
 
 module _ (mc : Machine) (bytes : List ℕ) (operands : ℕ) (costs : List ℕ) (o n : ℕ) (b : List ℕ) where
-  -- blocks only shrink, there are as many of them, and an axis that has no cost stays as it is
+  -- blocks only shrink, none below 1, there are as many of them, and an axis that has no cost stays as it is
   record Shrunk (r : List ℕ) : Type 0 where
     less : (j : ℕ) → getD r j 0 ≤ getD b j 0
+    above : (j : ℕ) → 1 ≤ getD b j 0 → 1 ≤ getD r j 0
     long : length r ≡ length b
     still : (j : ℕ) → getD costs j 0 ≡ 0 → getD r j 0 ≡ getD b j 0
 
   start : Shrunk b
-  start = record { less = λ j. le-refl (getD b j 0); long = refl; still = λ j z. refl }
+  start = record { less = λ j. le-refl (getD b j 0); above = λ j l. l; long = refl; still = λ j z. refl }
 
   go-on : (r r′ : List ℕ) → Shorter costs o n r r′ → Shrunk r → Shrunk r′
-  go-on r r′ h s = record { less = λ j. le-trans (h .less j) (s .less j); long = h .long ∙ s .long; still = λ j z. h .still j z ∙ s .still j z }
+  go-on r r′ h s =
+      record {
+        less = λ j. le-trans (h .less j) (s .less j);
+        above = λ j l. h .above j (s .above j l);
+        long = h .long ∙ s .long;
+        still = λ j z. h .still j z ∙ s .still j z;
+      }
 
   halved-shrunk : Shrunk (halved mc bytes operands costs o n b)
   unfolding halved
@@ -189,6 +208,10 @@ module _ (mc : Machine) (bytes : List ℕ) (operands : ℕ) (costs : List ℕ) (
   pub shrunk-le : (j : ℕ) → getD (shrunk mc bytes operands costs o n b) j 0 ≤ getD b j 0
   unfolding shrunk
   shrunk-le = lessened-from (halved mc bytes operands costs o n b) halved-shrunk .less
+
+  pub shrunk-above : (j : ℕ) → 1 ≤ getD b j 0 → 1 ≤ getD (shrunk mc bytes operands costs o n b) j 0
+  unfolding shrunk
+  shrunk-above = lessened-from (halved mc bytes operands costs o n b) halved-shrunk .above
 
   pub shrunk-length : length (shrunk mc bytes operands costs o n b) ≡ length b
   unfolding shrunk
