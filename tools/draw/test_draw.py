@@ -1,4 +1,4 @@
-"""Tests of draw. They read the layouts and recorded listings of examples/layouts, so that no other program is run.
+"""Tests of draw and sets. They read the layouts and recorded listings of examples/layouts, so that no other program is run.
 
     python3 -B tools/draw/test_draw.py
 """
@@ -16,6 +16,7 @@ HERE = Path(__file__).resolve().parent
 sys.path.insert(0, str(HERE))
 
 from grid import edges, rectangles, straightened  # noqa: E402
+from live import LIVE, counted, lines_by_set, load  # noqa: E402
 from planning import PlanAxis, fuse, original_index, plan_axes, ranks, weights  # noqa: E402
 from reading import ListedAxis, Malformed, read_layout, read_listing  # noqa: E402
 from walking import MOST_CELLS, cells, walk_blocks  # noqa: E402
@@ -38,8 +39,8 @@ def served():
             yield path.stem, layout, read_listing(listing, len(layout.sizes), path.stem)
 
 
-def run_draw(*options, text=None):
-    ran = subprocess.run([sys.executable, "-B", str(HERE / "draw"), *options], input=text, capture_output=True, check=False)
+def run_draw(*options, text=None, program="draw"):
+    ran = subprocess.run([sys.executable, "-B", str(HERE / program), *options], input=text, capture_output=True, check=False)
     return ran.returncode, ran.stdout.decode(), ran.stderr.decode()
 
 
@@ -163,6 +164,59 @@ class Pictures(unittest.TestCase):
         self.assertEqual(straightened([(0, 0), (1, 0), (2, 0), (0, 1), (1, 1)]), [(0, 0), (2, 0), (0, 1), (1, 1)])
         self.assertEqual(straightened([(0, 0), (1, 0), (0, 0)]), [(0, 0), (1, 0), (0, 0)])
         self.assertEqual(straightened([(3, 4)]), [(3, 4)])
+
+
+class Sets(unittest.TestCase):
+    def both(self, name):
+        """The operands that count, and the blocks of the sum and of the copy."""
+        layout = read_layout((LAYOUTS / f"{name}_copy.txt").read_bytes())
+        listings = [read_listing((LAYOUTS / f"{name}_{what}.out").read_bytes(), 2) for what in ("sum", "copy")]
+        return counted(plan_axes(layout), layout.sizes), *([axis.block for axis in listing.axes] for listing in listings)
+
+    def test_loads(self):
+        for name, before, after in (("sets", 64, 6), ("frozen", 48, 33), ("fit", 28, 6)):
+            counting, model, fitted = self.both(name)
+            self.assertEqual((load(counting, model), load(counting, fitted)), (before, after))
+        counting, _, fitted = self.both("sets")
+        self.assertGreater(load(counting, [fitted[0] + 1, fitted[1]]), LIVE)
+
+    def test_the_fullest_set_has_as_many_lines_as_the_load(self):
+        for name in ("sets", "frozen", "fit"):
+            counting, *tiles = self.both(name)
+            for blocks in tiles:
+                sets = lines_by_set(counting, blocks)
+                self.assertEqual(max(map(len, sets.values())), load(counting, blocks))
+                self.assertEqual(sum(map(len, sets.values())), len({pair for lines in sets.values() for pair in lines}))
+
+    def test_an_operand_that_does_not_count(self):
+        axes = [PlanAxis(8, [1, 512], [0]), PlanAxis(8, [8, 1], [1])]
+        self.assertEqual([(one.operand, one.reuse, one.entering) for one in counted(axes, [8, 8])], [(1, 1, [0])])
+        self.assertEqual(counted(axes, [8, 0]), [])
+        self.assertEqual(counted([PlanAxis(8, [64, 64], [0])], [8, 8]), [])
+
+    def test_the_program(self):
+        layout, listing = str(LAYOUTS / "sets_copy.txt"), str(LAYOUTS / "sets_copy.out")
+        status, out, wrong = run_draw(layout, "--listing", listing, "--blocks", "7,32", program="sets")
+        self.assertEqual((status, wrong), (0, ""))
+        labels = [node.text for node in ElementTree.fromstring(out).iter("{http://www.w3.org/2000/svg}text")]
+        for label in ("blocks 6, 32", "load 6", "blocks 7, 32", "load 7"):
+            self.assertIn(label, labels)
+        self.assertEqual(run_draw("--help", program="sets")[0], 0)
+        for options, words in (
+            ((layout,), "no blocks"),
+            ((layout, "--blocks", "7"), "--blocks"),
+            ((layout, "--blocks", "0,1"), "--blocks"),
+            ((layout, "--blocks", "7,x"), "--blocks"),
+            ((layout, "--listing", str(LAYOUTS / "cut.out")), "by the rules"),
+            ((layout, "--listing", str(LAYOUTS / "none.out")), "none.out"),
+            ((str(LAYOUTS / "equal_weights.txt"), "--blocks", "1,1"), "3 operands"),
+        ):
+            with self.subTest(options):
+                status, out, wrong = run_draw(*options, program="sets")
+                self.assertEqual((status, out), (1, ""))
+                self.assertTrue(wrong.startswith("sets: "), wrong)
+                self.assertIn(words, wrong)
+                self.assertNotIn("Traceback", wrong)
 
 
 class Program(unittest.TestCase):
