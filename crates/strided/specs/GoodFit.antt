@@ -53,7 +53,7 @@ module _ (mc : Machine) (bytes sizes : List ℕ) (rank : ℕ) (chosenSize : ℕ 
   Achieved fit = (load mc bytes sizes rank fit ≤ mc .live) ⊎ ((i : ℕ) → Free i → getD fit i 0 ≡ 1)
 
   -- "If fitting shortened an axis, one more on it, with the axes inside it as in the model, exceeds the live lines." The axes outside it are
-  -- as fitted, or as in the model: both hold. With the axes inside it as fitted it may fit (row 69 of the figures)
+  -- as fitted, or as in the model: both hold. With the axes inside it as fitted it may fit (Figures)
   pub record Exceeds (model fit : List ℕ) (i : ℕ) : Type 0 where
     pub outsideFitted : mc .live < load mc bytes sizes rank (oneMore model fit i)
     pub outsideModel : mc .live < load mc bytes sizes rank (oneMoreAlone model fit i)
