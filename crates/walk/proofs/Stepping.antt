@@ -34,7 +34,7 @@ use Rattle.advance.specs.Axis.{widthsTo, startOf, startsTo}
 use Rattle.advance.specs.Carry.{Roomy, Tiled, AdvancedTo}
 use Rattle.advance.specs.Blocks.{lengthOf, firstsOf}
 use Rattle.advance.proofs.Plans.{C, O, length-is, firsts-are, first-start}
-use Rattle.advance.proofs.Plans as plans
+use Rattle.advance.specs.Sized as plans
 use Rattle.advance.proofs.Reached.{widths-pos, tiled, roomy, advanced}
 use Rattle.states.specs.Reaches.{Arrays, reaches}
 use Rattle.walk.specs.Lent.{Taken, overStep}
