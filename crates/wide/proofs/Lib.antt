@@ -1,0 +1,3 @@
+pub mod Words
+pub mod Columns
+pub mod Rests
