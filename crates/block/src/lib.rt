@@ -1,6 +1,7 @@
 // Cutting: block sizes whose region fits the cache, by the axis ranks, the byte strides and the costs of the plan's axes.
 use region::Tail;
 use region::memory_region;
+use region::wide;
 use shrink::shrink;
 use strided::Machine;
 ghost use mathlib.Core.Path.{_≡_};
@@ -66,7 +67,7 @@ fn keeps_first(tail: Tail, ranks: &[[u8; 64]; 8]) -> bool
 }
 
 // The least byte stride of operand k in the tail.
-fn least_byte_of(tail: Tail, bytes: &[u64; 512], k: usize) -> u64
+fn least_byte_of(tail: Tail, bytes: &[u32; 512], k: usize) -> u32
     requires { ⌜ Nonempty tail × (k < 8) ⌝ }
     ensures { λ r. ⌜ r ≡ least (byteAt (now (bytes .entry)) k) (tail .offset) (axes tail) ⌝ }
 {
@@ -84,7 +85,7 @@ fn least_byte_of(tail: Tail, bytes: &[u64; 512], k: usize) -> u64
 }
 
 // The least byte stride that any operand has in the tail.
-fn least_byte(tail: Tail, bytes: &[u64; 512]) -> u64
+fn least_byte(tail: Tail, bytes: &[u32; 512]) -> u32
     requires { ⌜ Nonempty tail ⌝ }
     ensures { λ r. ⌜ r ≡ leastByte (now (bytes .entry)) (tail .operands) (tail .offset) (axes tail) ⌝ }
 {
@@ -118,7 +119,7 @@ pub fn compute_blocks_at<'a>(
     machine: Machine,
     tail: Tail,
     blocks: &mut [u64; 64],
-    bytes: &'a [u64; 512],
+    bytes: &'a [u32; 512],
     costs: &'a [u64; 64],
     ranks: [[u8; 64]; 8],
 )
@@ -142,7 +143,7 @@ pub fn compute_blocks_at<'a>(
         compute_blocks_at(machine, rest, blocks, bytes, costs, ranks);
         return;
     }
-    if machine.cache < least_byte(tail, bytes) {
+    if machine.cache < wide(least_byte(tail, bytes)) {
         set_ones(tail, blocks);
         return;
     }

@@ -8,7 +8,7 @@ use layout::negated;
 use layout::purpose_of;
 use strided::Answer;
 
-// 0 if a layout can be planned for a purpose on an allowed machine: rows 1 to 7.
+// 0 if a layout can be planned for a purpose on an allowed machine: rows 1 to 6.
 #[no_mangle]
 pub extern "C" fn gougelily_check_layout<'a>(
     extents: &'a [u64],

@@ -1,4 +1,4 @@
-// Planning from C: rows 1 to 7 and 24, then the plan, made where the caller wants it.
+// Planning from C: rows 1 to 6 and 24, then the plan, made where the caller wants it.
 ghost use Rattle.strided.specs.Machine.{machineOf};
 ghost use Rattle.strided.specs.Plan.{planned};
 ghost use Rattle.strided.specs.Memory.{purposeOf, planAt, Plans};

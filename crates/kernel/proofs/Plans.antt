@@ -24,7 +24,7 @@ use Rattle.laws.specs.Base.Layouts.{total-nozero}
 use Rattle.laws.specs.Refusals.Accepted.{Accepted}
 use Rattle.laws.specs.Refusals.Zeros.{no-zero-test}
 use Rattle.laws.specs.Plan.Answers.{planned-served}
-use Rattle.laws.specs.Plan.Bounds.{plan-few, array-wide, array-small, array-near, array-narrow}
+use Rattle.laws.specs.Plan.Bounds.{plan-few, array-small, array-near}
 use Rattle.model.specs.Plannable.{Plannable}
 use Rattle.kernel.specs.Made.{Made}
 
@@ -47,11 +47,9 @@ module _ (es sizes : List ℕ) (ss : List ℤ) (u : Purpose) (a : Accepted es si
         few = a .few;
         places = length-padded 0 64 (extents axs);
         table = length-padded (pos 0) 512 (over (run 0 (length sizes)) (λ k. padded 64 (pos 0) (row k axs)));
-        wide = array-wide es sizes ss u a (omega arith);
         small = array-small es sizes ss u a (omega arith);
         there = a .there;
         near = array-near es sizes ss u a z;
-        narrow = array-narrow es sizes ss u a z;
       })))
 
   -- "Total at most 1,024: .. blocks are the full extents. Otherwise .. cut."

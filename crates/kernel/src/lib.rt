@@ -84,7 +84,7 @@ pub fn plan_into<'a>(
     rank
 }
 
-// THE PLAN of a layout for a purpose on a machine: rows 1 to 4, 24, 5 to 7, then the plan. A refusal has a plan of zeros beside it.
+// THE PLAN of a layout for a purpose on a machine: rows 1 to 4, 24, 5, 6, then the plan. A refusal has a plan of zeros beside it.
 pub fn plan<'a>(
     extents: &'a [u64],
     sizes: &'a [u64],

@@ -4,6 +4,7 @@
 // Which axes these are is worked out once: the way may be any multiple of a line, so that each remainder is a division.
 use region::sat_add;
 use region::sat_mul;
+use region::wide;
 use strided::Machine;
 ghost use mathlib.Core.Path.{_≡_};
 ghost use Prim.Native.Nat.{_<_, _≤_, min};
@@ -39,7 +40,7 @@ impl L1Sets {
     const TOP: u64 = 17;
 
     // The live axes of operand k, whose size is given. Their byte strides are a line at least, so none is 0.
-    fn live_axes(machine: Machine, bytes: &[u64; 512], size: u64, rank: usize, k: usize) -> LiveAxes
+    fn live_axes(machine: Machine, bytes: &[u32; 512], size: u64, rank: usize, k: usize) -> LiveAxes
         requires { ⌜ Allowed machine ⌝ }
         requires { ⌜ (k < 8) × (rank ≤ 64) ⌝ }
         ensures { λ r. ⌜ Live machine (now (bytes .entry)) size rank k r ⌝ }
@@ -54,7 +55,7 @@ impl L1Sets {
         let mut aliased: u64 = 0;
         let mut i = 0;
         while i < rank {
-            let s = bytes[k * 64 + i];
+            let s = wide(bytes[k * 64 + i]);
             if s < machine.line {
                 return LiveAxes {
                     count: i,
@@ -67,7 +68,7 @@ impl L1Sets {
         none
     }
 
-    fn of<'a>(machine: Machine, bytes: &'a [u64; 512], sizes: &'a [u64], rank: usize) -> L1Sets
+    fn of<'a>(machine: Machine, bytes: &'a [u32; 512], sizes: &'a [u64], rank: usize) -> L1Sets
         requires { ⌜ Allowed machine ⌝ }
         requires { ⌜ (rank ≤ 64) × (length (now sizes) ≡ 2) ⌝ }
         ensures { λ r. ⌜ Of machine (now (bytes .entry)) (now (sizes .entry)) rank r ⌝ }
@@ -149,7 +150,7 @@ impl L1Sets {
     pub fn fit<'a>(
         machine: Machine,
         blocks: &mut [u64; 64],
-        bytes: &'a [u64; 512],
+        bytes: &'a [u32; 512],
         sizes: &'a [u64],
         strides: &'a [i64; 512],
         chosen: usize,

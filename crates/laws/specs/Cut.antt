@@ -13,4 +13,5 @@ pub mod Saturate
 pub mod Rising
 pub mod Elements
 pub mod Same
+pub mod Image
 pub mod Tables

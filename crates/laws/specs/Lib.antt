@@ -15,6 +15,7 @@
 --   regions and loads grow with the blocks                             Cut/Grow           region-mono, load-mono
 --   scores fit 64 bits by row 6 alone                                  Cut/Tables         scores-fit
 --   declining axis by axis, in any order, and in elements              Cut/Rising, Cut/Elements  apart-each, passes-elements
+--   a number of 32 bits stands for a byte stride of any size           Cut/Image          cutting-exact, fitted-exact
 --   cover: each index is a cell of the blocks exactly once             Walk/Cover         met-once, met-within
 --   the Z figures: number of blocks, sum of their lengths              Walk/Totals        blocks-number, blocks-total, cells-total, plan-cells
 --   chain: the successor hands out the blocks in order                 Walk/Chain         chain
@@ -33,6 +34,7 @@
 --   how good the L1 fit is, by itself and in the plans of P and F      Fit/Good, Fit/Plans  fit-good, fitted-above; plans-good
 --   where the load fits the fit changes nothing; fitting twice         Fit/Idle           idle, last-idle, untested, again
 --   P and F have one plan with other than two operands, or none chosen Plan/Purposes      fit-alone, fit-unchosen
+--   layouts that were answered while row 7 was given keep their plans  Plan/Widened       plans-kept, widened
 --   a plan's arrays have 64, 64 and 512 places                         Plan/Places        plan-extents, plan-blocks, plan-strides
 --   the text entry's answer: below 0, or within the lent bytes         Text/Answers       negated-below, lists-within
 pub mod Base

@@ -1,9 +1,9 @@
 -- Laws of the rows' tests: on capped numbers, on zero extents, and where an operand's strides stand. Assumes nothing.
-use mathlib.Core.Path.{_≡_, refl, sym, ap, _∙_}
+use mathlib.Core.Path.{_≡_, refl, sym, _∙_}
 use mathlib.Core.Bool.{Bool, true, false}
 use mathlib.Core.List.{List}
-use Prim.Native.Nat.{ℕ, zero, suc, _+_, _*_, _^_, _≤_, _<_, min}
-use native.Mathlib.Nat.{mul-le-mul-right, zero-mul}
+use Prim.Native.Nat.{ℕ, suc, _+_, _*_, _^_, _≤_, _<_, min}
+use native.Mathlib.Nat.{mul-le-mul-right}
 use native.Mathlib.Numerals.{add-one}
 use native.Mathlib.Omega.{arith}
 use lib.Dec.{ltb}
@@ -12,7 +12,7 @@ use lib.ListN.{length, getD, drop}
 use lib.Seq.{drop-cons}
 use borrow.Author.Tests.{lt-ltb, le-ltb, ltb-true, ltb-false, eq-eqb, ne-eqb}
 use Rattle.strided.specs.Layout.{hasZero, reach, maxI}
-use Rattle.layout.specs.Laid.{rowAt, Laid, farAt, wideAt}
+use Rattle.layout.specs.Laid.{rowAt, Laid, farAt}
 
 -- a number and what 2^63 leaves of it are on the same side of 2^63 - 1
 pub far-same : (n r : ℕ) → r ≡ min n (2 ^ 63) → ltb maxI r ≡ ltb maxI n
@@ -22,31 +22,11 @@ far-same n r h = go (ltb maxI n) refl
     go true q = lt-ltb maxI r (omega (arith, ltb-true maxI n q))
     go false q = le-ltb maxI r (omega (arith, ltb-false maxI n q))
 
--- and so are the two times a size
-wide-same : (size n r : ℕ) → r ≡ min n (2 ^ 63) → ltb maxI (size * (1 + r)) ≡ ltb maxI (size * (1 + n))
-wide-same size n r h = go (ltb (2 ^ 63) n) refl size
-  where
-    both : (s : ℕ) → 1 ≤ s → 2 ^ 63 < n → ltb maxI (s * (1 + r)) ≡ ltb maxI (s * (1 + n))
-    both s p q =
-        let a : 1 * (1 + r) ≤ s * (1 + r) = mul-le-mul-right (1 + r) p in
-        let b : 1 * (1 + n) ≤ s * (1 + n) = mul-le-mul-right (1 + n) p in
-        lt-ltb maxI (s * (1 + r)) (omega arith) ∙ sym (lt-ltb maxI (s * (1 + n)) (omega arith))
-
-    go : (b : Bool) → ltb (2 ^ 63) n ≡ b → (s : ℕ) → ltb maxI (s * (1 + r)) ≡ ltb maxI (s * (1 + n))
-    go true q zero = ap (ltb maxI) (zero-mul (1 + r) ∙ sym (zero-mul (1 + n)))
-    go true q (suc s) = both (suc s) (omega arith) (ltb-true (2 ^ 63) n q)
-    go false q s =
-        let e : r ≡ n = omega (arith, ltb-false (2 ^ 63) n q) in
-        ap (λ (x : ℕ). ltb maxI (s * (1 + x))) e
-
 -- ---- operand k, whose reach the code has as r
 
 module _ (es : List ℕ) (ss : List ℤ) (pitch k r : ℕ) (is : r ≡ min (reach es (rowAt es ss pitch k)) (2 ^ 63)) where
   pub far-is : {b : Bool} → ltb maxI r ≡ b → farAt es (rowAt es ss pitch) k ≡ b
   far-is h = sym (far-same (reach es (rowAt es ss pitch k)) r is) ∙ h
-
-  pub wide-is : (sizes : List ℕ) {t b : Bool} → t ≡ ltb maxI (getD sizes k 0 * (1 + r)) → t ≡ b → wideAt es sizes (rowAt es ss pitch) k ≡ b
-  wide-is sizes p h = sym (wide-same (getD sizes k 0) (reach es (rowAt es ss pitch k)) r is) ∙ sym p ∙ h
 
 -- ---- zero extents, from axis i on
 

@@ -1,10 +1,10 @@
 -- Where the operands' strides stand: one after the other, or `pitch` places apart in a plan. Assumes nothing.
 use mathlib.Core.Bool.{Bool}
 use mathlib.Core.List.{List}
-use Prim.Native.Nat.{ℕ, _+_, _*_, _≤_}
+use Prim.Native.Nat.{ℕ, _*_, _≤_}
 use lib.Dec.{ltb}
 use lib.IntN.{ℤ}
-use lib.ListN.{length, getD, take, drop}
+use lib.ListN.{length, take, drop}
 use Rattle.strided.specs.Layout.{reach, maxI}
 
 -- operand k's strides, one for each extent. With the rank as pitch it is strided's strideRow, with 64 its planRow
@@ -16,9 +16,6 @@ pub record Laid (es : List ℕ) (ss : List ℤ) (pitch operands : ℕ) : Type 0 
   pub apart : length es ≤ pitch
   pub all : operands * pitch ≤ length ss
 
--- the tests that rows 6 and 7 make of operand k, whose strides are `row k`
+-- the test that row 6 makes of operand k, whose strides are `row k`
 abbrev pub farAt : List ℕ → (ℕ → List ℤ) → ℕ → Bool
 farAt es row k = ltb maxI (reach es (row k))
-
-abbrev pub wideAt : List ℕ → List ℕ → (ℕ → List ℤ) → ℕ → Bool
-wideAt es sizes row k = ltb maxI (getD sizes k 0 * (1 + reach es (row k)))

@@ -1,4 +1,4 @@
-// What a layout is refused for: rows 1 to 7 of the refusal table, with 24 among them where it is to be planned. Beside it what all later
+// What a layout is refused for: rows 1 to 6 of the refusal table, with 24 among them where it is to be planned. Beside it what all later
 // crates read off a layout: the size of a stride, the total, the reach, the lead, the purpose, and the number of a refusal.
 ghost use mathlib.Core.Path.{_≡_};
 ghost use Rattle.strided.specs.Layout.{lead};
@@ -14,7 +14,6 @@ use strided::Refusal;
 pub mod rows;
 pub mod sizes;
 
-pub use rows::bytes_over;
 pub use rows::chosen_missing;
 pub use rows::machine_allowed;
 pub use rows::operands_wrong;
@@ -40,7 +39,6 @@ pub fn number(refusal: Refusal) -> u64
         Refusal::Chosen => 4,
         Refusal::Total => 5,
         Refusal::Reach => 6,
-        Refusal::Bytes => 7,
         Refusal::StartCount => 8,
         Refusal::Offsets => 9,
         Refusal::State => 10,
@@ -109,7 +107,7 @@ pub fn check_counts<'a>(
     Answer::Served
 }
 
-// Rows 5 to 7. Rows 6 and 7 read the strides that row 3 counted.
+// Rows 5 and 6. Row 6 reads the strides that row 3 counted.
 fn check_spans<'a>(extents: &'a [u64], sizes: &'a [u64], strides: &'a [i64]) -> Answer
     requires { ⌜ Laid (now extents) (now strides) (length (now extents)) (length (now sizes)) ⌝ }
     ensures { λ r. ⌜ r ≡ answered (refusedBy (spanRows (now (extents .entry)) (now (sizes .entry)) (now (strides .entry)))) ⌝ }
@@ -122,13 +120,10 @@ fn check_spans<'a>(extents: &'a [u64], sizes: &'a [u64], strides: &'a [i64]) -> 
     if reach_over(extents, strides, rank, operands) {
         return Answer::Refused(Refusal::Reach);
     }
-    if bytes_over(extents, sizes, strides, rank) {
-        return Answer::Refused(Refusal::Bytes);
-    }
     Answer::Served
 }
 
-// Rows 1 to 7, the least number first: what index finding refuses a layout for, and the text.
+// Rows 1 to 6, the least number first: what index finding refuses a layout for, and the text.
 pub fn check_layout<'a>(
     extents: &'a [u64],
     sizes: &'a [u64],
@@ -144,7 +139,7 @@ pub fn check_layout<'a>(
     }
 }
 
-// Rows 1 to 4, 24, 5 to 7: what planning refuses.
+// Rows 1 to 4, 24, 5, 6: what planning refuses.
 pub fn check_planning<'a>(
     extents: &'a [u64],
     sizes: &'a [u64],

@@ -1,18 +1,17 @@
-// Rows 1 to 7 of the refusal table, each as a test. Rows 5 and 6 serve a walk's beginning too, so the operands' strides may stand further
+// Rows 1 to 6 and 24 of the refusal table, each as a test. Rows 5 and 6 serve a walk's beginning too, so the operands' strides may stand further
 // apart than the rank.
 ghost use mathlib.Core.Path.{_≡_};
 ghost use Prim.Native.Nat.{_+_, _*_, _%_, _^_, _≤_, _<_, min};
 ghost use lib.ListN.{length};
-ghost use lib.Dec.{ltb, leb, eqb};
+ghost use lib.Dec.{leb, eqb};
 ghost use mathlib.Core.Bool.{_&&_};
 ghost use Rattle.strided.specs.Machine.{lineAllowed, allowed};
 ghost use Rattle.strided.specs.Base.{some-of};
-ghost use Rattle.strided.specs.Layout.{reach, maxI};
-ghost use Rattle.strided.specs.Refusals.{row1, row2, row3, row4, row5, row6, row7};
-ghost use Rattle.layout.specs.Laid.{Laid, rowAt, farAt, wideAt};
+ghost use Rattle.strided.specs.Layout.{reach};
+ghost use Rattle.strided.specs.Refusals.{row1, row2, row3, row4, row5, row6};
+ghost use Rattle.layout.specs.Laid.{Laid, rowAt, farAt};
 use super::sizes::Total;
 use super::sizes::has_zero;
-use super::sizes::mul_cap;
 use super::sizes::reach_of;
 use super::sizes::total_len;
 use strided::MAX_OPERANDS;
@@ -147,43 +146,4 @@ pub fn reach_over<'a>(extents: &'a [u64], strides: &'a [i64], pitch: usize, oper
         return false;
     }
     some_far(extents, strides, pitch, operands)
-}
-
-// Whether size × (1 + reach) is above 2^63 - 1. A reach that stands for all above 2^63 - 1 gives the answer of each of them.
-fn too_wide(size: u64, reach: u64) -> bool
-    requires { ⌜ reach ≤ 2 ^ 63 ⌝ }
-    ensures { λ r. ⌜ r ≡ ltb maxI (size * (1 + reach)) ⌝ }
-{
-    9223372036854775807 < mul_cap(size, 1 + reach, 9223372036854775808)
-}
-
-// Whether some operand's size × (1 + reach) is above 2^63 - 1.
-fn some_wide<'a>(extents: &'a [u64], sizes: &'a [u64], strides: &'a [i64], pitch: usize) -> bool
-    requires { ⌜ Laid (now extents) (now strides) pitch (length (now sizes)) ⌝ }
-    ensures { λ r. ⌜ r ≡ some-of (wideAt (now (extents .entry)) (now (sizes .entry)) (rowAt (now (extents .entry)) (now (strides .entry)) pitch)) 0 (length (now (sizes .entry))) ⌝ }
-{
-    let mut k: usize = 0;
-    while k < sizes.len() {
-        if too_wide(sizes[k], reach_at(extents, strides, pitch, k)) {
-            return true;
-        }
-        k += 1;
-    }
-    false
-}
-
-// Row 7, with as many operands as sizes.
-pub fn bytes_over<'a>(
-    extents: &'a [u64],
-    sizes: &'a [u64],
-    strides: &'a [i64],
-    pitch: usize,
-) -> bool
-    requires { ⌜ Laid (now extents) (now strides) pitch (length (now sizes)) ⌝ }
-    ensures { λ r. ⌜ r ≡ row7 (now (extents .entry)) (now (sizes .entry)) (rowAt (now (extents .entry)) (now (strides .entry)) pitch) .applies ⌝ }
-{
-    if has_zero(extents) {
-        return false;
-    }
-    some_wide(extents, sizes, strides, pitch)
 }

@@ -1,5 +1,5 @@
 -- The cases of `cutBlocks`, by the tests of the code and over the table that the code makes: the exits, declining, the fit.
--- That the definition's table says the same is handed in as `same`. Assumes nothing.
+-- That it holds the images of the definition's table is handed in as `are`. Assumes nothing.
 use mathlib.Core.Path.{_≡_, refl, sym, ap, _∙_}
 use mathlib.Core.Bool.{Bool, true, false, cond, _||_}
 use mathlib.Core.List.{List}
@@ -19,7 +19,9 @@ use Rattle.strided.specs.Plan.{grows, fittedFor, cutBlocks}
 use Rattle.strided.specs.declared.Purpose.{Purpose}
 use Rattle.strided.specs.declared.Purpose.the-variants.{Pointwise, PointwiseInto, Fold}
 use Rattle.strided.specs.declared.Machine.{Machine}
-use Rattle.laws.specs.Cut.Same.{SameBytes, SameCosts, SameRanks, region-same, cutting-same, fitted-same}
+use Rattle.strided.specs.Machine.{Allowed}
+use Rattle.laws.specs.Cut.Same.{SameCosts, SameRanks}
+use Rattle.laws.specs.Cut.Image.{Images, region-exact, cutting-exact, fitted-exact}
 use Rattle.laws.specs.Cut.Tables.{strideSize}
 use Rattle.model.specs.Exits.{inOrder, exits, ruled}
 
@@ -61,7 +63,7 @@ module _ (mc : Machine) (bytes sizes es : List ℕ) (strides : List ℤ) (rank :
 -- ---- the whole
 
 module _ (mc : Machine) (sizes es : List ℕ) (strides : List ℤ) (rank : ℕ) (u : Purpose)
-    (bytes : List ℕ) (same : SameBytes (length sizes) rank bytes (byteTable sizes strides)) where
+    (allow : Allowed mc) (bytes : List ℕ) (are : Images mc (length sizes) rank bytes (byteTable sizes strides)) where
   true-table : List ℕ
   true-table = byteTable sizes strides
 
@@ -75,7 +77,7 @@ module _ (mc : Machine) (sizes es : List ℕ) (strides : List ℤ) (rank : ℕ) 
   unfolding exits true-table
   exits-is =
       ap (λ (r : ℕ). eqb rank 0 || (leb r (mc .cache) || every (grows sizes strides rank) 0 (length sizes)))
-      (region-same mc (length sizes) rank bytes (byteTable sizes strides) same es 0 rank (omega arith))
+      (region-exact mc allow (length sizes) rank bytes (byteTable sizes strides) are es 0 rank (omega arith))
 
   fit-is : (v : Purpose) (b : List ℕ) → fittedFor mc v bytes sizes strides rank b ≡ fittedFor mc v true-table sizes strides rank b
   unfolding true-table
@@ -86,7 +88,7 @@ module _ (mc : Machine) (sizes es : List ℕ) (strides : List ℤ) (rank : ℕ) 
       go : (t : Bool) → eqb (length sizes) 2 ≡ t
           → cond t (fitted mc bytes sizes rank (strideSize strides c) b) b ≡ cond t (fitted mc (byteTable sizes strides) sizes rank (strideSize strides c) b) b
       go true e =
-          fitted-same mc (length sizes) rank bytes (byteTable sizes strides) same (omega (arith, eqb-true (length sizes) 2 e)) sizes (strideSize strides c) b
+          fitted-exact mc allow (length sizes) rank bytes (byteTable sizes strides) are (omega (arith, eqb-true (length sizes) 2 e)) sizes (strideSize strides c) b
       go false e = refl
 
   pub whole-exits : exits mc bytes sizes es strides rank ≡ true → cutBlocks mc sizes es strides rank u ≡ es
@@ -98,8 +100,8 @@ module _ (mc : Machine) (sizes es : List ℕ) (strides : List ℤ) (rank : ℕ) 
       → cutting mc bytes (length sizes) cs ranks 0 rank es ≡ ruled mc sizes es strides rank
   unfolding ruled
   ruled-is cs even ranks ranked =
-      cutting-same mc (length sizes) rank bytes (byteTable sizes strides) same cs (costs strides (length sizes) rank) even
-      ranks (planRanks sizes strides rank) ranked rank 0 (omega arith) es
+      cutting-exact mc allow (length sizes) rank bytes (byteTable sizes strides) are cs (costs strides (length sizes) rank) even
+      ranks (planRanks sizes strides rank) ranked 0 rank (omega arith) es
 
   module _ (b : List ℕ) (is : b ≡ ruled mc sizes es strides rank) (on : exits mc bytes sizes es strides rank ≡ false) where
     declined-is : declined mc true-table sizes (length sizes) es rank (ruled mc sizes es strides rank) ≡ declined mc (byteTable sizes strides) sizes (length sizes) es rank b

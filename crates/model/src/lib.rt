@@ -1,5 +1,6 @@
 // The blocks of a plan whose total is above 1,024: the model's exits that keep every axis whole, cutting, declining, and the L1 fit of a
-// copy. Strides and byte strides stand in flat tables, operand k's for axis i at place k * 64 + i.
+// copy. Strides and byte strides stand in flat tables, operand k's for axis i at place k * 64 + i. A byte stride may have two words; the table
+// holds a number of 32 bits that no rule of cutting or fitting tells from it.
 use block::compute_blocks_at;
 use decline::declines_tiles;
 use fuse::compute_costs;
@@ -9,8 +10,9 @@ use region::Tail;
 use region::memory_region;
 use strided::Machine;
 use strided::Purpose;
+use wide::Wide;
 ghost use mathlib.Core.Path.{_≡_};
-ghost use Prim.Native.Nat.{_+_, _<_, _≤_};
+ghost use Prim.Native.Nat.{_+_, _*_, _<_, _≤_};
 ghost use lib.Dec.{leb};
 ghost use lib.ListN.{length, replicate};
 ghost use Rattle.strided.specs.Base.{every};
@@ -19,9 +21,10 @@ ghost use Rattle.strided.specs.Layout.{chosen};
 ghost use Rattle.strided.specs.Refusals.{missing};
 ghost use Rattle.strided.specs.Plan.{grows, fittedFor, cutBlocks};
 ghost use Rattle.strided.specs.Machine.{Allowed};
-ghost use Rattle.strided.specs.Region.{region};
+ghost use Rattle.strided.specs.Region.{byteTable, region};
 ghost use Rattle.strided.specs.declared.Purpose.the-variants.{Pointwise};
-ghost use Rattle.model.specs.Plannable.{Plannable, Products, Bytes};
+ghost use Rattle.laws.specs.Cut.Image.{image, Images};
+ghost use Rattle.model.specs.Plannable.{Plannable};
 ghost use Rattle.model.specs.ByteRows.{byteRows};
 ghost use Rattle.model.specs.Exits.{increasing, inOrder, ruled};
 
@@ -29,43 +32,65 @@ mod ranks;
 
 use ranks::plan_ranks_into;
 
+// What the table holds for a byte stride: itself if it has 32 bits; else, counted from the first multiple of the way above the cache, what it
+// leaves by the way.
+fn byte_image(machine: Machine, stride: u64, size: u64) -> u32
+    requires { ⌜ Allowed machine ⌝ }
+    ensures { λ r. ⌜ r ≡ image machine (stride * size) ⌝ }
+{
+    let bytes = Wide::product(stride, size);
+    let limit = Wide {
+        high: 0,
+        low: 4294967296,
+    };
+    if bytes.below(limit) {
+        return bytes.low as u32;
+    }
+    let beyond = (machine.cache / machine.way + 1) * machine.way;
+    (beyond + bytes.remainder(machine.way)) as u32
+}
+
 // Operand k's byte strides, put into the table behind those of the operands before it: stride size times element size.
 fn put_bytes<'a>(
-    table: &mut [u64; 512],
+    machine: Machine,
+    table: &mut [u32; 512],
     sizes: &'a [u64],
     strides: &'a [i64; 512],
     rank: usize,
     k: usize,
 )
-    requires { ⌜ ((k < length (now sizes)) × ((k < 8) × (rank ≤ 64))) × Products (now sizes) (now strides) rank ⌝ }
-    requires { ⌜ now table ≡ byteRows (now sizes) (now strides) rank k ⌝ }
-    ensures { λ _. ⌜ now (table .exit) ≡ byteRows (now (sizes .entry)) (now (strides .entry)) rank (k + 1) ⌝ }
+    requires { ⌜ Allowed machine ⌝ }
+    requires { ⌜ (k < length (now sizes)) × ((k < 8) × (rank ≤ 64)) ⌝ }
+    requires { ⌜ now table ≡ byteRows machine (now sizes) (now strides) rank k ⌝ }
+    ensures { λ _. ⌜ now (table .exit) ≡ byteRows machine (now (sizes .entry)) (now (strides .entry)) rank (k + 1) ⌝ }
 {
     let size = sizes[k];
     let from = k * 64;
     let mut i: usize = 0;
     while i < rank {
         let t = strides[from + i];
-        table[from + i] = magnitude(t) * size;
+        table[from + i] = byte_image(machine, magnitude(t), size);
         i += 1;
     }
 }
 
 // The byte strides of every operand, written into a table of zeros.
 fn byte_table_into<'a>(
+    machine: Machine,
     sizes: &'a [u64],
     strides: &'a [i64; 512],
     rank: usize,
-    table: &mut [u64; 512],
+    table: &mut [u32; 512],
 )
-    requires { ⌜ ((length (now sizes) ≤ 8) × (rank ≤ 64)) × Products (now sizes) (now strides) rank ⌝ }
+    requires { ⌜ Allowed machine ⌝ }
+    requires { ⌜ (length (now sizes) ≤ 8) × (rank ≤ 64) ⌝ }
     requires { ⌜ now table ≡ replicate 512 0 ⌝ }
-    ensures { λ _. ⌜ now (table .exit) ≡ byteRows (now (sizes .entry)) (now (strides .entry)) rank (length (now (sizes .entry))) ⌝ }
+    ensures { λ _. ⌜ now (table .exit) ≡ byteRows machine (now (sizes .entry)) (now (strides .entry)) rank (length (now (sizes .entry))) ⌝ }
 {
     let operands = sizes.len();
     let mut k: usize = 0;
     while k < operands {
-        put_bytes(table, sizes, strides, rank, k);
+        put_bytes(machine, table, sizes, strides, rank, k);
         k += 1;
     }
 }
@@ -128,7 +153,7 @@ fn keeps_order<'a>(sizes: &'a [u64], strides: &'a [i64; 512], rank: usize) -> bo
 fn fits_whole<'a>(
     machine: Machine,
     extents: &'a [u64; 64],
-    bytes: &'a [u64; 512],
+    bytes: &'a [u32; 512],
     operands: usize,
     rank: usize,
 ) -> bool
@@ -149,7 +174,7 @@ fn fits_whole<'a>(
 fn fit_for<'a>(
     machine: Machine,
     blocks: &mut [u64; 64],
-    bytes: &'a [u64; 512],
+    bytes: &'a [u32; 512],
     sizes: &'a [u64],
     strides: &'a [i64; 512],
     rank: usize,
@@ -175,13 +200,13 @@ fn cut_axes<'a>(
     machine: Machine,
     sizes: &'a [u64],
     strides: &'a [i64; 512],
-    bytes: &'a [u64; 512],
+    bytes: &'a [u32; 512],
     rank: usize,
     blocks: &mut [u64; 64],
 )
     requires { ⌜ Allowed machine ⌝ }
     requires { ⌜ Plannable (now sizes) (now blocks) (now strides) rank Pointwise ⌝ }
-    requires { ⌜ Bytes (now sizes) (now strides) rank (now bytes) ⌝ }
+    requires { ⌜ Images machine (length (now sizes)) rank (now bytes) (byteTable (now sizes) (now strides)) ⌝ }
     ensures { λ _. ⌜ now (blocks .exit) ≡ ruled machine (now (sizes .entry)) (now (blocks .entry)) (now (strides .entry)) rank ⌝ }
 {
     let costs = compute_costs(strides, sizes.len(), rank);
@@ -213,8 +238,8 @@ pub fn block_sizes<'a>(
         *blocks = *es;
         return;
     }
-    let mut bytes = [0u64; 512];
-    byte_table_into(sizes, table, rank, &mut bytes);
+    let mut bytes = [0u32; 512];
+    byte_table_into(machine, sizes, table, rank, &mut bytes);
     if fits_whole(machine, es, &bytes, sizes.len(), rank) {
         *blocks = *es;
         return;

@@ -35,7 +35,7 @@ use strided::Purpose;
 pub mod plans;
 pub mod steps;
 
-// Rows 1 to 7.
+// Rows 1 to 6.
 #[no_mangle]
 pub extern "C" fn parts_check<'a>(
     extents: &'a [u64],

@@ -10,7 +10,7 @@ use layout::purpose_of;
 use strided::Answer;
 use strided::Machine;
 
-// The plan of a layout, refused by rows 1 to 7 and 24.
+// The plan of a layout, refused by rows 1 to 6 and 24.
 #[no_mangle]
 pub extern "C" fn parts_plan<'a>(
     extents: &'a [u64],

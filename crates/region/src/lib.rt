@@ -18,6 +18,13 @@ pub struct Tail {
     pub rank: usize,
 }
 
+// A number of 32 bits, in 64.
+pub fn wide(x: u32) -> u64
+    ensures { λ r. ⌜ r ≡ x ⌝ }
+{
+    x as u64
+}
+
 // A sum and a product, saturated at `top`, which is at most 2,097,153: one above twice the largest cache.
 pub fn sat_add(a: u64, b: u64, top: u64) -> u64
     requires { ⌜ top ≤ 2097153 ⌝ }
@@ -65,7 +72,7 @@ fn region_of<'a>(
     machine: Machine,
     tail: Tail,
     blocks: &'a [u64; 64],
-    bytes: &'a [u64; 512],
+    bytes: &'a [u32; 512],
     k: usize,
 ) -> u64
     requires { ⌜ Allowed machine ⌝ }
@@ -78,7 +85,7 @@ fn region_of<'a>(
     let mut m: u64 = 1;
     let mut i = tail.offset;
     while i < tail.rank {
-        let s = bytes[from + i];
+        let s = wide(bytes[from + i]);
         let b = blocks[i];
         if s < machine.line {
             c += near_part(s, b, top);
@@ -95,7 +102,7 @@ pub fn memory_region<'a>(
     machine: Machine,
     tail: Tail,
     blocks: &'a [u64; 64],
-    bytes: &'a [u64; 512],
+    bytes: &'a [u32; 512],
 ) -> u64
     requires { ⌜ Allowed machine ⌝ }
     requires { ⌜ Within tail ⌝ }

@@ -54,7 +54,7 @@ fn halve<'a>(
     machine: Machine,
     tail: Tail,
     blocks: &mut [u64; 64],
-    bytes: &'a [u64; 512],
+    bytes: &'a [u32; 512],
     costs: &'a [u64; 64],
 )
     requires { ⌜ Allowed machine ⌝ }
@@ -77,7 +77,7 @@ fn lessen<'a>(
     machine: Machine,
     tail: Tail,
     blocks: &mut [u64; 64],
-    bytes: &'a [u64; 512],
+    bytes: &'a [u32; 512],
     costs: &'a [u64; 64],
 )
     requires { ⌜ Allowed machine ⌝ }
@@ -136,7 +136,7 @@ fn level<'a>(
     machine: Machine,
     tail: Tail,
     blocks: &'a [u64; 64],
-    bytes: &'a [u64; 512],
+    bytes: &'a [u32; 512],
     costs: &'a [u64; 64],
 ) -> u64
     requires { ⌜ Allowed machine ⌝ }
@@ -164,7 +164,7 @@ fn lessen_far<'a>(
     machine: Machine,
     tail: Tail,
     blocks: &mut [u64; 64],
-    bytes: &'a [u64; 512],
+    bytes: &'a [u32; 512],
     costs: &'a [u64; 64],
 )
     requires { ⌜ Allowed machine ⌝ }
@@ -186,7 +186,7 @@ pub fn shrink<'a>(
     machine: Machine,
     tail: Tail,
     blocks: &mut [u64; 64],
-    bytes: &'a [u64; 512],
+    bytes: &'a [u32; 512],
     costs: &'a [u64; 64],
 )
     requires { ⌜ Allowed machine ⌝ }

@@ -164,10 +164,10 @@ figures =
     (4 ∷ 64 ∷ 5 ∷ 2 ∷ []) (4 ∷ 1 ∷ 5 ∷ 2 ∷ []) (whole (128 ∷ 256 ∷ 2 ∷ 0 ∷ []))
     ∷ planIs (128 ∷ 64 ∷ 8 ∷ 4 ∷ []) (64 ∷ 4 ∷ []) (whole (0 ∷ 16 ∷ 1024 ∷ 128 ∷ 0 ∷ 512 ∷ 0 ∷ 4096 ∷ [])) (PointwiseInto 1)
     (64 ∷ 4 ∷ 8 ∷ 128 ∷ []) (64 ∷ 1 ∷ 8 ∷ 128 ∷ []) (whole (16 ∷ 128 ∷ 1024 ∷ 0 ∷ []))
-    -- 25 to 27: the refusal table's own cases of rows 5, 6 and 7; 28: a zero extent passes them
+    -- 25 and 26: the refusal table's own cases of rows 5 and 6; 27: that of row 7 has a plan; 28: a zero extent passes them
     ∷ refusedIs (2 ^ 32 ∷ 2 ^ 32 ∷ []) (1 ∷ []) (whole (0 ∷ 0 ∷ [])) Pointwise 5
     ∷ refusedIs (3 ∷ []) (1 ∷ []) (whole (2 ^ 62 ∷ [])) Pointwise 6
-    ∷ refusedIs (2 ∷ []) (8 ∷ []) (whole (2 ^ 60 ∷ [])) Pointwise 7
+    ∷ planIs (2 ∷ []) (8 ∷ []) (whole (2 ^ 60 ∷ [])) Pointwise (2 ∷ []) (2 ∷ []) (whole (2 ^ 60 ∷ []))
     ∷ planIs (0 ∷ 3 ∷ []) (8 ∷ []) (whole (1 ∷ 2 ^ 62 ∷ [])) Pointwise (0 ∷ 3 ∷ []) (0 ∷ 3 ∷ []) (whole (1 ∷ 2 ^ 62 ∷ []))
     -- 29 and 30: on a fused axis the one that came first in the order of fusing is quickest: as given, and in loop order
     ∷ indexIs (2 ∷ 3 ∷ 4 ∷ []) (8 ∷ []) (whole (1 ∷ 2 ∷ 6 ∷ [])) Pointwise (11 ∷ []) (1 ∷ 2 ∷ 1 ∷ [])
@@ -187,14 +187,14 @@ figures =
     ∷ textIs (saying (Fold 0) (0 ∷ []) (record { size = 1; strides = negsuc 2 ∷ [] } ∷ [])) 99
     (76 ∷ 44 ∷ 70 ∷ 44 ∷ 49 ∷ 44 ∷ 49 ∷ 44 ∷ 48 ∷ 10 ∷ 69 ∷ 44 ∷ 48 ∷ 10 ∷ 79 ∷ 44 ∷ 49 ∷ 44 ∷ 45 ∷ 51 ∷ 10 ∷ [])
     (75 ∷ 44 ∷ 49 ∷ 10 ∷ 65 ∷ 44 ∷ 48 ∷ 44 ∷ 48 ∷ 44 ∷ 48 ∷ 44 ∷ 45 ∷ 51 ∷ 10 ∷ 90 ∷ 44 ∷ 48 ∷ 44 ∷ 48 ∷ 10 ∷ [])
-    -- 38: a total of 1,048,577 is refused with 13, and with 7 where row 7 applies too (39)
+    -- 38: a total of 1,048,577 is refused with 13, and with 6 where row 6 applies too (39)
     ∷ textIs (saying Pointwise (1048577 ∷ []) (record { size = 1; strides = pos 1 ∷ [] } ∷ [])) 99
     (76 ∷ 44 ∷ 80 ∷ 44 ∷ 49 ∷ 44 ∷ 49 ∷ 44 ∷ 45 ∷ 10 ∷ 69 ∷ 44 ∷ 49 ∷ 48 ∷ 52 ∷ 56 ∷ 53 ∷ 55 ∷ 55 ∷ 10 ∷ 79 ∷ 44 ∷ 49 ∷ 44 ∷ 49 ∷ 10 ∷ [])
     (82 ∷ 44 ∷ 49 ∷ 51 ∷ 10 ∷ [])
-    ∷ textIs (saying Pointwise (2 ^ 62 ∷ []) (record { size = 2; strides = pos 1 ∷ [] } ∷ [])) 99
+    ∷ textIs (saying Pointwise (2 ^ 62 ∷ []) (record { size = 2; strides = pos 3 ∷ [] } ∷ [])) 99
     (76 ∷ 44 ∷ 80 ∷ 44 ∷ 49 ∷ 44 ∷ 49 ∷ 44 ∷ 45 ∷ 10
-    ∷ 69 ∷ 44 ∷ 52 ∷ 54 ∷ 49 ∷ 49 ∷ 54 ∷ 56 ∷ 54 ∷ 48 ∷ 49 ∷ 56 ∷ 52 ∷ 50 ∷ 55 ∷ 51 ∷ 56 ∷ 55 ∷ 57 ∷ 48 ∷ 52 ∷ 10 ∷ 79 ∷ 44 ∷ 50 ∷ 44 ∷ 49 ∷ 10 ∷ [])
-    (82 ∷ 44 ∷ 55 ∷ 10 ∷ [])
+    ∷ 69 ∷ 44 ∷ 52 ∷ 54 ∷ 49 ∷ 49 ∷ 54 ∷ 56 ∷ 54 ∷ 48 ∷ 49 ∷ 56 ∷ 52 ∷ 50 ∷ 55 ∷ 51 ∷ 56 ∷ 55 ∷ 57 ∷ 48 ∷ 52 ∷ 10 ∷ 79 ∷ 44 ∷ 50 ∷ 44 ∷ 51 ∷ 10 ∷ [])
+    (82 ∷ 44 ∷ 54 ∷ 10 ∷ [])
     -- 40 to 42: walks 10 and 11 in one call and in three, the last of which finds the walk ended; and the text's example in two, two operands a block
     ∷ callsAre (planOf (5 ∷ []) (2 ∷ []) (whole (3 ∷ []))) (pos 10 ∷ []) (4 ∷ []) (3 ∷ []) (2 ∷ 2 ∷ 1 ∷ 9 ∷ []) (whole (10 ∷ 16 ∷ 22 ∷ 9 ∷ []))
     ∷ callsAre (planOf (3 ∷ 3 ∷ []) (2 ∷ 2 ∷ []) (whole (1 ∷ 10 ∷ []))) (pos 0 ∷ []) (4 ∷ 3 ∷ 1 ∷ []) (4 ∷ 2 ∷ 0 ∷ [])
@@ -259,6 +259,10 @@ figures =
     -- 76 and 77: up to a total of 1,024 nothing is fitted, and the load is what it is
     ∷ planIs (16 ∷ 16 ∷ []) (8 ∷ 8 ∷ []) (whole (1 ∷ 16 ∷ 512 ∷ 1 ∷ [])) (PointwiseInto 0) (16 ∷ 16 ∷ []) (16 ∷ 16 ∷ []) (whole (1 ∷ 16 ∷ []))
     ∷ loadIs (16 ∷ 16 ∷ []) (8 ∷ 8 ∷ []) (whole (1 ∷ 16 ∷ 512 ∷ 1 ∷ [])) (Fold 0) (16 ∷ 16 ∷ []) 16
+    -- 78 and 79: byte strides of two words, ask 6: 2 ^ 64 is not below a line; and the remainder by a way that divides no power of two
+    ∷ planIs (64 ∷ 33 ∷ []) (1 ∷ 2 ^ 40 ∷ []) (whole (2 ∷ 1 ∷ 1 ∷ 2 ^ 24 ∷ [])) (PointwiseInto 0) (33 ∷ 64 ∷ []) (17 ∷ 30 ∷ []) (whole (1 ∷ 2 ∷ []))
+    ∷ planOn (machineOf 32 8192 96 1) (31 ∷ 64 ∷ 16 ∷ []) (63 ∷ 1 ∷ []) (whole (1 ∷ 0 ∷ 576460752303423424 ∷ 2 ∷ 64 ∷ 1 ∷ [])) (PointwiseInto 0)
+    (31 ∷ 16 ∷ 64 ∷ []) (14 ∷ 1 ∷ 28 ∷ []) (whole (1 ∷ 576460752303423424 ∷ 0 ∷ []))
     ∷ []
 
 -- ---- what the definitions give

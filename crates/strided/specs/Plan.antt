@@ -75,6 +75,6 @@ abbrev pub plannedOr : Option Refusal → Plan → Planned
 plannedOr none p = record { answer = Served; plan = p }
 plannedOr (some r) p = record { answer = Refused r; plan = noPlan }
 
--- PLANNING: rows 1 to 4, 24, 5 to 7, else the plan: "layout, purpose and record alone fix the plan"
+-- PLANNING: rows 1 to 4, 24, 5, 6, else the plan: "layout, purpose and record alone fix the plan"
 unfoldable pub planned : Machine → List ℕ → List ℕ → List ℤ → Purpose → Planned
 planned mc es sizes ss u = plannedOr (planningRefused mc es sizes ss u) (planFrom mc es sizes (planAxes es (length sizes) ss u) u)

@@ -12,14 +12,14 @@ use lib.ListN.{length, getD}
 use Rattle.strided.specs.declared.Machine.{Machine}
 use Rattle.strided.specs.declared.Purpose.{Purpose}
 use Rattle.strided.specs.declared.Refusal.{Refusal}
-use Rattle.strided.specs.declared.Refusal.the-variants.{Rank, Operands, StrideCount, Chosen, Total, Reach, Bytes, StartCount, Offsets, State, Index, Form, TextTotal, Room, Record}
+use Rattle.strided.specs.declared.Refusal.the-variants.{Rank, Operands, StrideCount, Chosen, Total, Reach, StartCount, Offsets, State, Index, Form, TextTotal, Room, Record}
 use Rattle.strided.specs.declared.Answer.{Answer}
 use Rattle.strided.specs.declared.Answer.the-variants.{Served, Refused}
 use Rattle.strided.specs.Base.{some-of}
 use Rattle.strided.specs.Machine.{allowed}
 use Rattle.strided.specs.Layout.{strideRow, chosen, total, hasZero, Within, within, dot, reach, reachDown, inI64, maxU, maxI}
 
--- "Where an answer is an enum, a definition gives this paper's number"
+-- "Where an answer is an enum, a definition gives this paper's number"; "7 is given no longer"
 abbrev pub number : Refusal → ℕ
 number Rank = 1
 number Operands = 2
@@ -27,7 +27,6 @@ number StrideCount = 3
 number Chosen = 4
 number Total = 5
 number Reach = 6
-number Bytes = 7
 number StartCount = 8
 number Offsets = 9
 number State = 10
@@ -47,7 +46,7 @@ pub record Row : Type 0 where
   pub refusal : Refusal
 
 -- "the least number wins": the rows of an entry stand in the order of their numbers, and the first that applies refuses. "except that 12
--- comes first and 13 follows 7": so they stand in the text's list. 24 stands "after 4". specs/Rows has the numbers of every entry
+-- comes first", and "13 then follows 6": so they stand in the text's list. 24 stands "after 4". specs/Rows has the numbers of every entry
 abbrev pub refusedBy : List Row → Option Refusal
 refusedBy [] = none
 refusedBy (r ∷ rs) = cond (r .applies) (some (r .refusal)) (refusedBy rs)
@@ -81,18 +80,13 @@ row4 operands u = record { applies = missing operands (chosen u); refusal = Chos
 abbrev pub row5 : List ℕ → Row
 row5 es = record { applies = not (hasZero es) && ltb maxU (total es); refusal = Total }
 
--- "Rows 6, 7, 9 pass if an extent is 0", and speak of each operand
+-- "Rows 6, 7, 9 pass if an extent is 0", of which 7 is given no longer, and speak of each operand
 abbrev pub someOperand : List ℕ → (ℕ → Bool) → ℕ → Bool
 someOperand es t operands = not (hasZero es) && some-of t 0 operands
 
 -- 6, "an operand's reach above 2^63 − 1"; the strides of operand k are `strides k`
 abbrev pub row6 : List ℕ → ℕ → (ℕ → List ℤ) → Row
 row6 es operands strides = record { applies = someOperand es (λ k. ltb maxI (reach es (strides k))) operands; refusal = Reach }
-
--- 7, "size × (1 + reach) above 2^63 − 1"
-abbrev pub row7 : List ℕ → List ℕ → (ℕ → List ℤ) → Row
-row7 es sizes strides =
-    record { applies = someOperand es (λ k. ltb maxI (getD sizes k 0 * (1 + reach es (strides k)))) (length sizes); refusal = Bytes }
 
 -- 8, "start count not the operand count"
 abbrev pub row8 : ℕ → List ℤ → Row
@@ -127,14 +121,14 @@ row11 es x = record { applies = not (within es x); refusal = Index }
 abbrev pub row24 : Machine → Row
 row24 mc = record { applies = not (allowed mc); refusal = Record }
 
--- rows 1 to 4 of a layout, and 5 to 7
+-- rows 1 to 4 of a layout, and 5 and 6
 abbrev pub countRows : List ℕ → List ℕ → List ℤ → Purpose → List Row
 countRows es sizes ss u = row1 (length es) ∷ row2 (length sizes) ∷ row3 (length es) (length sizes) ss ∷ row4 (length sizes) u ∷ []
 
 abbrev pub spanRows : List ℕ → List ℕ → List ℤ → List Row
-spanRows es sizes ss = row5 es ∷ row6 es (length sizes) (strideRow ss (length es)) ∷ row7 es sizes (strideRow ss (length es)) ∷ []
+spanRows es sizes ss = row5 es ∷ row6 es (length sizes) (strideRow ss (length es)) ∷ []
 
--- "Rows 5 to 7 are for planning, index finding and text": what index finding refuses of a layout
+-- "Rows 5 to 7 are for planning, index finding and text", "7 is given no longer": what index finding refuses of a layout
 abbrev pub layoutRows : List ℕ → List ℕ → List ℤ → Purpose → List Row
 layoutRows es sizes ss u = countRows es sizes ss u ++ spanRows es sizes ss
 

@@ -1,5 +1,5 @@
--- "the least number wins, except that 12 comes first and 13 follows 7", and 24 comes "after 4": the numbers of each entry's rows, in the order
--- in which they are asked, whatever the entry is called with. So no two numbers and no two rows can change places.
+-- "the least number wins, except that 12 comes first", "7 is given no longer; 13 then follows 6", and 24 comes "after 4": the numbers of each
+-- entry's rows, in the order in which they are asked, whatever the entry is called with. So no two numbers and no two rows can change places.
 -- Assumes nothing.
 use mathlib.Core.Path.{_≡_, refl}
 use mathlib.Core.List.{List, [], _∷_, _++_}
@@ -21,10 +21,10 @@ numbers (r ∷ rs) = number (r .refusal) ∷ numbers rs
 
 -- of a layout: planning, and index finding on the extents fs
 module _ (es sizes : List ℕ) (ss : List ℤ) (u : Purpose) where
-  pub planning-rows : (mc : Machine) → numbers (planningRows mc es sizes ss u) ≡ 1 ∷ 2 ∷ 3 ∷ 4 ∷ 24 ∷ 5 ∷ 6 ∷ 7 ∷ []
+  pub planning-rows : (mc : Machine) → numbers (planningRows mc es sizes ss u) ≡ 1 ∷ 2 ∷ 3 ∷ 4 ∷ 24 ∷ 5 ∷ 6 ∷ []
   planning-rows mc = refl
 
-  pub index-rows : (fs x : List ℕ) → numbers (layoutRows es sizes ss u ++ (row11 fs x ∷ [])) ≡ 1 ∷ 2 ∷ 3 ∷ 4 ∷ 5 ∷ 6 ∷ 7 ∷ 11 ∷ []
+  pub index-rows : (fs x : List ℕ) → numbers (layoutRows es sizes ss u ++ (row11 fs x ∷ [])) ≡ 1 ∷ 2 ∷ 3 ∷ 4 ∷ 5 ∷ 6 ∷ 11 ∷ []
   index-rows fs x = refl
 
 -- of a plan: a walk's beginning, and its steps
@@ -39,5 +39,5 @@ pub mark-rows : (es : List ℕ) (ts : List ℤ) → numbers (markRows es ts) ≡
 mark-rows es ts = refl
 
 -- of a text
-pub text-rows : (p : Parsed) (room : ℕ) → number Form ∷ numbers (layoutRowsOf p ++ outputRows p room) ≡ 12 ∷ 1 ∷ 2 ∷ 4 ∷ 5 ∷ 6 ∷ 7 ∷ 13 ∷ 14 ∷ []
+pub text-rows : (p : Parsed) (room : ℕ) → number Form ∷ numbers (layoutRowsOf p ++ outputRows p room) ≡ 12 ∷ 1 ∷ 2 ∷ 4 ∷ 5 ∷ 6 ∷ 13 ∷ 14 ∷ []
 text-rows p room = refl

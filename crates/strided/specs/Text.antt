@@ -13,7 +13,7 @@ use lib.IntN.{ℤ, pos, negsuc}
 use lib.Signed.{mag}
 use Rattle.strided.specs.Base.{over, run, first}
 use Rattle.strided.specs.Layout.{strideRow, chosen, leadOf, total}
-use Rattle.strided.specs.Refusals.{Row, refusedBy, negated, row1, row2, row4, row5, row6, row7}
+use Rattle.strided.specs.Refusals.{Row, refusedBy, negated, row1, row2, row4, row5, row6}
 use Rattle.strided.specs.Machine.{fixedFour}
 use Rattle.strided.specs.Plan.{planned}
 use Rattle.strided.specs.Walk.{Block, block, blocksOf}
@@ -191,12 +191,12 @@ row13 es = record { applies = ltb 1048576 (total es); refusal = TextTotal }
 abbrev pub row14 : List ℕ → ℕ → Row
 row14 out room = record { applies = ltb room (length out); refusal = Room }
 
--- "the least number wins, except that 12 comes first and 13 follows 7": rows 1, 2, 4, 5, 6, 7 of the layout. Row 3 cannot apply to a text in the
+-- "the least number wins, except that 12 comes first", and "13 then follows 6": rows 1, 2, 4, 5, 6 of the layout. Row 3 cannot apply to a text in the
 -- form, rows 8 to 11 have no input here
 abbrev pub layoutRowsOf : Parsed → List Row
 layoutRowsOf p =
     row1 (p .rank) ∷ row2 (p .operands) ∷ row4 (p .operands) (p .purpose) ∷ row5 (p .extents)
-    ∷ row6 (p .extents) (p .operands) (strideRow (stridesOf p) (p .rank)) ∷ row7 (p .extents) (sizesOf p) (strideRow (stridesOf p) (p .rank)) ∷ []
+    ∷ row6 (p .extents) (p .operands) (strideRow (stridesOf p) (p .rank)) ∷ []
 
 -- and the rows of the text itself
 abbrev pub outputRows : Parsed → ℕ → List Row

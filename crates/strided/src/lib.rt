@@ -22,7 +22,7 @@ pub struct Machine {
     pub live: u64,
 }
 
-// The rows of the refusal table, 1 to 14 in this order, then 24. specs/Refusals has their numbers.
+// The rows of the refusal table, 1 to 14 in this order but for 7, which is given no longer, then 24. specs/Refusals has their numbers.
 pub enum Refusal {
     Rank,
     Operands,
@@ -30,7 +30,6 @@ pub enum Refusal {
     Chosen,
     Total,
     Reach,
-    Bytes,
     StartCount,
     Offsets,
     State,

@@ -44,7 +44,7 @@ use Rattle.text.specs.Listed.{Places, listedServed, listedLayout, listed
 pub answering : {z y : ℤ} {room : List ℕ} {l : Listing} → z ≡ y → record { answer = y; room = room } ≡ l → record { answer = z; room = room } ≡ l
 answering {room = room} e h = (λ i. record { answer = e i; room = room }) ∙ h
 
--- ---- a layout that rows 1 to 7 let through
+-- ---- a layout that rows 1 to 6 let through
 
 module _ (es sizes : List ℕ) (ss : List ℤ) (u : Purpose) (h : layoutRefused es sizes ss u ≡ none) where
   -- planning with the fixed four lets it through too

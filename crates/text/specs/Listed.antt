@@ -15,11 +15,11 @@ use Rattle.strided.specs.declared.Purpose.{Purpose}
 use Rattle.strided.specs.declared.Refusal.{Refusal}
 use Rattle.writing.specs.Plan.{listedIn}
 
--- a layout that rows 1 to 7 and 13 let through: the output of its plan for the fixed four, if there is room
+-- a layout that rows 1 to 6 and 13 let through: the output of its plan for the fixed four, if there is room
 abbrev pub listedServed : List ℕ → List ℕ → List ℤ → Purpose → List ℕ → Listing
 listedServed es sizes ss u room = listedIn (planned fixedFour es sizes ss u .plan) room
 
--- rows 1 to 7, then 13, then 14
+-- rows 1 to 6, then 13, then 14
 unfoldable pub listedLayout : List ℕ → List ℕ → List ℤ → Purpose → List ℕ → Listing
 listedLayout es sizes ss u room =
     listingOr (first (layoutRefused es sizes ss u) (refusedBy (row13 es ∷ row14 (printed es sizes ss u) (length room) ∷ []))) (printed es sizes ss u) room

@@ -57,7 +57,7 @@ fn list_served<'a>(
     list(rank, sizes.len(), &es, &blocks, &table, room)
 }
 
-// Lists a layout: rows 1 to 7, row 13, and what is behind them.
+// Lists a layout: rows 1 to 6, row 13, and what is behind them.
 fn list_layout<'a>(
     extents: &'a [u64],
     sizes: &'a [u64],

@@ -10,6 +10,8 @@ use Rattle.laws.specs.Cut.Cases.{cut-empty, cut-fits, cut-keeps, cut-flat, cut-
 use Rattle.region.specs.Tail.{axes}
 use Rattle.region.proofs.memory_region.Kinds as memory-region-kinds
 use Rattle.region.proofs.memory_region.Reads as memory-region-reads
+use Rattle.region.proofs.wide.Kinds as wide-kinds
+use Rattle.region.proofs.wide.Reads as wide-reads
 use Rattle.shrink.proofs.shrink.Kinds as shrink-kinds
 use Rattle.shrink.proofs.shrink.Reads as shrink-reads
 use Rattle.block.proofs.keeps_first.Kinds as keeps-first-kinds
@@ -44,6 +46,8 @@ abbrev callees : ℕ
     × Out 2 kinds.ps kinds.r
     × In 1 least-byte-kinds.ps
     × Out 1 least-byte-kinds.ps least-byte-kinds.r
+    × In 0 wide-kinds.ps
+    × Out 0 wide-kinds.ps wide-kinds.r
     × In 1 set-ones-kinds.ps
     × Out 1 set-ones-kinds.ps set-ones-kinds.r
     × In 2 shrink-kinds.ps
@@ -57,6 +61,8 @@ callees t = (
   reads.Post,
   least-byte-reads.Asked,
   least-byte-reads.Learnt,
+  wide-reads.Asked,
+  wide-reads.Learnt,
   set-ones-reads.Asked,
   set-ones-reads.Learnt,
   shrink-reads.Asked,
@@ -114,29 +120,34 @@ module _ (t : ℕ) where
   least-byte-requires : lts.Need-least-byte-requires (callees t) (Asked t) reads.Post
   least-byte-requires c κs = omega arith
 
+  wide-requires : lts.Need-wide-requires (callees t) (Asked t) reads.Post
+  wide-requires c κs = tt
+
   set-ones-requires : lts.Need-set-ones-requires (callees t) (Asked t) reads.Post
   set-ones-requires c κs = omega arith
 
   returns-4 : lts.Need-returns-4 (callees t) (Asked t) reads.Post
   returns-4 c =
-      let m = c .before .before .before .before in
+      let w = c .before .before .before .before in
+      let m = w .before in
       let k = m .before .before in
       let a = start k .args in
       c .set-ones .ensures
       ∙ sym (cut-flat (a .machine) (a .bytes .now) (a .tail .operands) (a .costs .now) (a .t6) (a .tail .offset) (a .tail .rank) (a .blocks .now) (some k) (big k)
-      (sym (k .keeps-first .ensures) ∙ m .before .if3 .left) (subst (λ (x : ℕ). a .machine .cache < x) (m .least-byte .ensures) (c .before .before .if4 .taken)))
+      (sym (k .keeps-first .ensures) ∙ m .before .if3 .left) (subst (λ (x : ℕ). a .machine .cache < x) (w .wide .ensures ∙ m .least-byte .ensures) (c .before .before .if4 .taken)))
 
   shrink-requires : lts.Need-shrink-requires (callees t) (Asked t) reads.Post
-  shrink-requires c κs = let s = start (c .before .before .before .before .before) in (s .pre .1 .0, (omega arith, s .pre .1 .1 .1))
+  shrink-requires c κs = let s = start (c .before .before .before .before .before .before) in (s .pre .1 .0, (omega arith, s .pre .1 .1 .1))
 
   returns-5 : lts.Need-returns-5 (callees t) (Asked t) reads.Post
   returns-5 c =
-      let m = c .before .before .before .before in
+      let w = c .before .before .before .before in
+      let m = w .before in
       let k = m .before .before in
       let a = start k .args in
       c .shrink .ensures
       ∙ sym (cut-less (a .machine) (a .bytes .now) (a .tail .operands) (a .costs .now) (a .t6) (a .tail .offset) (a .tail .rank) (a .blocks .now) (some k) (big k)
-      (sym (k .keeps-first .ensures) ∙ m .before .if3 .left) (subst (λ (x : ℕ). x ≤ a .machine .cache) (m .least-byte .ensures) (c .before .before .if4 .left)))
+      (sym (k .keeps-first .ensures) ∙ m .before .if3 .left) (subst (λ (x : ℕ). x ≤ a .machine .cache) (w .wide .ensures ∙ m .least-byte .ensures) (c .before .before .if4 .left)))
 
 pub +compute-blocks-at-spec : {M : Type 1} → statement M
 +compute-blocks-at-spec = close μ λ t. lts.spec (callees t)
@@ -150,6 +161,7 @@ pub +compute-blocks-at-spec : {M : Type 1} → statement M
     (compute-blocks-at-requires t)
     (returns-3 t)
     (least-byte-requires t)
+    (wide-requires t)
     (set-ones-requires t)
     (returns-4 t)
     (shrink-requires t)

@@ -1,4 +1,4 @@
--- `kernel::plan` meets its contract: what is made where rows 1 to 7 and 24 pass, and the refusal beside the zeros where one applies. Assumes nothing.
+-- `kernel::plan` meets its contract: what is made where rows 1 to 6 and 24 pass, and the refusal beside the zeros where one applies. Assumes nothing.
 use mathlib.Core.Path.{_≡_, refl, sym, _∙_}
 use mathlib.Core.Option.{none}
 use borrow.Author.Needs.{needs}
@@ -17,7 +17,7 @@ check-planning-requires c κs = search needs
 enum-told : tie.Need-enum-told
 enum-told c = search needs
 
--- rows 1 to 7 and 24 let the layout through
+-- rows 1 to 6 and 24 let the layout through
 passed : (c : tie.After-enum-told) → let a = c .before .before .before .before .before .args in
     planningRefused (a .machine) (a .extents .now) (a .sizes .now) (a .strides .now) (a .purpose) ≡ none
 passed c = served-none _ (sym (c .before .before .check-planning .ensures) ∙ c .enum-told .given .1)

@@ -269,6 +269,26 @@ least-cong f g o zero h = refl
 least-cong f g o (suc zero) h = h o (omega arith) (omega arith)
 least-cong f g o (suc (suc n)) h = ap₂ min (least-cong f g o (suc n) (shorter o (suc n) f g h)) (last o (suc n) f g h)
 
+-- a least number is above a bound exactly if each is
+above-least : (c a b : ℕ) → ltb c (min a b) ≡ cond (ltb c a) (ltb c b) false
+above-least c a b = ⊎-elim
+    (λ (g : a ≤ c). le-ltb c (min a b) (omega arith) ∙ sym (ap (λ (s : Bool). cond s (ltb c b) false) (le-ltb c a g)))
+    (λ (g : c < a). ⊎-elim
+    (λ (k : b ≤ c). le-ltb c (min a b) (omega arith) ∙ sym (ap₂ (λ (s u : Bool). cond s u false) (lt-ltb c a g) (le-ltb c b k)))
+    (λ (k : c < b). lt-ltb c (min a b) (omega arith) ∙ sym (ap₂ (λ (s u : Bool). cond s u false) (lt-ltb c a g) (lt-ltb c b k)))
+    (le-or-lt b c))
+    (le-or-lt a c)
+
+pub least-above : (c : ℕ) (f g : ℕ → ℕ) (o n : ℕ) → Agree o n (λ i. ltb c (f i)) (λ i. ltb c (g i)) → ltb c (least f o n) ≡ ltb c (least g o n)
+unfolding least
+least-above c f g o zero h = refl
+least-above c f g o (suc zero) h = h o (omega arith) (omega arith)
+least-above c f g o (suc (suc n)) h =
+    above-least c (least f o (suc n)) (f (o + suc n))
+    ∙ ap₂ (λ (s u : Bool). cond s u false)
+    (least-above c f g o (suc n) (shorter o (suc n) (λ i. ltb c (f i)) (λ i. ltb c (g i)) h)) (last o (suc n) (λ i. ltb c (f i)) (λ i. ltb c (g i)) h)
+    ∙ sym (above-least c (least g o (suc n)) (g (o + suc n)))
+
 pub every-cong : (t u : ℕ → Bool) (o n : ℕ) → Agree o n t u → every t o n ≡ every u o n
 unfolding every
 every-cong t u o zero h = refl

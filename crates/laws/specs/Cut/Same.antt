@@ -1,4 +1,6 @@
--- Cutting and the fit look at byte strides, costs and ranks of the plan's axes only: tables that agree there give the same. Assumes nothing.
+-- Cutting and the fit look at byte strides, costs and ranks of the plan's axes only, and of a byte stride they look at its side of the line and
+-- of the cache, at its remainder by the way, and at itself where it is below the line. Tables that agree in this give the same.
+-- Assumes nothing.
 use mathlib.Core.Path.{_≡_, refl, ap, ap₂, _∙_}
 use mathlib.Core.Bool.{Bool, cond, not, _&&_, _||_}
 use mathlib.Core.List.{List}
@@ -12,12 +14,19 @@ use Rattle.strided.specs.Region.{byteAt, near, far, regionOf, region}
 use Rattle.strided.specs.Cut.{score, weighed, later, greatestScore, shorten, halving, lessening, cells, halved, lessened, shrunk, rankAt, leastRank, leastByte, keepsFirst, ones, cutting}
 use Rattle.strided.specs.Fit.{reuse, counts, aliases, factor, loadOf, load, entersOf, enters, shortens, mostOf, fitFrom, fitted}
 use Rattle.strided.specs.declared.Machine.{Machine}
-use Rattle.laws.specs.Cut.Ranges.{sum-cong, product-cong, least-cong, every-cong, seek-cong, seek-le}
+use Rattle.laws.specs.Cut.Ranges.{sum-cong, product-cong, least-cong, least-above, every-cong, seek-cong, seek-le}
 use Rattle.laws.specs.Cut.Picks.{pick-is}
 
+-- two byte strides that no rule tells apart
+pub record Alike (mc : Machine) (x y : ℕ) : Type 0 where
+  pub line : ltb x (mc .line) ≡ ltb y (mc .line)
+  pub near : (n : ℕ) → cond (ltb x (mc .line)) (x * n) 0 ≡ cond (ltb y (mc .line)) (y * n) 0
+  pub cache : ltb (mc .cache) x ≡ ltb (mc .cache) y
+  pub way : aliases mc x ≡ aliases mc y
+
 -- two tables of byte strides, two of ranks, and two lists of costs that agree on the plan's axes
-abbrev pub SameBytes : ℕ → ℕ → List ℕ → List ℕ → Type 0
-SameBytes operands rank bytes bytes′ = (k i : ℕ) → k < operands → i < rank → byteAt bytes k i ≡ byteAt bytes′ k i
+abbrev pub AlikeBytes : Machine → ℕ → ℕ → List ℕ → List ℕ → Type 0
+AlikeBytes mc operands rank bytes bytes′ = (k i : ℕ) → k < operands → i < rank → Alike mc (byteAt bytes k i) (byteAt bytes′ k i)
 
 abbrev pub SameRanks : ℕ → ℕ → List (List ℕ) → List (List ℕ) → Type 0
 SameRanks operands rank table table′ = (k i : ℕ) → k < operands → i < rank → rankAt table k i ≡ rankAt table′ k i
@@ -25,20 +34,20 @@ SameRanks operands rank table table′ = (k i : ℕ) → k < operands → i < ra
 abbrev pub SameCosts : ℕ → List ℕ → List ℕ → Type 0
 SameCosts rank costs costs′ = (i : ℕ) → i < rank → getD costs i 0 ≡ getD costs′ i 0
 
-module _ (mc : Machine) (operands rank : ℕ) (bytes bytes′ : List ℕ) (same : SameBytes operands rank bytes bytes′) where
+module _ (mc : Machine) (operands rank : ℕ) (bytes bytes′ : List ℕ) (same : AlikeBytes mc operands rank bytes bytes′) where
   pub region-same : (b : List ℕ) (o n : ℕ) → o + n ≤ rank → region mc bytes operands b o n ≡ region mc bytes′ operands b o n
   unfolding region regionOf
   region-same b o n h = sum-cong (regionOf mc bytes b o n) (regionOf mc bytes′ b o n) 0 operands
       (λ k p q. ap₂ (λ (x y : ℕ). mc .line * (x / mc .line + 1) * y)
       (sum-cong (near mc bytes b k) (near mc bytes′ b k) o n
-      (λ i u v. ap (λ (s : ℕ). cond (ltb s (mc .line)) (s * (getD b i 0 - 1)) 0) (same k i (omega arith) (omega arith))))
+      (λ i u v. same k i (omega arith) (omega arith) .near (getD b i 0 - 1)))
       (product-cong (far mc bytes b k) (far mc bytes′ b k) o n
-      (λ i u v. ap (λ (s : ℕ). cond (ltb s (mc .line)) 1 (getD b i 0)) (same k i (omega arith) (omega arith)))))
+      (λ i u v. ap (λ (t : Bool). cond t 1 (getD b i 0)) (same k i (omega arith) (omega arith) .line))))
 
-  least-byte-same : (o n : ℕ) → o + n ≤ rank → leastByte bytes operands o n ≡ leastByte bytes′ operands o n
+  least-byte-same : (o n : ℕ) → o + n ≤ rank → ltb (mc .cache) (leastByte bytes operands o n) ≡ ltb (mc .cache) (leastByte bytes′ operands o n)
   unfolding leastByte
-  least-byte-same o n h = least-cong (λ k. least (byteAt bytes k) o n) (λ k. least (byteAt bytes′ k) o n) 0 operands
-      (λ k p q. least-cong (byteAt bytes k) (byteAt bytes′ k) o n (λ i u v. same k i (omega arith) (omega arith)))
+  least-byte-same o n h = least-above (mc .cache) (λ k. least (byteAt bytes k) o n) (λ k. least (byteAt bytes′ k) o n) 0 operands
+      (λ k p q. least-above (mc .cache) (byteAt bytes k) (byteAt bytes′ k) o n (λ i u v. same k i (omega arith) (omega arith) .cache))
 
   module _ (costs costs′ : List ℕ) (even : SameCosts rank costs costs′) where
     score-same : (b : List ℕ) (i : ℕ) → i < rank → score b costs i ≡ score b costs′ i
@@ -97,7 +106,7 @@ module _ (mc : Machine) (operands rank : ℕ) (bytes bytes′ : List ℕ) (same 
           let k = keeps-same o (suc n) (omega arith) h in
           let l = least-byte-same o (suc n) h in
           let s = shrunk-same o (suc n) h b in
-          λ t. cond (leb (r t) (mc .cache)) b (cond (k t) (rest t) (cond (ltb (mc .cache) (l t)) (ones o (suc n) b) (s t)))
+          λ t. cond (leb (r t) (mc .cache)) b (cond (k t) (rest t) (cond (l t) (ones o (suc n) b) (s t)))
 
   -- ---- the fit
 
@@ -105,7 +114,7 @@ module _ (mc : Machine) (operands rank : ℕ) (bytes bytes′ : List ℕ) (same 
     reuse-same : (k : ℕ) → k < 2 → reuse mc bytes rank k ≡ reuse mc bytes′ rank k
     unfolding reuse
     reuse-same k h = seek-cong (λ i. ltb (byteAt bytes k i) (mc .line)) (λ i. ltb (byteAt bytes′ k i) (mc .line)) 0 rank
-        (λ i p q. ap (λ (s : ℕ). ltb s (mc .line)) (same k i (omega arith) (omega arith)))
+        (λ i p q. same k i (omega arith) (omega arith) .line)
 
     reuse-le : (k : ℕ) → reuse mc bytes rank k ≤ rank
     unfolding reuse
@@ -120,7 +129,7 @@ module _ (mc : Machine) (operands rank : ℕ) (bytes bytes′ : List ℕ) (same 
     load-same b = sum-cong (loadOf mc bytes sizes rank b) (loadOf mc bytes′ sizes rank b) 0 2
         (λ k p q. ap₂ (λ (t : Bool) (x : ℕ). cond t x 0) (counts-same k (omega arith))
         (product-cong (factor mc bytes b k) (factor mc bytes′ b k) 0 (reuse mc bytes rank k)
-        (λ i u v. ap (λ (s : ℕ). cond (aliases mc s) (getD b i 0) 1) (same k i (omega arith) (omega (arith, reuse-le k))))
+        (λ i u v. ap (λ (t : Bool). cond t (getD b i 0) 1) (same k i (omega arith) (omega (arith, reuse-le k)) .way))
         ∙ ap (product (factor mc bytes′ b k) 0) (reuse-same k (omega arith))))
 
     enters-of-same : (i k : ℕ) → i < rank → k < 2 → entersOf mc bytes sizes rank i k ≡ entersOf mc bytes′ sizes rank i k
@@ -128,8 +137,8 @@ module _ (mc : Machine) (operands rank : ℕ) (bytes bytes′ : List ℕ) (same 
     enters-of-same i k l h =
         let c = counts-same k h in
         let r = reuse-same k h in
-        let s = same k i (omega arith) l in
-        λ t. c t && (ltb i (r t) && aliases mc (s t))
+        let s = same k i (omega arith) l .way in
+        λ t. c t && (ltb i (r t) && s t)
 
     shortens-same : (chosen : ℕ → ℕ) (b : List ℕ) (i : ℕ) → i < rank → shortens mc bytes sizes rank chosen b i ≡ shortens mc bytes′ sizes rank chosen b i
     unfolding shortens enters

@@ -1,4 +1,4 @@
--- PLANNING'S TWO ANSWERS: the plan of the layout if rows 1 to 7 and 24 pass, and else the refusal beside a plan of zeros. Assumes nothing.
+-- PLANNING'S TWO ANSWERS: the plan of the layout if rows 1 to 6 and 24 pass, and else the refusal beside a plan of zeros. Assumes nothing.
 use mathlib.Core.Path.{_≡_, refl, ap}
 use mathlib.Core.List.{List}
 use mathlib.Core.Option.{Option, none, some}

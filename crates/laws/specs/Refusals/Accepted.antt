@@ -3,11 +3,11 @@ use mathlib.Core.Path.{_≡_, sym, _∙_}
 use mathlib.Core.Bool.{Bool, false, _||_, not}
 use mathlib.Core.List.{List}
 use mathlib.Core.Option.{none}
-use Prim.Native.Nat.{ℕ, _+_, _*_, _^_, _≤_, _<_}
+use Prim.Native.Nat.{ℕ, _*_, _^_, _≤_, _<_}
 use native.Mathlib.Omega.{arith}
 use lib.Dec.{ltb, eqb}
 use lib.IntN.{ℤ}
-use lib.ListN.{length, getD}
+use lib.ListN.{length}
 use borrow.Author.Tests.{le-ltb, ltb-false, eq-eqb, ne-eqb, eqb-false}
 use Rattle.strided.specs.Base.{some-of}
 use Rattle.strided.specs.Layout.{strideRow, chosen, total, hasZero, reach, maxU, maxI}
@@ -29,14 +29,10 @@ pub record Accepted (es sizes : List ℕ) (ss : List ℤ) (u : Purpose) : Type 0
   -- a zero extent makes the total 0, so it fits in any case
   pub cells : total es < 2 ^ 64
   pub near : hasZero es ≡ false → (k : ℕ) → k < length sizes → reach es (strideRow ss (length es) k) ≤ maxI
-  pub narrow : hasZero es ≡ false → (k : ℕ) → k < length sizes → getD sizes k 0 * (1 + reach es (strideRow ss (length es) k)) ≤ maxI
 
 module _ (es sizes : List ℕ) (ss : List ℤ) (u : Purpose) where
   abbrev farAt : ℕ → Bool
   farAt k = ltb maxI (reach es (strideRow ss (length es) k))
-
-  abbrev wideAt : ℕ → Bool
-  wideAt k = ltb maxI (getD sizes k 0 * (1 + reach es (strideRow ss (length es) k)))
 
   pub accepted : layoutRefused es sizes ss u ≡ none → Accepted es sizes ss u
   unfolding layoutRefused NoneApplies
@@ -53,7 +49,6 @@ module _ (es sizes : List ℕ) (ss : List ℤ) (u : Purpose) where
         there = a .1 .1 .1 .0;
         cells = omega (arith, ltb-false maxU (total es) five);
         near = λ q k l. ltb-false maxI (reach es (strideRow ss (length es) k)) (some-of-at farAt (length sizes) (unless-passes (hasZero es) (some-of farAt 0 (length sizes)) (a .1 .1 .1 .1 .1 .0) q) k l);
-        narrow = λ q k l. ltb-false maxI (getD sizes k 0 * (1 + reach es (strideRow ss (length es) k))) (some-of-at wideAt (length sizes) (unless-passes (hasZero es) (some-of wideAt 0 (length sizes)) (a .1 .1 .1 .1 .1 .1 .0) q) k l);
       }
 
   -- and back: nothing else is refused
@@ -66,7 +61,5 @@ module _ (es sizes : List ℕ) (ss : List ℤ) (u : Purpose) where
       let five : row5 es .applies ≡ false = row5-total es ∙ le-ltb maxU (total es) (omega (arith, f .cells)) in
       let six : hasZero es ≡ false → some-of farAt 0 (length sizes) ≡ false =
       λ q. some-of-none farAt (length sizes) (λ k l. le-ltb maxI (reach es (strideRow ss (length es) k)) (f .near q k l)) in
-      let seven : hasZero es ≡ false → some-of wideAt 0 (length sizes) ≡ false =
-      λ q. some-of-none wideAt (length sizes) (λ k l. le-ltb maxI (getD sizes k 0 * (1 + reach es (strideRow ss (length es) k))) (f .narrow q k l)) in
       none-refuses (layoutRows es sizes ss u)
-      (le-ltb 64 (length es) (f .axes), (two, (three, (f .there, (five, (passes-unless (hasZero es) (some-of farAt 0 (length sizes)) six, (passes-unless (hasZero es) (some-of wideAt 0 (length sizes)) seven, tt)))))))
+      (le-ltb 64 (length es) (f .axes), (two, (three, (f .there, (five, (passes-unless (hasZero es) (some-of farAt 0 (length sizes)) six, tt))))))

@@ -59,7 +59,7 @@ module _ (t : ℕ → Bool) where
   some-of-none (suc n) h =
       some-of-suc n ∙ rw (h n (omega arith), some-of-none n (λ i l. h i (let g : i < suc n = omega arith in g)))
 
--- "Rows 6, 7, 9 pass if an extent is 0": the code's test z for a zero extent, and its search r over the operands where there is none
+-- Rows 6 and 9 "pass if an extent is 0": the code's test z for a zero extent, and its search r over the operands where there is none
 module _ (es : List ℕ) (t : ℕ → Bool) (operands : ℕ) {z : Bool} (is : z ≡ hasZero es) where
   pub operands-zero : z ≡ true → false ≡ someOperand es t operands
   operands-zero h = sym (rw (sym is ∙ h))

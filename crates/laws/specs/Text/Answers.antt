@@ -14,7 +14,7 @@ use Rattle.strided.specs.Base.{first}
 use Rattle.strided.specs.Refusals.{Row, refusedBy, number, negated}
 use Rattle.strided.specs.Text.{Parsed, InForm, NotInForm, Listing, Lists, layoutRowsOf, printedOf, row13, row14, textRefused, listingOr, listed}
 use Rattle.strided.specs.declared.Refusal.{Refusal}
-use Rattle.strided.specs.declared.Refusal.the-variants.{Rank, Operands, StrideCount, Chosen, Total, Reach, Bytes, StartCount, Offsets, State, Index, Form, TextTotal, Room, Record}
+use Rattle.strided.specs.declared.Refusal.the-variants.{Rank, Operands, StrideCount, Chosen, Total, Reach, StartCount, Offsets, State, Index, Form, TextTotal, Room, Record}
 
 -- no refusal has the number 0
 pub number-above : (r : Refusal) → (k : ℕ) × (number r ≡ suc k)
@@ -24,7 +24,6 @@ number-above StrideCount = (2, refl)
 number-above Chosen = (3, refl)
 number-above Total = (4, refl)
 number-above Reach = (5, refl)
-number-above Bytes = (6, refl)
 number-above StartCount = (7, refl)
 number-above Offsets = (8, refl)
 number-above State = (9, refl)

@@ -12,7 +12,7 @@ use lib.ListN.{length, length-map, length-append}
 use borrow.Author.Tests.{eq-eqb}
 use Rattle.strided.specs.Base.{over, first}
 use Rattle.strided.specs.Layout.{strideRow}
-use Rattle.strided.specs.Refusals.{Row, refusedBy, layoutRefused, planningRefused, row1, row2, row3, row4, row5, row6, row7}
+use Rattle.strided.specs.Refusals.{Row, refusedBy, layoutRefused, planningRefused, row1, row2, row3, row4, row5, row6}
 use Rattle.strided.specs.Machine.{fixedFour}
 use Rattle.strided.specs.Fuse.{planAxes}
 use Rattle.strided.specs.Plan.{planned, planFrom, plannedOr}
@@ -49,7 +49,7 @@ module _ {text : List ℕ} {p : Parsed} (f : InForm text p) where
   rowsBy : ℕ → ℕ → Bool → List Row
   rowsBy r n b =
       row1 r ∷ row2 n ∷ record { applies = b; refusal = StrideCount } ∷ row4 n (p .purpose) ∷ row5 (p .extents)
-      ∷ row6 (p .extents) n (strideRow (stridesOf p) r) ∷ row7 (p .extents) (sizesOf p) (strideRow (stridesOf p) r) ∷ []
+      ∷ row6 (p .extents) n (strideRow (stridesOf p) r) ∷ []
 
   -- the rows in front of 13 refuse as planning does
   pub as-planning : refusedBy (layoutRowsOf p) ≡ layoutRefused (p .extents) (sizesOf p) (stridesOf p) (p .purpose)

@@ -1,4 +1,4 @@
--- `layout::check_layout` meets its contract: rows 1 to 4, and where they pass 5 to 7. Assumes nothing.
+-- `layout::check_layout` meets its contract: rows 1 to 4, and where they pass 5 and 6. Assumes nothing.
 use mathlib.Core.Path.{_≡_, sym, _∙_}
 use mathlib.Core.Option.{none}
 use borrow.Author.Needs.{needs}

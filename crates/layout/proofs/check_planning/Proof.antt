@@ -1,4 +1,4 @@
--- `layout::check_planning` meets its contract: rows 1 to 4, where they pass 24, and where that passes 5 to 7. Assumes nothing.
+-- `layout::check_planning` meets its contract: rows 1 to 4, where they pass 24, and where that passes 5 and 6. Assumes nothing.
 use mathlib.Core.Path.{_≡_, sym, _∙_}
 use mathlib.Core.Option.{none}
 use borrow.Author.Needs.{needs}

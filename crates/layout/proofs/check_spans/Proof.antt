@@ -1,4 +1,4 @@
--- `layout::check_spans` meets its contract: its tests are rows 5 to 7, one after the other. Assumes nothing.
+-- `layout::check_spans` meets its contract: its tests are rows 5 and 6, one after the other. Assumes nothing.
 use borrow.Author.Needs.{needs}
 use Rattle.strided.specs.Refusals.{spanRows}
 use Rattle.laws.specs.Refusals.Rows.{Past, past-none, past-next, past-refused, past-served}
@@ -12,9 +12,6 @@ passed-5 c = past-next (past-none _) (c .before .total-over .ensures) (c .if1 .l
 
 passed-6 : (c : tie.Else2) → let a = c .before .before .before .before .before .before .args in let rows = spanRows (a .extents .now) (a .sizes .now) (a .strides .now) in Past rows (drop 2 rows)
 passed-6 c = past-next (passed-5 (c .before .before)) (c .before .reach-over .ensures) (c .if2 .left)
-
-passed-7 : (c : tie.Else3) → let a = c .before .before .before .before .before .before .before .before .args in let rows = spanRows (a .extents .now) (a .sizes .now) (a .strides .now) in Past rows (drop 3 rows)
-passed-7 c = past-next (passed-6 (c .before .before)) (c .before .bytes-over .ensures) (c .if3 .left)
 
 total-over-requires : tie.Need-total-over-requires
 total-over-requires c κs = search needs
@@ -30,14 +27,8 @@ reach-over-requires c κs = search needs
 returns-2 : tie.Need-returns-2
 returns-2 c = past-refused (passed-5 (c .before .before)) (c .before .reach-over .ensures) (c .if2 .taken)
 
-bytes-over-requires : tie.Need-bytes-over-requires
-bytes-over-requires c κs = search needs
-
 returns-3 : tie.Need-returns-3
-returns-3 c = past-refused (passed-6 (c .before .before)) (c .before .bytes-over .ensures) (c .if3 .taken)
-
-returns-4 : tie.Need-returns-4
-returns-4 c = past-served (passed-7 c)
+returns-3 c = past-served (passed-6 c)
 
 pub check-spans-spec : {M : Type 1} → statement M
 check-spans-spec =
@@ -47,6 +38,4 @@ check-spans-spec =
     returns
     reach-over-requires
     returns-2
-    bytes-over-requires
-    returns-3
-    returns-4)
+    returns-3)

@@ -10,7 +10,7 @@ use mir.Syntax.{w64}
 use mir.Facts.{toZ-pos, toZ-ofZ}
 use Rattle.strided.specs.Refusals.{number, negated}
 use Rattle.strided.specs.declared.Refusal.{Refusal}
-use Rattle.strided.specs.declared.Refusal.the-variants.{Rank, Operands, StrideCount, Chosen, Total, Reach, Bytes, StartCount, Offsets, State, Index, Form, TextTotal, Room, Record}
+use Rattle.strided.specs.declared.Refusal.the-variants.{Rank, Operands, StrideCount, Chosen, Total, Reach, StartCount, Offsets, State, Index, Form, TextTotal, Room, Record}
 use Rattle.layout.proofs.negated.Statement.{statement}
 use Rattle.layout.proofs.negated.Tie as tie
 
@@ -21,7 +21,6 @@ number-small StrideCount = omega arith
 number-small Chosen = omega arith
 number-small Total = omega arith
 number-small Reach = omega arith
-number-small Bytes = omega arith
 number-small StartCount = omega arith
 number-small Offsets = omega arith
 number-small State = omega arith

@@ -4,12 +4,11 @@ use mathlib.Core.Path.{_≡_, refl, sym, _∙_}
 use mathlib.Core.Bool.{false}
 use lib.ListN.{length}
 use borrow.Author.Needs.{needs}
-use Rattle.model.specs.Plannable.{Bytes}
 use Rattle.model.proofs.Filled.{rows-read}
 use Rattle.strided.specs.Region.{byteTable}
-use Rattle.laws.specs.Cut.Same.{SameBytes}
+use Rattle.laws.specs.Cut.Image.{Images}
 use Rattle.model.specs.Exits.{exits}
-use Rattle.model.proofs.Rooms.{products, same-bytes, within-reach}
+use Rattle.model.proofs.Rooms.{within-reach}
 use Rattle.model.proofs.Whole.{whole-in-order, whole-exits, exits-fits, exits-not, whole-declined, whole-fitted}
 use Rattle.model.proofs.block_sizes.Statement.{statement}
 use Rattle.model.proofs.block_sizes.Tie as tie
@@ -26,19 +25,19 @@ returns c =
 byte-table-into-requires : tie.Need-byte-table-into-requires
 byte-table-into-requires c κs =
     let s = c .before .before .before .before in
-    let a = s .args in
     let p = s .pre .1 in
-    (((p .few, p .axes), products (a .sizes .now) (a .es .now) (a .table .now) (a .rank) (a .purpose) p), refl)
+    (s .pre .0, ((p .few, p .axes), refl))
 
 fits-whole-requires : tie.Need-fits-whole-requires
 fits-whole-requires c κs = search needs
 
 -- what the table of byte strides has
-bytes-are : (c : tie.After-byte-table-into) → let a = c .before .before .before .before .before .args in Bytes (a .sizes .now) (a .table .now) (a .rank) (c .byte-table-into .last .1 .1 .1 .0)
+bytes-are : (c : tie.After-byte-table-into) → let a = c .before .before .before .before .before .args in
+    Images (a .machine) (length (a .sizes .now)) (a .rank) (c .byte-table-into .last .1 .1 .1 .1 .0) (byteTable (a .sizes .now) (a .table .now))
 bytes-are c =
     let s = c .before .before .before .before .before in
     let a = s .args in
-    rows-read (a .sizes .now) (a .table .now) (a .rank) (length (a .sizes .now)) _ refl (s .pre .1 .few) (s .pre .1 .axes) (c .byte-table-into .ensures)
+    rows-read (a .machine) (a .sizes .now) (a .table .now) (a .rank) (length (a .sizes .now)) _ refl (s .pre .1 .few) (s .pre .1 .axes) (c .byte-table-into .ensures)
 
 returns-2 : tie.Need-returns-2
 returns-2 c =
@@ -47,8 +46,8 @@ returns-2 c =
     let s = b .before .before .before .before .before in
     let a = s .args in
     let es = a .es .now in
-    let t = b .byte-table-into .last .1 .1 .1 .0 in
-    sym (whole-exits (a .machine) (a .sizes .now) es (a .table .now) (a .rank) (a .purpose) t (same-bytes (a .sizes .now) (a .table .now) (a .rank) t (s .pre .1 .axes) (bytes-are b))
+    let t = b .byte-table-into .last .1 .1 .1 .1 .0 in
+    sym (whole-exits (a .machine) (a .sizes .now) es (a .table .now) (a .rank) (a .purpose) (s .pre .0) t (bytes-are b)
     (exits-fits (a .machine) t (a .sizes .now) es (a .table .now) (a .rank) (sym (f .fits-whole .ensures) ∙ c .before .if2 .taken)))
 
 -- what no purpose changes
@@ -65,11 +64,9 @@ cut-axes-requires c κs =
           few = n .few;
           places = n .places;
           table = n .table;
-          wide = n .wide;
           small = n .small;
           there = refl;
           near = n .near;
-          narrow = n .narrow;
         },
         bytes-are b,
       ),
@@ -88,11 +85,7 @@ start q = q .before .before .before .before .before .before .before .before .bef
 abbrev table-of : tie.After-cut-axes → tie.After-byte-table-into
 table-of q = q .before .before .before .before .before .before .before
 
-same : (q : tie.After-cut-axes) → let a = start q .args in
-    SameBytes (length (a .sizes .now)) (a .rank) (table-of q .byte-table-into .last .1 .1 .1 .0) (byteTable (a .sizes .now) (a .table .now))
-same q = let s = start q in let a = s .args in same-bytes (a .sizes .now) (a .table .now) (a .rank) (table-of q .byte-table-into .last .1 .1 .1 .0) (s .pre .1 .axes) (bytes-are (table-of q))
-
-on : (q : tie.After-cut-axes) → let a = start q .args in exits (a .machine) (table-of q .byte-table-into .last .1 .1 .1 .0) (a .sizes .now) (a .es .now) (a .table .now) (a .rank) ≡ false
+on : (q : tie.After-cut-axes) → let a = start q .args in exits (a .machine) (table-of q .byte-table-into .last .1 .1 .1 .1 .0) (a .sizes .now) (a .es .now) (a .table .now) (a .rank) ≡ false
 on q =
     let x = q .before .before .before .before in
     let f = x .before in
@@ -106,7 +99,7 @@ returns-3 c =
     let d = c .before .before in
     let q = d .before .before in
     let a = start q .args in
-    whole-declined (a .machine) (a .sizes .now) (a .es .now) (a .table .now) (a .rank) (a .purpose) _ (same q) _ (q .cut-axes .ensures) (on q)
+    whole-declined (a .machine) (a .sizes .now) (a .es .now) (a .table .now) (a .rank) (a .purpose) (start q .pre .0) _ (bytes-are (table-of q)) _ (q .cut-axes .ensures) (on q)
     (sym (d .declines-tiles .ensures) ∙ c .before .if3 .taken)
 
 fit-for-requires : tie.Need-fit-for-requires
@@ -118,7 +111,7 @@ returns-4 c =
     let d = e .before in
     let q = d .before .before in
     let a = start q .args in
-    whole-fitted (a .machine) (a .sizes .now) (a .es .now) (a .table .now) (a .rank) (a .purpose) _ (same q) _ (q .cut-axes .ensures) (on q)
+    whole-fitted (a .machine) (a .sizes .now) (a .es .now) (a .table .now) (a .rank) (a .purpose) (start q .pre .0) _ (bytes-are (table-of q)) _ (q .cut-axes .ensures) (on q)
     (sym (d .declines-tiles .ensures) ∙ e .if3 .left) (c .fit-for .ensures)
 
 pub block-sizes-spec : {M : Type 1} → statement M

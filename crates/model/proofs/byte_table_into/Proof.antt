@@ -10,23 +10,23 @@ use Rattle.model.proofs.byte_table_into.Statement.{statement}
 use Rattle.model.proofs.byte_table_into.Tie as tie
 
 abbrev Inv-loop : tie.InvT-loop
-Inv-loop sizes strides rank table₀ operands k₀ table k = (k ≤ length sizes) × (table ≡ byteRows sizes strides rank k)
+Inv-loop machine sizes strides rank table₀ operands k₀ table k = (k ≤ length sizes) × (table ≡ byteRows machine sizes strides rank k)
 
 abbrev μ-loop : tie.MeasureT-loop
-μ-loop sizes strides rank table₀ operands k₀ table k = length sizes - k
+μ-loop machine sizes strides rank table₀ operands k₀ table k = length sizes - k
 
 loop-holds : tie.Need-loop-holds Inv-loop μ-loop
 loop-holds c =
     let s = c .before in
     let a = s .args in
-    (omega arith, rows-none (a .sizes .now) (a .strides .now) (a .rank) (a .table .now) (s .pre .1 ∙ fill-none 512 0))
+    (omega arith, rows-none (a .machine) (a .sizes .now) (a .strides .now) (a .rank) (a .table .now) (s .pre .1 .1 ∙ fill-none 512 0))
 
 put-bytes-requires : tie.Need-put-bytes-requires Inv-loop μ-loop
 put-bytes-requires c κs =
     let t = c .before in
     let l = t .before in
     let s = l .before .before in
-    ((((t .loop-test .taken), (omega (arith, t .loop-test, s .pre .0 .0 .0), s .pre .0 .0 .1)), s .pre .0 .1), l .loop .inv .1)
+    (s .pre .0, ((t .loop-test .taken, (omega (arith, t .loop-test, s .pre .1 .0 .0), s .pre .1 .0 .1)), l .loop .inv .1))
 
 add-k : tie.Need-add-k Inv-loop μ-loop
 add-k c = omega arith
@@ -42,7 +42,7 @@ returns c =
     let l = c .before in
     let a = l .before .before .args in
     let e : l .loop .k ≡ length (a .sizes .now) = omega arith in
-    l .loop .inv .1 ∙ ap (byteRows (a .sizes .now) (a .strides .now) (a .rank)) e
+    l .loop .inv .1 ∙ ap (byteRows (a .machine) (a .sizes .now) (a .strides .now) (a .rank)) e
 
 pub byte-table-into-spec : {M : Type 1} → statement M
 byte-table-into-spec =

@@ -13,7 +13,7 @@ use Rattle.strided.specs.declared.Purpose.the-variants.{Pointwise}
 use Rattle.laws.specs.Base.Arrays.{getD-padded}
 use Rattle.laws.specs.Cut.Same.{SameCosts}
 use Rattle.laws.specs.Plan.Ranks.{ranks-same}
-use Rattle.model.proofs.Rooms.{scores, same-bytes}
+use Rattle.model.proofs.Rooms.{scores}
 use Rattle.model.proofs.Whole.{ruled-is}
 use Rattle.model.proofs.cut_axes.Statement.{statement}
 use Rattle.model.proofs.cut_axes.Tie as tie
@@ -50,8 +50,8 @@ returns c =
     let ranked = ranks-same (a .sizes .now) (a .strides .now) (a .rank) (replicate 64 0) (p .few) (p .axes) _ (r .plan-ranks-into .ensures) in
     c .compute-blocks-at .ensures
     ∙ ap (λ (n : ℕ). cutting (a .machine) (a .bytes .now) (length (a .sizes .now)) (k .compute-costs .result) ranks 0 n (a .blocks .now)) (sub-zero (a .rank))
-    ∙ ruled-is (a .machine) (a .sizes .now) (a .blocks .now) (a .strides .now) (a .rank) Pointwise (a .bytes .now)
-    (same-bytes (a .sizes .now) (a .strides .now) (a .rank) (a .bytes .now) (p .axes) (s .pre .1 .1)) (k .compute-costs .result) (costed k) ranks ranked
+    ∙ ruled-is (a .machine) (a .sizes .now) (a .blocks .now) (a .strides .now) (a .rank) Pointwise (s .pre .0) (a .bytes .now) (s .pre .1 .1)
+    (k .compute-costs .result) (costed k) ranks ranked
 
 pub cut-axes-spec : {M : Type 1} → statement M
 cut-axes-spec =

@@ -38,14 +38,17 @@ loop-holds c =
     let a = c .before .args in
     (omega arith, omega arith, omega arith, capped _ (sym (sum-start _ _)), omega (arith, product-start (far (a .machine) (a .bytes .now) (a .blocks .now) (a .k)) (a .tail .offset)))
 
-add-s : tie.Need-add-s Inv-loop μ-loop
-add-s c = omega arith
+add-wide : tie.Need-add-wide Inv-loop μ-loop
+add-wide c = omega arith
 
-mul-s : tie.Need-mul-s Inv-loop μ-loop
-mul-s c = omega arith
+mul-wide : tie.Need-mul-wide Inv-loop μ-loop
+mul-wide c = omega arith
 
-element-copy-out-s : tie.Need-element-copy-out-s Inv-loop μ-loop
-element-copy-out-s c = omega arith
+element-copy-out-wide : tie.Need-element-copy-out-wide Inv-loop μ-loop
+element-copy-out-wide c = omega arith
+
+wide-requires : tie.Need-wide-requires Inv-loop μ-loop
+wide-requires c κs = tt
 
 mul-b : tie.Need-mul-b Inv-loop μ-loop
 mul-b c = omega arith
@@ -73,8 +76,10 @@ more : (C T c t r top : ℕ) → min c top ≡ min C top → min t top ≡ min T
 more C T c t r top p q e = omega arith
 
 loop-again : tie.Need-loop-again Inv-loop μ-loop
-loop-again c = let l = c .before .before .before .before .before .before in
+loop-again c = let w = c .before .before .before in
+    let l = w .before .before .before .before in
     let a = l .before .before .args in
+    let e = w .wide .ensures in
     let mc = a .machine in
     let top : ℕ = cap mc in
     let i : ℕ = l .loop .i in
@@ -92,15 +97,15 @@ loop-again c = let l = c .before .before .before .before .before .before in
       omega arith,
       omega arith,
       omega (arith, w .2, t .1),
-      rw (ss, lt-ltb s (mc .line) (w .0 .taken)) (more C (s * (b - 1)) (l .loop .c) _ _ top (l .loop .inv .3) (capped top (t .0) ∙ min-mul-right s (b - 1) top) (w .2)),
-      rw (ps, lt-ltb s (mc .line) (w .0 .taken), mul-one) (w .3 ∙ l .loop .inv .4),
+      rw (ss, lt-ltb s (mc .line) (omega (arith, e, w .0 .taken))) (more C (s * (b - 1)) (l .loop .c) _ _ top (l .loop .inv .3) (capped top (t .0 ∙ ap (λ (x : ℕ). x * min (b - 1) top) e) ∙ min-mul-right s (b - 1) top) (w .2)),
+      rw (ps, lt-ltb s (mc .line) (omega (arith, e, w .0 .taken)), mul-one) (w .3 ∙ l .loop .inv .4),
     ))
     (λ w. (
       omega arith,
       omega arith,
       omega (arith, w .2),
-      rw (ss, le-ltb s (mc .line) (w .0 .left), add-zero) (capped top (w .2) ∙ l .loop .inv .3),
-      rw (ps, le-ltb s (mc .line) (w .0 .left)) (w .3 ∙ w .1 .ensures ∙ ap (λ (x : ℕ). min (x * b) top) (l .loop .inv .4) ∙ min-mul-left M b top),
+      rw (ss, le-ltb s (mc .line) (omega (arith, e, w .0 .left)), add-zero) (capped top (w .2) ∙ l .loop .inv .3),
+      rw (ps, le-ltb s (mc .line) (omega (arith, e, w .0 .left))) (w .3 ∙ w .1 .ensures ∙ ap (λ (x : ℕ). min (x * b) top) (l .loop .inv .4) ∙ min-mul-left M b top),
     ))
     (c .if2 .came)
 
@@ -139,9 +144,10 @@ region-of-spec =
     add-top
     mul-from
     loop-holds
-    add-s
-    mul-s
-    element-copy-out-s
+    add-wide
+    mul-wide
+    element-copy-out-wide
+    wide-requires
     mul-b
     element-copy-out-b
     near-part-requires

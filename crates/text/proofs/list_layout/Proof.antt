@@ -1,4 +1,4 @@
--- `text::list_layout` meets its contract: rows 1 to 7, then row 13. Assumes nothing.
+-- `text::list_layout` meets its contract: rows 1 to 6, then row 13. Assumes nothing.
 use mathlib.Core.Path.{_≡_, sym, _∙_}
 use mathlib.Core.Option.{none}
 use mir.Facts.{toZ-ofZ}
@@ -24,7 +24,7 @@ enum-told c = search needs
 total-at-most-requires : tie.Need-total-at-most-requires
 total-at-most-requires c κs = search needs
 
--- rows 1 to 7 let the layout through
+-- rows 1 to 6 let the layout through
 passed : (c : tie.After-enum-told) → let a = c .before .before .before .before .before .before .args in
     layoutRefused (a .extents .now) (a .sizes .now) (a .strides .now) (a .purpose) ≡ none
 passed c = served-none _ (sym (c .before .before .check-layout .ensures) ∙ c .enum-told .given .1)

@@ -1,4 +1,4 @@
--- `gougelily::plans::gougelily_plan` meets its contract: what is made where rows 1 to 7 and 24 pass, and every lent byte kept where one applies.
+-- `gougelily::plans::gougelily_plan` meets its contract: what is made where rows 1 to 6 and 24 pass, and every lent byte kept where one applies.
 -- Assumes nothing.
 use borrow.Author.Needs.{needs}
 use mathlib.Core.Path.{_≡_, refl, sym, _∙_}
@@ -33,7 +33,7 @@ negated-requires c κs = search needs
 enum-told : tie.Need-enum-told
 enum-told c = search needs
 
--- rows 1 to 7 and 24 let the layout through
+-- rows 1 to 6 and 24 let the layout through
 passed : (c : tie.After-enum-told) → let a = c .before .before .before .before .before .before .args in
     planningRefused (machineOf (a .line) (a .cache) (a .way) (a .live)) (a .extents .now) (a .sizes .now) (a .strides .now) (c .before .before .before .purpose-of .result) ≡ none
 passed c = served-none _ (sym (c .before .before .check-planning .ensures) ∙ c .enum-told .given .1)

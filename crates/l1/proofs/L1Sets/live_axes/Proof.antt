@@ -41,23 +41,27 @@ loop-holds c =
     let a = c .before .args in
     (omega arith, ap (seek (near (a .machine) (a .bytes .now) (a .k)) 0) (sub-zero (a .rank)), holds-none)
 
-mul-s : tie.Need-mul-s Inv-loop μ-loop
-mul-s c = omega arith
+mul-wide : tie.Need-mul-wide Inv-loop μ-loop
+mul-wide c = omega arith
 
-add-s : tie.Need-add-s Inv-loop μ-loop
-add-s c = omega arith
+add-wide : tie.Need-add-wide Inv-loop μ-loop
+add-wide c = omega arith
 
-mul-s-2 : tie.Need-mul-s-2 Inv-loop μ-loop
-mul-s-2 c = omega arith
+mul-wide-2 : tie.Need-mul-wide-2 Inv-loop μ-loop
+mul-wide-2 c = omega arith
 
-element-copy-out-s : tie.Need-element-copy-out-s Inv-loop μ-loop
-element-copy-out-s c = omega arith
+element-copy-out-wide : tie.Need-element-copy-out-wide Inv-loop μ-loop
+element-copy-out-wide c = omega arith
+
+wide-requires : tie.Need-wide-requires Inv-loop μ-loop
+wide-requires c κs = tt
 
 returns-2 : tie.Need-returns-2 Inv-loop μ-loop
 unfolding liveCount
-returns-2 c = let l = c .before .before .before .before in
+returns-2 c = let w = c .before .before in
+    let l = w .before .before .before in
     let a = l .before .before .args in
-    let e : reuse (a .machine) (a .bytes .now) (a .rank) (a .k) ≡ l .loop .i = sym (l .loop .inv .1) ∙ seek-hit (near (a .machine) (a .bytes .now) (a .k)) (l .loop .i) (a .rank) (omega arith) (lt-ltb _ _ (c .if2 .taken)) in
+    let e : reuse (a .machine) (a .bytes .now) (a .rank) (a .k) ≡ l .loop .i = sym (l .loop .inv .1) ∙ seek-hit (near (a .machine) (a .bytes .now) (a .k)) (l .loop .i) (a .rank) (omega arith) (lt-ltb (byteAt (a .bytes .now) (a .k) (l .loop .i)) (a .machine .line) (omega (arith, w .wide .ensures, c .if2 .taken))) in
     record { count = rw (ne-eqb _ _ (l .before .if1 .left), e, lt-ltb (l .loop .i) (a .rank) (omega arith)); few = omega arith; aliased = l .loop .inv .2 }
 
 rem-aliased : tie.Need-rem-aliased Inv-loop μ-loop
@@ -71,18 +75,21 @@ shl-aliased c = omega arith
 
 -- the set with axis i: its byte stride is a line at least, so not 0
 stored : (c : tie.After-struct-known2 Inv-loop μ-loop) →
-    let l = c .before .before .before .before .before in
+    let w = c .before .before .before in
+    let l = w .before .before .before in
     let a = l .before .before .args in
     let i : ℕ = l .loop .i in
-    Holds (aliasesAt (a .machine) (a .bytes .now) (a .k)) (i + 1) (l .loop .aliased + boolByte (eqb (byteAt (a .bytes .now) (a .k) i % a .machine .way) 0) * 2 ^ i % 2 ^ 64)
+    Holds (aliasesAt (a .machine) (a .bytes .now) (a .k)) (i + 1) (l .loop .aliased + boolByte (eqb (w .wide .result % a .machine .way) 0) * 2 ^ i % 2 ^ 64)
 stored c =
-    let l = c .before .before .before .before .before in
+    let w = c .before .before .before in
+    let l = w .before .before .before in
     let a = l .before .before .args in
     let s : ℕ = byteAt (a .bytes .now) (a .k) (l .loop .i) in
-    holds-more (eqb (s % a .machine .way) 0) (l .loop .inv .2) (omega arith) (rw (ne-eqb s 0 (λ e. omega arith)))
+    let e : w .wide .result ≡ s = w .wide .ensures in
+    holds-more (eqb (w .wide .result % a .machine .way) 0) (l .loop .inv .2) (omega arith) (rw (ne-eqb s 0 (λ z. omega (arith, e, z)), e))
 
 add-aliased : tie.Need-add-aliased Inv-loop μ-loop
-add-aliased c = let i : ℕ = c .before .before .before .before .before .loop .i in omega (arith, stored c .below, pow-mono {i = i + 1} {j = 64} (omega arith))
+add-aliased c = let i : ℕ = c .before .before .before .before .before .before .loop .i in omega (arith, stored c .below, pow-mono {i = i + 1} {j = 64} (omega arith))
 
 add-i : tie.Need-add-i Inv-loop μ-loop
 add-i c = omega arith
@@ -91,9 +98,10 @@ loop-less : tie.Need-loop-less Inv-loop μ-loop
 loop-less c = omega arith
 
 loop-again : tie.Need-loop-again Inv-loop μ-loop
-loop-again c = let a = c .before .before .before .before .before .before .before .args in
-    let l = c .before .before .before .before .before .loop in
-    (omega arith, sym (seek-miss (near (a .machine) (a .bytes .now) (a .k)) (l .i) (a .rank) (omega arith) (le-ltb _ _ (c .before .if2 .left))) ∙ l .inv .1, stored c)
+loop-again c = let w = c .before .before .before in
+    let a = w .before .before .before .before .before .args in
+    let l = w .before .before .before .loop in
+    (omega arith, sym (seek-miss (near (a .machine) (a .bytes .now) (a .k)) (l .i) (a .rank) (omega arith) (le-ltb (byteAt (a .bytes .now) (a .k) (l .i)) (a .machine .line) (omega (arith, w .wide .ensures, c .before .if2 .left)))) ∙ l .inv .1, stored c)
 
 returns-3 : tie.Need-returns-3 Inv-loop μ-loop
 unfolding liveCount
@@ -110,10 +118,11 @@ live-axes-spec =
     μ-loop
     returns
     loop-holds
-    mul-s
-    add-s
-    mul-s-2
-    element-copy-out-s
+    mul-wide
+    add-wide
+    mul-wide-2
+    element-copy-out-wide
+    wide-requires
     returns-2
     rem-aliased
     cast-aliased
