@@ -257,6 +257,10 @@ module _ (mc : Machine) (bytes sizes : List ℕ) (rank : ℕ) (chosenSize : ℕ 
   pub fitted-above : (b : List ℕ) (i : ℕ) → 1 ≤ getD b i 0 → 1 ≤ getD (fitted mc bytes sizes rank chosenSize b) i 0
   fitted-above b = fit-whole b .above
 
+  -- a frozen axis keeps its block
+  pub fitted-kept : (b : List ℕ) (i : ℕ) → Frozen mc bytes sizes rank chosenSize i → getD (fitted mc bytes sizes rank chosenSize b) i 0 ≡ getD b i 0
+  fitted-kept b = fit-whole b .kept
+
   -- the axes outside it as in the model load no less
   model-tight : (b r : List ℕ) (i : ℕ) → AtMost r b → getD r i 0 < getD b i 0 → L (oneMore b r i) ≤ L (oneMoreAlone b r i)
   model-tight b r i less l =

@@ -32,7 +32,7 @@ use Rattle.laws.specs.Base.Tests.{or-none}
 use Rattle.laws.specs.Refusals.Accepted.{accepted}
 use Rattle.laws.specs.Refusals.Record.{planning-layout}
 use Rattle.laws.specs.Cut.Above.{cutting-above}
-use Rattle.laws.specs.Plan.Bounds.{array-wide}
+use Rattle.laws.specs.Plan.Bounds.{array-above}
 use Rattle.laws.specs.Fit.Good.{fit-good}
 
 -- ---- the two plans of the same axes
@@ -163,7 +163,7 @@ module _ (mc : Machine) (es sizes : List ℕ) (ss : List ℤ) (c : ℕ) where
   unfolding planFrom
   served-good h =
       let above : 1024 < total es → (i : ℕ) → i < length axs → 1 ≤ getD (padded 64 0 (extents axs)) i 0 =
-      λ l i k. let w = array-wide es sizes ss (Fold c) (accepted es sizes ss (Fold c) (planning-layout mc es sizes ss (Fold c) h)) (omega arith) i k in omega arith in
+      λ l. array-above es sizes ss (Fold c) (accepted es sizes ss (Fold c) (planning-layout mc es sizes ss (Fold c) h)) (omega arith) in
       record {
         answer = refl;
         axes = same-axes mc es sizes axs c;

@@ -1,5 +1,5 @@
--- WHAT A PLAN'S ARRAYS HAVE, where planning does not refuse the layout: few axes, and the layout's own reach at each operand. So what
--- row 6 bounds stays bounded for cutting.
+-- WHAT A PLAN'S ARRAYS HAVE, where planning does not refuse the layout: few axes, no extent of 0 where there is a cell, and the layout's own
+-- reach at each operand. So what row 6 bounds stays bounded for cutting.
 -- Assumes nothing.
 use mathlib.Core.Path.{_≡_, sym, ap₂, _∙_, subst}
 use mathlib.Core.Bool.{false}
@@ -14,7 +14,7 @@ use Rattle.strided.specs.Fuse.{planAxes}
 use Rattle.strided.specs.Plan.{strideTable}
 use Rattle.strided.specs.declared.Purpose.{Purpose}
 use Rattle.laws.specs.Base.Arrays.{take-counted, getD-padded}
-use Rattle.laws.specs.Base.Layouts.{extent-le, length-extents, table-row}
+use Rattle.laws.specs.Base.Layouts.{total-nozero, nozero-at, extent-le, length-extents, table-row}
 use Rattle.laws.specs.Refusals.Accepted.{Accepted}
 use Rattle.laws.specs.Refusals.Zeros.{no-zero-of}
 use Rattle.laws.specs.Fuse.Maps.{plan-short, plan-total}
@@ -38,6 +38,12 @@ module _ (es sizes : List ℕ) (ss : List ℤ) (u : Purpose) (a : Accepted es si
 
   pub plan-few : length (planAxes es (length sizes) ss u) ≤ 64
   plan-few = omega (arith, plan-short es m ss u, a .axes)
+
+  -- no extent is 0
+  pub array-above : 0 < total es → (i : ℕ) → i < length (planAxes es (length sizes) ss u) → 1 ≤ getD (padded 64 0 (extents (planAxes es (length sizes) ss u))) i 0
+  array-above h i l =
+      subst (λ (e : ℕ). 1 ≤ e) (sym (getD-padded 0 64 (extents axs) i (omega (arith, plan-few))))
+      (nozero-at (extents axs) i (total-nozero (extents axs) (omega (arith, plan-total es m ss u))) (omega (arith, length-extents axs)))
 
   -- an extent is at most the total
   pub array-small : 0 < total es → (i : ℕ) → i < length (planAxes es (length sizes) ss u) → getD (padded 64 0 (extents (planAxes es (length sizes) ss u))) i 0 < 2 ^ 64

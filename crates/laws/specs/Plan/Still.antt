@@ -1,17 +1,17 @@
 -- AN AXIS THAT NOBODY MOVES ALONG IS NEVER CUT: in the plan of any layout, for either purpose and any record, an axis on which every stride is
 -- 0 has its extent as block. Cutting passes over it, the tail's blocks become 1 only where no byte stride is 0, and the fit skips it.
 -- Assumes nothing.
-use mathlib.Core.Path.{_≡_, refl, sym, ap, _∙_}
-use mathlib.Core.Bool.{Bool, true, false, cond, _&&_, _||_, not, false≢true}
+use mathlib.Core.Path.{_≡_, refl, ap, _∙_}
+use mathlib.Core.Bool.{Bool, true, false, cond, _||_}
 use mathlib.Core.List.{List}
-use mathlib.Core.Logic.{⊎-elim}
+use mathlib.Core.Logic.{⊎-elim, inr}
 use mathlib.Core.Option.{Option, none, some}
 use Prim.Native.Nat.{ℕ, zero, suc, _+_, _*_, _≤_, _<_}
 use native.Mathlib.Nat.{zero-mul}
 use native.Mathlib.Omega.{arith}
 use lib.Dec.{ltb, leb, eqb}
 use lib.IntN.{ℤ, pos, natAbs}
-use lib.ListN.{length, getD, set}
+use lib.ListN.{length, getD}
 use lib.Seq.{getD-set-other}
 use borrow.Author.Tests.{ltb-true, leb-false}
 use Rattle.strided.specs.Base.{padded, least, every}
@@ -22,7 +22,7 @@ use Rattle.strided.specs.Region.{byteTable, byteAt, region}
 use Rattle.strided.specs.Costs.{costNumber, costs}
 use Rattle.strided.specs.Cut.{planRanks, shrunk, leastByte, keepsFirst, ones, cutting}
 use Rattle.strided.specs.Decline.{declined}
-use Rattle.strided.specs.Fit.{load, enters, shortens, mostOf, fitFrom, fitted}
+use Rattle.strided.specs.Fit.{fitted}
 use Rattle.strided.specs.Plan.{strideTable, grows, fittedFor, cutBlocks, planFrom, plannedOr, planned}
 use Rattle.strided.specs.declared.Machine.{Machine}
 use Rattle.strided.specs.declared.Purpose.{Purpose}
@@ -31,6 +31,7 @@ use Rattle.strided.specs.declared.Refusal.{Refusal}
 use Rattle.strided.specs.declared.Plan.{Plan}
 use Rattle.laws.specs.Cut.Ranges.{le-or-lt, least-in}
 use Rattle.laws.specs.Cut.Steps.{shrunk-still}
+use Rattle.laws.specs.Fit.Good.{fitted-kept}
 use Rattle.laws.specs.Cut.Tables.{strideSize, byte-at, cost-at, cost-none, still-each}
 use Rattle.laws.specs.Refusals.Accepted.{Accepted, accepted}
 use Rattle.laws.specs.Refusals.Record.{planning-layout}
@@ -82,34 +83,6 @@ module _ (mc : Machine) (bytes : List ℕ) (operands : ℕ) (costs : List ℕ) (
       (le-or-lt o j))
       (λ t. shrunk-still mc bytes operands costs o (suc n) b j free)))
 
--- ---- the fit
-
-module _ (mc : Machine) (bytes sizes : List ℕ) (rank : ℕ) (chosenSize : ℕ → ℕ) (j : ℕ) (stays : chosenSize j ≡ 0) where
-  -- it is skipped, so that another axis is shortened
-  shortens-other : (b : List ℕ) (n : ℕ) → shortens mc bytes sizes rank chosenSize b n ≡ true → (x : ℕ) → As j (set b n x) b
-  unfolding shortens
-  shortens-other b n t x = getD-set-other b n j x 0 (λ e. false≢true (skipped e ∙ t))
-    where
-      skipped : j ≡ n → false ≡ (not (eqb (chosenSize n) 0) && (enters mc bytes sizes rank n && ltb 1 (getD b n 0)))
-      skipped e = rw (ap chosenSize (sym e) ∙ stays)
-
-  fit-still : (n : ℕ) (b : List ℕ) → As j (fitFrom mc bytes sizes rank chosenSize n b) b
-  unfolding fitFrom
-  fit-still zero b = refl
-  fit-still (suc n) b =
-      let on : List ℕ = fitFrom mc bytes sizes rank chosenSize n (set b n 1) in
-      let last : List ℕ = set b n (mostOf mc bytes sizes rank b n) in
-      either-as (shortens mc bytes sizes rank chosenSize b n) j (cond (ltb (mc .live) (load mc bytes sizes rank (set b n 1))) on last) _ b
-      (λ t. either-as (ltb (mc .live) (load mc bytes sizes rank (set b n 1))) j on last b
-      (λ e. fit-still n (set b n 1) ∙ shortens-other b n t 1)
-      (λ e. shortens-other b n t (mostOf mc bytes sizes rank b n)))
-      (λ t. fit-still n b)
-
-  fitted-still : (b : List ℕ) → As j (fitted mc bytes sizes rank chosenSize b) b
-  unfolding fitted
-  fitted-still b =
-      either-as (ltb (mc .live) (load mc bytes sizes rank b)) j (fitFrom mc bytes sizes rank chosenSize rank b) b b (λ e. fit-still rank b) (λ e. refl)
-
 -- ---- the blocks of a plan
 
 module _ (mc : Machine) (sizes es : List ℕ) (strides : List ℤ) (rank j : ℕ) (one : 0 < length sizes) (axes : rank ≤ 64) (h : j < rank)
@@ -127,7 +100,7 @@ module _ (mc : Machine) (sizes es : List ℕ) (strides : List ℤ) (rank j : ℕ
   for-still (Fold c) b there = refl
   for-still (PointwiseInto c) b there =
       either-as (eqb (length sizes) 2) j (fitted mc (byteTable sizes strides) sizes rank (strideSize strides c) b) b b
-      (λ e. fitted-still mc (byteTable sizes strides) sizes rank (strideSize strides c) j (stays c (leb-false (length sizes) c there)) b)
+      (λ e. fitted-kept mc (byteTable sizes strides) sizes rank (strideSize strides c) b j (inr (stays c (leb-false (length sizes) c there))))
       (λ e. refl)
 
   blocks-still : (u : Purpose) → missing (length sizes) (chosen u) ≡ false → As j (cutBlocks mc sizes es strides rank u) es
