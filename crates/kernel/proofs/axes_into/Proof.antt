@@ -1,7 +1,6 @@
 -- `kernel::axes_into` meets its contract: the axes in the order of fusing, fused, make the plan's axes. Assumes nothing.
 use mathlib.Core.Path.{refl}
 use lib.ListN.{length}
-use borrow.Author.Needs.{needs}
 use Rattle.strided.specs.Base.{padded}
 use Rattle.strided.specs.Layout.{extents}
 use Rattle.strided.specs.Plan.{strideTable}

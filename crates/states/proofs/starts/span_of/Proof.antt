@@ -1,9 +1,8 @@
 -- `states::starts::span_of` meets its contract. The invariant: each sum, with what is left of it from axis i on, is the whole.
 -- Assumes nothing.
-use Rattle.strided.specs.Layout.{reach}
-use Rattle.laws.specs.Walk.Row9.{belowTerm, belowOf}
+use Rattle.laws.specs.Walk.Row9.{belowTerm}
 use Rattle.layout.proofs.Caps.{elem-read}
-use Prim.Native.Nat.{ℕ, _<_, _*_, _^_, _≤_, _-_}
+use Prim.Native.Nat.{_<_, _*_, _^_, _≤_, _-_}
 use native.Mathlib.Nat.{zero-add}
 use native.Mathlib.Omega.{arith}
 use lib.IntN.{ℤ, natAbs, pos}

@@ -1,8 +1,8 @@
 -- `states::starts::way_on` meets its contract. Assumes nothing.
-use Prim.Native.Nat.{ℕ, _-_, _*_, _<_, _^_}
+use Prim.Native.Nat.{ℕ, _-_, _*_}
 use native.Mathlib.Omega.{arith}
 use lib.IntN.{natAbs}
-use mathlib.Core.Path.{_≡_, sym, ap, subst, _∙_}
+use mathlib.Core.Path.{_≡_, ap, _∙_}
 use mir.Facts.{toZ-ofZ}
 use borrow.Author.Needs.{needs}
 use Rattle.states.proofs.starts.way_on.Statement.{statement}
