@@ -70,9 +70,9 @@ extern "C" {
 
 /*
  * Why a call is refused. Of several reasons the least number is answered, but
- * that of a text 12 comes first and 13 follows 7, and that 24 follows 4. Total
- * is the product of the extents, reach the sum over the axes of (extent - 1) *
- * size of the stride. If an extent is 0, the rows 6, 7 and 9 pass.
+ * that of a text 12 comes first, and that 24 follows 4. Total is the product of
+ * the extents, reach the sum over the axes of (extent - 1) * size of the stride.
+ * If an extent is 0, the rows 6 and 9 pass. 7 is given no longer.
  *
  * The numbers here are positive, and a refused call answers them negated:
  * compare gougelily_refused(answer) with them, not the answer.
@@ -84,7 +84,6 @@ extern "C" {
     ROW(GOUGELILY_CHOSEN, 4, "the chosen operand is not there")                                      \
     ROW(GOUGELILY_TOTAL, 5, "the product of the extents is above 2^64 - 1")                          \
     ROW(GOUGELILY_REACH, 6, "an operand's reach is above 2^63 - 1")                                  \
-    ROW(GOUGELILY_BYTES, 7, "an operand's size times (1 + reach) is above 2^63 - 1")                 \
     ROW(GOUGELILY_START_COUNT, 8, "the number of starts is not the number of operands")              \
     ROW(GOUGELILY_OFFSETS, 9, "some offset from the start is outside 64-bit signed")                 \
     ROW(GOUGELILY_STATE, 10, "no walk begun on this plan comes to this state")                       \
@@ -193,7 +192,7 @@ typedef struct gougelily_block_t {
  * Answers 0, and the plan: its rank, at most that of the layout, and its
  * operands; for each of its axes, the innermost first, the extent and the block
  * size; and for each operand k and axis i the stride, at k * 64 + i.
- * Refuses 1, 2, 3, 4, 24, 5, 6, 7, in this order.
+ * Refuses 1, 2, 3, 4, 24, 5, 6, in this order.
  */
 static inline int64_t gougelily_plan_layout(const gougelily_layout_t *layout, const gougelily_machine_t *machine,
                                             gougelily_plan_t *plan);
@@ -202,7 +201,7 @@ static inline int64_t gougelily_plan_layout(const gougelily_layout_t *layout, co
  * Whether a layout can be planned for its purpose, without planning it.
  *
  * Answers 0 if there is a plan, on any machine within its bounds.
- * Refuses 1, 2, 3, 4, 5, 6, 7: what planning refuses on such a machine.
+ * Refuses 1, 2, 3, 4, 5, 6: what planning refuses on such a machine.
  */
 static inline int64_t gougelily_check(const gougelily_layout_t *layout);
 
@@ -213,7 +212,7 @@ static inline int64_t gougelily_check(const gougelily_layout_t *layout);
  * Takes a plan index: a block's counters, with k added on axis 0 for the block's
  * cell k.
  * Answers 0, and the index with its count, the layout's rank.
- * Refuses 1, 2, 3, 4, 5, 6, 7, 11.
+ * Refuses 1, 2, 3, 4, 5, 6, 11.
  */
 static inline int64_t gougelily_original_index_of(const gougelily_layout_t *layout, const uint64_t *counters,
                                                   size_t counter_count, gougelily_index_t *original);
@@ -222,7 +221,7 @@ static inline int64_t gougelily_original_index_of(const gougelily_layout_t *layo
  * The plan index of an original index, the reverse of gougelily_original_index_of.
  *
  * Answers 0, and the plan index with its count, the plan's rank.
- * Refuses 1, 2, 3, 4, 5, 6, 7, 11.
+ * Refuses 1, 2, 3, 4, 5, 6, 11.
  */
 static inline int64_t gougelily_plan_index_of(const gougelily_layout_t *layout, const uint64_t *original,
                                               size_t original_count, gougelily_index_t *index);
@@ -296,7 +295,7 @@ int64_t gougelily_repeat_mark(const uint64_t *extents, size_t extent_count, cons
  * for each axis; a line B,number,length,offsets for each block, from starts 0;
  * Z,blocks,cells. It stands at the front of the room, and bytes behind it are as
  * they were.
- * Refuses 12, 1, 2, 4, 5, 6, 7, 13, 14, in this order.
+ * Refuses 12, 1, 2, 4, 5, 6, 13, 14, in this order.
  */
 int64_t gougelily_walklist(const uint8_t *text, size_t text_len, uint8_t *room, size_t room_len);
 

@@ -325,7 +325,7 @@ static void known_refusals(void)
     l = one(3, (int64_t)1 << 62, 1);
     CHECK(plan_of(&l, &p) == -GOUGELILY_REACH);
     l = one(2, (int64_t)1 << 60, 8);
-    CHECK(plan_of(&l, &p) == -GOUGELILY_BYTES);
+    CHECK(plan_of(&l, &p) == 0 && p.rank == 1 && p.extents[0] == 2 && p.blocks[0] == 2);
     l = one(5, 1, 8);
     CHECK(index_of(&l, 1, &five, 1, &x) == -GOUGELILY_INDEX && index_of(&l, 0, &five, 0, &x) == -GOUGELILY_INDEX);
     CHECK(plan_of(&l, &p) == 0 && begin_of(&p, &last, 0, &w) == -GOUGELILY_START_COUNT);

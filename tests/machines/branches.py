@@ -7,8 +7,9 @@ FAULTS = ("line no power of two", "line below 32", "line above 256", "cache belo
           "way below the line", "way above the cache", "live below 1", "live above 16")
 
 GROUPS = {
-    "rows that refuse": [f"row {row}" for row in (1, 2, 3, 4, 24, 5, 6, 7)],
-    "their order": [*(f"{row} before 24" for row in (1, 2, 3, 4)), *(f"24 before {row}" for row in (5, 6, 7)), "24 at a zero extent"],
+    "rows that refuse": [f"row {row}" for row in (1, 2, 3, 4, 24, 5, 6)],
+    "their order": [*(f"{row} before 24" for row in (1, 2, 3, 4)), *(f"24 before {row}" for row in (5, 6)), "24 at a zero extent"],
+    "byte strides": ["a span that row 7 refused", "a byte stride of two words", "a byte stride of two words, fitted", "a byte stride of two words, declined"],
     "why a record is refused": [f"{fault}, and nothing else" for fault in FAULTS],
     "records at a bound": RECORDS,
     "kept whole": ["rank 0", "total at most 1,024", "region fits", "region just fits", "all grow"],

@@ -5,7 +5,7 @@ Their regions are about as large as its cache or larger, and their strides meet 
 
 from math import gcd
 
-from neighbours import Layout, Operand
+from neighbours import Layout, Operand, reach
 from records import spread
 
 SIZES = 0, 1, 1, 2, 4, 4, 8, 8, 8, 8, 16, 24, 32, 3, 64, 100, 128, 256
@@ -195,6 +195,34 @@ def damaged(rng, machine):
     return Layout(good.purpose, chosen, tuple(extents), tuple(operands))
 
 
+def wide(rng, machine):
+    """Sizes of any 64 bits, and strides up to row 6's limit: byte strides of one word and of two."""
+    told = rng.choice((large, crowded, crowded, high))(rng, machine)
+    if rng.random() < 0.2:  # whole lines, whatever the strides: tiles may be declined
+        operands = [Operand(2 ** rng.randint(50, 63), operand.strides) for operand in told.operands]
+        return Layout(told.purpose, told.chosen, told.extents, tuple(operands))
+    operands = []
+    for operand in told.operands:
+        size, strides = operand.size, list(operand.strides)
+        if rng.random() < 0.5:
+            times = stretch(rng, WIDEST // max(1, reach(told.extents, strides)))
+            strides = [stride * times for stride in strides] if rng.random() < 0.3 else strides
+            for axis, extent in enumerate(told.extents):
+                most = WIDEST // len(strides) // max(1, extent * abs(strides[axis]))
+                if rng.random() < 0.4 and most:
+                    strides[axis] *= stretch(rng, most)
+        if rng.random() < 0.4:
+            size = rng.choice((2 ** rng.randint(0, 63), rng.choice((1, 3, 7, 63)) << rng.randint(0, 58), 2**64 - rng.randint(1, 99), rng.getrandbits(64)))
+        operands.append(Operand(size, tuple(max(-WIDEST, min(stride, WIDEST)) for stride in strides)))
+    return Layout(told.purpose, told.chosen, told.extents, tuple(operands))
+
+
+def stretch(rng, most):
+    """A number of 1 to `most`: a power of two, or any."""
+    bits = max(most, 1).bit_length() - 1
+    return rng.choice((1 << rng.randint(0, bits), 1 << rng.randint(max(0, bits - 9), bits), rng.randint(1, max(1, most))))
+
+
 def layout(rng, machine):
-    draw = rng.choices((large, crowded, huge, broadcast, high, small, damaged), (58, 18, 6, 6, 4, 4, 4))[0]
+    draw = rng.choices((large, crowded, huge, broadcast, high, small, damaged, wide), (56, 16, 6, 6, 4, 4, 4, 10))[0]
     return draw(rng, machine)

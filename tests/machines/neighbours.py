@@ -20,5 +20,5 @@ from gougelily.rules.fitting import fit, load, products  # noqa: E402,F401
 from form import Layout, NotInForm, Operand, read_text, write_text  # noqa: E402,F401
 from plan import SMALL, small_plan  # noqa: E402,F401
 from recorded import read_cases  # noqa: E402,F401
-from rows import applying, total  # noqa: E402,F401
+from rows import applying, reach, total, wide  # noqa: E402,F401
 from walk import Axis, line, read_axes  # noqa: E402,F401

@@ -7,9 +7,9 @@ It is made to judge the port where no Rust decides, so it shares nothing with ei
 from dataclasses import dataclass
 
 from machine import faults, limits_of
-from neighbours import SMALL, Axis, applying, cutting, declined, fit, planning, reading, total
+from neighbours import SMALL, Axis, applying, cutting, declined, fit, planning, reading, total, wide
 
-ORDER = 1, 2, 3, 4, 24, 5, 6, 7
+ORDER = 1, 2, 3, 4, 24, 5, 6
 
 
 @dataclass
@@ -37,7 +37,7 @@ def refusal(layout, machine, met):
     row = next((row for row in ORDER if row in due), None)
     if row == 24:
         met.update(f"{fault}, and nothing else" for fault in outside if len(outside) == 1)
-        met.update(f"24 before {later}" for later in (5, 6, 7) if later in due)
+        met.update(f"24 before {later}" for later in (5, 6) if later in due)
         if 0 in layout.extents:
             met.add("24 at a zero extent")
     elif row is not None and outside:
@@ -88,14 +88,21 @@ def blocks_of(layout, axes, machine, met):
         return axes.extents
     if size >= 2**64:
         met.add("a region beyond 64 bits")
+    two_words = any(stride >= 2**64 for row in axes.bytes for stride in row)
+    if two_words:
+        met.add("a byte stride of two words")
     blocks = cutting.cut(axes, machine, met)
     if declined(axes, blocks, machine.line, met):
+        if two_words:
+            met.add("a byte stride of two words, declined")
         return axes.extents
     other = "a fold" if layout.purpose == "F" else "none chosen" if layout.chosen is None else "not two operands" if len(layout.operands) != 2 else ""
     if other:
         met.add(f"not fitted: {other}")
         return blocks
     fitted = fit(axes, blocks, layout.chosen, machine, met)
+    if fitted != blocks and two_words:
+        met.add("a byte stride of two words, fitted")
     if fitted != blocks:
         met.add("fit shortens" if blocks != axes.extents else "fit shortens what cutting left whole")
     return fitted
@@ -108,4 +115,6 @@ def plan(layout, machine, met):
         return row
     axes = for_blocks(layout)
     met.update(limits_of(machine))
+    if wide(layout):
+        met.add("a span that row 7 refused")
     return [Axis(*axis) for axis in zip(axes.extents, blocks_of(layout, axes, machine, met), zip(*axes.strides))]

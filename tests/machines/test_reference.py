@@ -210,7 +210,7 @@ class Records(unittest.TestCase):
             (layout([2], (8, [1]), chosen=1), 4, 4),
             (layout([2**32, 2**32], (8, [0, 0])), 24, 5),
             (layout([3], (8, [2**62])), 24, 6),
-            (layout([2], (8, [2**60])), 24, 7),
+            (layout([2], (8, [2**60])), 24, []),
             (layout([0], (8, [2**60])), 24, []),
         ):
             self.assertEqual(plan(told, bad, set()), row)

@@ -64,6 +64,6 @@ def run(subject, given):
         done.update(names)
         formed.update(names if outcome != "R,12" else ())
     if given.count >= ENOUGH:
-        subject.require(*(f"R,{row}" for row in (1, 2, 4, 5, 6, 7, 12, 13, 14)))
+        subject.require(*(f"R,{row}" for row in (1, 2, 4, 5, 6, 12, 13, 14)))
         subject.require("listed, no cell", "listed, up to 1,024 cells", "listed, above 1,024 cells")
     subject.notes = [f"{done[name]:6}  {name}, {formed[name]} still in the form" for name in DAMAGES]

@@ -77,7 +77,7 @@ def totals():
 
 
 def reaches():
-    """Row 6. With size 0 row 7 passes."""
+    """Row 6."""
     for extents, strides, row in (
         ([2], [MOST], None),
         ([2], [-MOST], None),
@@ -106,29 +106,32 @@ def reaches():
 
 
 def sizes():
-    """Row 7, size x (1 + reach)."""
+    """Spans of 2^63 - 1 bytes and just above, where row 7 was, and up to all that row 6 allows."""
     for extents, size, strides, row in (
         ([], MOST, [], None),
-        ([], MOST + 1, [], 7),
-        ([], 2**64 - 1, [], 7),
+        ([], MOST + 1, [], None),
+        ([], 2**64 - 1, [], None),
         ([1], MOST, [5], None),
-        ([1], MOST + 1, [5], 7),
+        ([1], MOST + 1, [5], None),
         ([5], MOST, [0], None),
-        ([5], MOST + 1, [0], 7),
+        ([5], MOST + 1, [0], None),
         ([2], 1, [MOST - 1], None),
-        ([2], 1, [MOST], 7),
+        ([2], 1, [MOST], None),
         ([2], 1, [1 - MOST], None),
-        ([2], 1, [-MOST], 7),
+        ([2], 1, [-MOST], None),
         ([2], 7, [MOST // 7 - 1], None),
-        ([2], 7, [MOST // 7], 7),
+        ([2], 7, [MOST // 7], None),
         ([2], 8, [2**60 - 2], None),
-        ([2], 8, [2**60 - 1], 7),
-        ([2], 8, [2**60], 7),
+        ([2], 8, [2**60 - 1], None),
+        ([2], 8, [2**60], None),
         ([2, 3], 49, [MOST // 49 - 3, 1], None),
-        ([2, 3], 49, [MOST // 49 - 2, 1], 7),
+        ([2, 3], 49, [MOST // 49 - 2, 1], None),
+        ([2, 2], 2**64 - 1, [2**62, 2**62 - 1], None),
+        ([600, 2], 2**64 - 1, [1, 2**62], None),
+        ([600, 2], 8, [-(2**53), 2**61], None),
         ([2, 0], 2**64 - 1, [MOST, -MOST - 1], None),
         ([2**62], 1, [1], 13),
-        ([2**62], 2, [1], 7),
+        ([2**62], 2, [1], 13),
     ):
         name = f"extents {extents}, size {size}, strides {strides}"
         yield name, text(extents, (size, strides)), row
@@ -163,24 +166,18 @@ def orders():
     yield "1 before 4", text(wide, (8, [0] * 65), chosen=1), 1
     yield "1 before 5", text(wide, (8, [0] * 65)), 1
     yield "1 before 6", text(wide, (0, [MOST] * 65)), 1
-    yield "1 before 7", text([1] * 65, (2**63, [0] * 65)), 1
     yield "1 before 13", text([2] * 21 + [1] * 44, (0, [0] * 65)), 1
     yield "2 before 4", text([2], chosen=0), 2
     yield "2 before 5", text([2**64 - 1, 2]), 2
     yield "2 before 6", text([3], *[(8, [2**62])] * 9), 2
-    yield "2 before 7", text([3], *[(2**63, [0])] * 9), 2
     yield "2 before 13", text([1_048_577]), 2
     yield "4 before 5", text([2**64 - 1, 2], (8, [0, 0]), chosen=1), 4
     yield "4 before 6", text([3], (0, [2**62]), chosen=1), 4
-    yield "4 before 7", text([2], (8, [2**60]), purpose="F", chosen=1), 4
     yield "4 before 13", text([1_048_577], (8, [1]), chosen=1), 4
     yield "5 before 6", text([2**64 - 1, 2], (0, [MOST, 0])), 5
-    yield "5 before 7", text([2**64 - 1, 2], (2**64 - 1, [0, 0])), 5
-    yield "6 before 7", text([3], (8, [2**62])), 6
-    yield "6 of an operand before 7 of the one before it", text([3], (2**63, [0]), (0, [2**62])), 6
     yield "6 before 13", text([2**63 + 1], (0, [1])), 6
-    yield "7 before 13", text([1_048_577], (2**63, [0])), 7
-    yield "7 before 13, by the reach", text([1_048_577], (8, [2**40])), 7
+    yield "13, where row 7 was before it", text([1_048_577], (2**63, [0])), 13
+    yield "13, where row 7 was before it by the reach", text([1_048_577], (8, [2**40])), 13
     yield "13 before 14", text([2, 524_289], (8, [1, 3])), 13
     yield "14", text([2, 524_288], (8, [1, 3])), 14
     for row, good in (
@@ -189,7 +186,6 @@ def orders():
         (4, text([2], (8, [1]), chosen=1)),
         (5, text([2**64 - 1, 2], (8, [0, 0]))),
         (6, text([3], (8, [2**62]))),
-        (7, text([2], (8, [2**60]))),
         (13, text([1_048_577], (8, [1]))),
         (14, text([2, 524_288], (8, [1, 3]))),
     ):

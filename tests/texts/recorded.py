@@ -79,4 +79,4 @@ def compare(case, text, answer):
 def run(subject, given):
     for case in read_cases():
         subject.compare(case.name, case.text, partial(compare, case))
-    subject.require("R,1", "R,2", "R,4", "R,5", "R,6", "R,7", "R,13", "R,14", "listed, every block recorded", "listed, the first blocks recorded")
+    subject.require("R,1", "R,2", "R,4", "R,5", "R,6", "R,13", "R,14", "listed, every block recorded", "listed, the first blocks recorded")

@@ -1,4 +1,5 @@
-"""The refusal table of document 01 on a layout that a text says: rows 1, 2, 4 to 7 and 13, in exact whole numbers.
+"""The refusal table of document 01 on a layout that a text says: rows 1, 2, 4 to 6 and 13, in exact whole numbers. Row 7 is given no longer (document
+02, ask 6).
 
 Row 3 cannot apply to a text in the form, rows 8 to 11 have no input in one, 12 is the form's and 14 the listing's.
 """
@@ -29,15 +30,17 @@ def applying(layout):
         yield 4
     if 0 in layout.extents:
         return  # the rows below pass
-    reaches = [reach(layout.extents, operand.strides) for operand in layout.operands]
     if total(layout) > 2**64 - 1:
         yield 5
-    if any(length > 2**63 - 1 for length in reaches):
+    if any(reach(layout.extents, operand.strides) > 2**63 - 1 for operand in layout.operands):
         yield 6
-    if any(operand.size * (1 + length) > 2**63 - 1 for operand, length in zip(layout.operands, reaches)):
-        yield 7
     if total(layout) > MOST_CELLS:
         yield 13
+
+
+def wide(layout):
+    """Whether a layout that no row refuses was refused by row 7: "size x (1 + reach) above 2^63 - 1"."""
+    return 0 not in layout.extents and any(operand.size * (1 + reach(layout.extents, operand.strides)) > 2**63 - 1 for operand in layout.operands)
 
 
 def refusal(layout):

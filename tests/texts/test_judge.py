@@ -91,7 +91,7 @@ class Rows(unittest.TestCase):
     def test_rows_that_apply(self):
         self.assertEqual(list(applying(layout([2, 3], (8, [1, 2])))), [])
         self.assertEqual(list(applying(layout([2] * 65, chosen=0))), [1, 2, 4, 5, 13])
-        self.assertEqual(list(applying(layout([2**32, 2**32], (8, [2**62, 1])))), [5, 6, 7, 13])
+        self.assertEqual(list(applying(layout([2**32, 2**32], (8, [2**62, 1])))), [5, 6, 13])
         self.assertEqual(list(applying(layout([2**32, 2**32, 0], (2**64 - 1, [2**62, 1, 1])))), [])
         self.assertEqual(due(b"")[0], 12)
 

@@ -113,6 +113,16 @@ impl Counts {
         }
     }
 
+    /// Fails if this name was never met.
+    pub fn require_one(&self, subject: &str, name: &str) -> Result<(), String> {
+        let met = self
+            .0
+            .iter()
+            .any(|&(known, count)| known == name && count > 0);
+        let unmet = format!("{subject}: the same, but never met: {name}");
+        met.then_some(()).ok_or(unmet)
+    }
+
     /// Fails if a name was never met, but for some.
     pub fn require(&self, subject: &str, but: &[&str]) -> Result<(), String> {
         let unmet = self.0.iter().filter(|(_, count)| *count == 0);

@@ -33,7 +33,7 @@ const COUNTED: [&str; 15] = [
     "walks whose places are every index once",
     "places of whole walks",
     "places of a block in the middle",
-    "refused by rows 1 to 7",
+    "refused by rows 1 to 6",
     "refused by row 3",
     "row 11: a zero extent",
     "row 11: a counter too many",
@@ -309,7 +309,7 @@ fn compare_layout(layout: &Layout, random: &mut Random, met: &mut Counts) -> Res
             refuses(what, find, &flat, &zeros, row)?;
             refuses(what, find, &flat, &[7; 65], row)?;
         }
-        met.add("refused by rows 1 to 7");
+        met.add("refused by rows 1 to 6");
         return Ok(());
     }
     let fused = caught(|| Fused::of(layout))?;

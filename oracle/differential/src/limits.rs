@@ -20,12 +20,13 @@ pub const WALK_LIMITS: [&str; 10] = [
     "one past: reach 2^63",
 ];
 
-/// The limits of rows 4 and 7.
+/// The limits of row 4, and those of row 7, past which a layout is answered
+/// since document 02's ask 6.
 pub const LAYOUT_LIMITS: [&str; 4] = [
     "limit: the last operand chosen",
     "one past: the operand behind the last chosen",
-    "limit: the longest reach for its size",
-    "one past: a reach longer by 1 than for its size",
+    "row 7's limit: the longest reach for its size",
+    "row 7's limit: a reach longer by 1 than for its size",
 ];
 
 /// The limits that a layout lies at, or is one past.
@@ -39,8 +40,10 @@ pub fn limits(layout: &Layout, refusal: Option<u32>) -> Vec<&'static str> {
         .map(|row| reach(extents, row))
         .collect();
     let bytes = || layout.sizes.iter().map(|&size| size as u128).zip(&reaches);
-    // Whether a reach longer by 1 is above what row 7 allows, or one shorter is not.
-    let longest = |(size, &reach): (u128, &u128)| size * (2 + reach) > GREATEST_SIGNED;
+    // Whether a reach longer by 1 is above what row 7 allowed, or one shorter is not.
+    let longest = |(size, &reach): (u128, &u128)| {
+        size * (2 + reach) > GREATEST_SIGNED && size * (1 + reach) <= GREATEST_SIGNED
+    };
     let longer = |(size, &reach): (u128, &u128)| {
         size * (1 + reach) > GREATEST_SIGNED && size * reach <= GREATEST_SIGNED
     };
@@ -59,8 +62,12 @@ pub fn limits(layout: &Layout, refusal: Option<u32>) -> Vec<&'static str> {
                 layout.chosen == Some(operands - 1),
             ),
             (
-                "limit: the longest reach for its size",
+                "row 7's limit: the longest reach for its size",
                 !zero && bytes().any(longest),
+            ),
+            (
+                "row 7's limit: a reach longer by 1 than for its size",
+                !zero && bytes().any(longer),
             ),
         ],
         Some(1) => vec![("one past: rank 65", extents.len() == 65)],
@@ -76,10 +83,6 @@ pub fn limits(layout: &Layout, refusal: Option<u32>) -> Vec<&'static str> {
         Some(6) => vec![(
             "one past: reach 2^63",
             reaches.contains(&(GREATEST_SIGNED + 1)),
-        )],
-        Some(7) => vec![(
-            "one past: a reach longer by 1 than for its size",
-            bytes().any(longer),
         )],
         Some(_) => Vec::new(),
     };

@@ -25,8 +25,8 @@ differential: compares the port with the original on seeded layouts
 
   --subject S  only this subject: parts, plans, walks, finding, marks, or replay:
                the recorded answers
-  --kind KIND  only this kind: order, fuse, block, refuse, small, still or mixed;
-               then no branch has to be reached
+  --kind KIND  only this kind: order, fuse, block, refuse, small, still, wide or
+               mixed; then no branch has to be reached
   --seed S     the seed (0)
   --count N    how many layouts of each kind (20000)
   --steps N    most single steps of the original's cutting; a layout that takes
@@ -35,7 +35,7 @@ differential: compares the port with the original on seeded layouts
 ";
 
 /// The kinds of layouts that are compared if none is named.
-const KINDS: [&str; 6] = ["order", "fuse", "block", "refuse", "small", "still"];
+const KINDS: [&str; 7] = ["order", "fuse", "block", "refuse", "small", "still", "wide"];
 
 /// A subject: its name, whether its library is linked, and its comparison, which
 /// writes a report.

@@ -126,8 +126,7 @@ fn same_axes(flat: &Flat, number: u64, expected: &Fused) -> Result<(), String> {
     same_array("costs", &found.costs, &expected.costs)
 }
 
-/// Compares a layout. The parts are there also if one of the rows 5 to 7
-/// refuses, but the original's axes rest on the total, which row 5 keeps.
+/// Compares a layout. The parts are there also if row 5 or 6 refuses, but the original's axes rest on the total, which row 5 keeps.
 fn compare_layout(layout: &Layout) -> Result<(), String> {
     let flat = Flat::of(layout);
     let number = u64::from(layout.refusal().unwrap_or(0));

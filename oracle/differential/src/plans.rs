@@ -11,7 +11,7 @@ use std::fmt::Write as _;
 use strided_basic as original;
 use tools::answer::{rows, Axes};
 use tools::branches::{fits, study, Branch};
-use tools::generate::Random;
+use tools::generate::{Kind, Random};
 use tools::layout::{Layout, Purpose};
 use tools::model;
 
@@ -144,6 +144,10 @@ pub fn compare(task: &Task, report: &mut String) -> Result<(), String> {
         "{new:10}  single steps of the cutting rule at most, {old} of the unchanged Rust's"
     )
     .expect("a String takes all");
+    let wide = task.kinds.iter().any(|&(_, kind)| kind == Kind::Wide);
+    if wide {
+        met.require_one("plans", Branch::Wide.name())?;
+    }
     if task.whole {
         // Layouts on which the original is slow are compared with the model.
         let slow = [Branch::CutCapped, Branch::StillSlow].map(Branch::name);

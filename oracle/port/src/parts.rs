@@ -67,7 +67,7 @@ macro_rules! functions {
 }
 
 functions! {
-    /// The refusal's number by rows 1 to 7, or 0.
+    /// The refusal's number by rows 1 to 6, or 0.
     check = parts_check();
     /// The ranks.
     ranks = parts_ranks(out: &mut Ranks);

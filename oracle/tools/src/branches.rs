@@ -35,7 +35,7 @@ branches! {
     Refused4 = "refused by row 4",
     Refused5 = "refused by row 5",
     Refused6 = "refused by row 6",
-    Refused7 = "refused by row 7",
+    Wide = "more than 2^63 - 1 bytes, which row 7 refused",
     RankZero = "rank 0",
     ZeroExtent = "zero extent",
     SizeZero = "operand of size 0",
@@ -109,7 +109,6 @@ fn refused(row: u32) -> Branch {
         4 => Branch::Refused4,
         5 => Branch::Refused5,
         6 => Branch::Refused6,
-        7 => Branch::Refused7,
         _ => unreachable!("row {row} refuses no layout"),
     }
 }
@@ -151,6 +150,7 @@ pub fn study(layout: &Layout, steps: u64) -> Study {
     };
     let axes = Axes::of(layout);
     let (extents, sizes) = (&axes.extents, &layout.sizes);
+    note(Branch::Wide, layout.wide());
     note(Branch::RankZero, layout.extents.is_empty());
     note(Branch::ZeroExtent, layout.extents.contains(&0));
     note(Branch::SizeZero, sizes.contains(&0));

@@ -1,7 +1,7 @@
 //! Seeded layouts and walk requests: an own random number sequence, and one
 //! maker per kind. The same seed, count and kind give the same text.
 
-use crate::layout::{Layout, Purpose, Request, Walk};
+use crate::layout::{reach, Layout, Purpose, Request, Walk};
 
 /// The sequence splitmix64.
 pub struct Random(u64);
@@ -62,18 +62,20 @@ pub enum Kind {
     Refuse,
     Small,
     Still,
+    Wide,
     Mixed,
     Walk,
 }
 
 impl Kind {
-    pub const NAMES: [(&'static str, Kind); 8] = [
+    pub const NAMES: [(&'static str, Kind); 9] = [
         ("order", Kind::Order),
         ("fuse", Kind::Fuse),
         ("block", Kind::Block),
         ("refuse", Kind::Refuse),
         ("small", Kind::Small),
         ("still", Kind::Still),
+        ("wide", Kind::Wide),
         ("mixed", Kind::Mixed),
         ("walk", Kind::Walk),
     ];
@@ -102,6 +104,7 @@ pub fn layout(random: &mut Random, kind: Kind) -> Layout {
             Kind::Block => block(random),
             Kind::Small => small(random),
             Kind::Still => still(random),
+            Kind::Wide => wide(random),
             Kind::Refuse => return refuse(random),
             Kind::Mixed | Kind::Walk => {
                 let kinds = [
@@ -110,6 +113,7 @@ pub fn layout(random: &mut Random, kind: Kind) -> Layout {
                     Kind::Block,
                     Kind::Refuse,
                     Kind::Small,
+                    Kind::Wide,
                 ];
                 let kind = random.pick(&kinds);
                 return self::layout(random, kind);
@@ -220,7 +224,7 @@ fn order(random: &mut Random) -> Layout {
         random.shuffle(&mut ranks);
         let mut row = Vec::new();
         for (axis, &extent) in extents.iter().enumerate() {
-            // Shares the reach that rows 6 and 7 allow among the axes.
+            // Shares a span of 2^63 - 1 bytes among the axes.
             let share = GREATEST / size.max(1) / rank / extent.max(1);
             let stride = match style {
                 0 => ranks[axis] as isize,
@@ -626,6 +630,67 @@ fn small(random: &mut Random) -> Layout {
     finish(random, extents, sizes, strides)
 }
 
+/// Sizes of any 64 bits and strides up to row 6's limit: byte strides of one
+/// word and of two, below a line and far above every cache, in one layout.
+fn wide(random: &mut Random) -> Layout {
+    let mut layout = match random.within(0, 7) {
+        0 => small(random),
+        1 => order(random),
+        _ => block(random),
+    };
+    let Layout {
+        extents,
+        sizes,
+        strides,
+        ..
+    } = &mut layout;
+    for (size, row) in sizes.iter_mut().zip(strides) {
+        match random.within(0, 4) {
+            0 => {}
+            // Every stride the same number of times as long.
+            1 | 2 => {
+                let most = GREATEST as u128 / reach(extents, row).max(1);
+                let times = factor(random, most as usize);
+                for stride in row.iter_mut() {
+                    *stride = stride.saturating_mul(times);
+                }
+            }
+            // Each stride another number of times, or not.
+            _ => {
+                let share = GREATEST / extents.len().max(1);
+                for (stride, &extent) in row.iter_mut().zip(extents.iter()) {
+                    let way = (extent as u128).max(2) * u128::from(stride.unsigned_abs() as u64);
+                    if random.chance(1, 2) && way <= share as u128 {
+                        *stride *= factor(random, share / (way as usize).max(1));
+                    }
+                }
+            }
+        }
+        *size = match random.within(0, 7) {
+            0..=2 => *size,
+            3 => 1 << random.within(0, 63),
+            4 => random.pick(&[1, 3, 7, 63]) << random.within(0, 58),
+            5 => usize::MAX - random.magnitude(1 << 20),
+            _ => random.magnitude(usize::MAX),
+        };
+    }
+    layout
+}
+
+/// A number of 1 to `most`: often a power of two, which keeps multiples of the
+/// line and of the way, or `most` itself.
+fn factor(random: &mut Random, most: usize) -> isize {
+    let most = most.clamp(1, GREATEST);
+    let bits = (usize::BITS - 1 - most.leading_zeros()) as usize;
+    let found = match random.within(0, 5) {
+        0 => most,
+        1 => random.magnitude(most).max(1),
+        2 => 1 << random.within(0, bits),
+        _ => 1 << random.within(bits.saturating_sub(12), bits),
+    };
+    found as isize
+}
+
 /// Each row of the refusal table that the text form can meet, at its limit and
 /// one past it, at times with a higher row as well.
 fn refuse(random: &mut Random) -> Layout {
@@ -662,10 +727,10 @@ fn refuse(random: &mut Random) -> Layout {
         }
         3 => refuse_total(random, &mut layout, past),
         4 => refuse_reach(random, &mut layout, past),
-        _ => refuse_bytes(random, &mut layout, past),
+        _ => span_bytes(random, &mut layout, past),
     }
     if random.chance(1, 8) {
-        // A zero extent lets rows 5, 6 and 7 pass.
+        // A zero extent lets rows 5 and 6 pass.
         let axis = random.within(0, layout.extents.len() - 1);
         layout.extents[axis] = 0;
     }
@@ -714,7 +779,6 @@ fn refuse_reach(random: &mut Random, layout: &mut Layout, past: usize) {
     };
     layout.extents = extents;
     layout.strides = vec![vec![0; row.len()], row];
-    // Size 0, or row 7 refuses the limit itself.
     layout.sizes = vec![random.pick(&[0, 1, 8]), random.pick(&[0, 0, 0, 1])];
     if random.chance(1, 2) {
         layout.strides.reverse();
@@ -722,10 +786,10 @@ fn refuse_reach(random: &mut Random, layout: &mut Layout, past: usize) {
     }
 }
 
-/// Row 7: bytes of 2^63 - 1 or the last below it, and the first above it.
-fn refuse_bytes(random: &mut Random, layout: &mut Layout, past: usize) {
+/// Spans of 2^63 - 1 bytes or the last below it, and the first above it: the limit of row 7, which is given no longer.
+fn span_bytes(random: &mut Random, layout: &mut Layout, past: usize) {
     let size = random.pick(&[1, 7, 8, 73, 1 << 20, GREATEST, usize::MAX]);
-    // The greatest allowed reach, or one more; none is allowed at size 2^64 - 1.
+    // The greatest reach within it, or one more; none is at size 2^64 - 1.
     let reach = (GREATEST / size + past).saturating_sub(1).min(GREATEST);
     let sign = random.pick(&[1, -1]);
     let (extents, row) = match random.within(0, 2) {

@@ -81,18 +81,24 @@ impl Layout {
         if total(&self.extents) > GREATEST_UNSIGNED {
             return Some(5);
         }
-        let reaches = || self.strides.iter().map(|row| reach(&self.extents, row));
-        if reaches().any(|reach| reach > GREATEST_SIGNED) {
+        let mut reaches = self.strides.iter().map(|row| reach(&self.extents, row));
+        if reaches.any(|reach| reach > GREATEST_SIGNED) {
             return Some(6);
         }
-        // Each reach is below 2^63 now, so each product is below 2^127.
-        let bytes = reaches()
-            .zip(&self.sizes)
-            .map(|(reach, &size)| size as u128 * (1 + reach));
-        if bytes.into_iter().any(|bytes| bytes > GREATEST_SIGNED) {
-            return Some(7);
-        }
         None
+    }
+
+    /// Whether row 7 refused the layout, until document 02's ask 6: no row
+    /// before it does, and some operand spans more than 2^63 - 1 bytes.
+    pub fn wide(&self) -> bool {
+        if self.refusal().is_some() || self.extents.contains(&0) {
+            return false;
+        }
+        // Each reach is below 2^63, so each product is below 2^127.
+        let bytes = |(row, &size): (&Vec<isize>, &usize)| {
+            size as u128 * (1 + reach(&self.extents, row)) > GREATEST_SIGNED
+        };
+        self.strides.iter().zip(&self.sizes).any(bytes)
     }
 }
 

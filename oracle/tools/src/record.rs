@@ -22,13 +22,14 @@ const FIXED_CASES: &str = include_str!("cases.txt");
 const FIXED_WALKS: &str = include_str!("walks.txt");
 
 /// Kind, seed, how many cases, and how many of them may be long.
-const SAMPLES: [(Kind, u64, usize, usize); 6] = [
+const SAMPLES: [(Kind, u64, usize, usize); 7] = [
     (Kind::Order, 101, 66, 16),
     (Kind::Fuse, 102, 60, 2),
     (Kind::Block, 103, 110, 6),
     (Kind::Refuse, 104, 70, 2),
     (Kind::Small, 105, 50, 2),
     (Kind::Still, 107, 24, 2),
+    (Kind::Wide, 108, 36, 2),
 ];
 /// A case whose text is longer is a long one.
 const LONG_CASE: usize = 2500;

@@ -106,7 +106,7 @@ fn refusal_examples() {
     let reach = "L,P,1,1,-\nE,3\nO,8,4611686018427387904\n";
     assert_eq!(answer(reach), "R,6\n.\n");
     let bytes = "L,P,1,1,-\nE,2\nO,8,1152921504606846976\n";
-    assert_eq!(answer(bytes), "R,7\n.\n");
+    assert!(answer(bytes).contains("\nZ,1,2\n"));
     let offset = "W,1,1\nE,2\nS,1\nO,9223372036854775807,1\n";
     assert_eq!(answer(offset), "R,9\n.\n");
 }

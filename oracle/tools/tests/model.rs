@@ -27,8 +27,14 @@ fn compared(layout: &Layout, steps: u64) -> bool {
 #[test]
 fn seeded_layouts() {
     let mut random = Random::new(7);
-    let kinds = [Kind::Block, Kind::Still, Kind::Order, Kind::Fuse];
-    for (kind, least) in kinds.into_iter().zip([9_000, 9_000, 100, 100]) {
+    let kinds = [
+        (Kind::Block, 9_000),
+        (Kind::Still, 9_000),
+        (Kind::Order, 100),
+        (Kind::Fuse, 100),
+        (Kind::Wide, 5_000),
+    ];
+    for (kind, least) in kinds {
         let drawn = (0..10_000).map(|_| layout(&mut random, kind));
         let count = drawn.filter(|layout| compared(layout, 20_000)).count();
         assert!(count >= least, "{kind:?}: {count}");

@@ -11,7 +11,7 @@ generate: prints seeded layouts in the text form
 
   --seed S     the seed (0)
   --count N    how many (100)
-  --kind KIND  order, fuse, block, refuse, small, mixed (all of these), still,
+  --kind KIND  order, fuse, block, refuse, small, wide, mixed (all of these), still,
                or walk: walk requests (mixed)
   --help       this text
 ";
