@@ -37,7 +37,7 @@
  * lent twice, and to several threads at a time.
  *
  * Threads. Every function is reentrant: it keeps nothing between calls, takes no
- * lock and allocates nothing. Planning takes 9 to 15 KB of stack, and up to 125
+ * lock and allocates nothing. Planning takes 7 to 13 KB of stack, and up to 125
  * where some 50 axes are kept whole one after another; walklist some 30, up to
  * 55; the others less than 12.
  *

@@ -280,16 +280,13 @@ def reasons(layout: Layout, machine: Machine, row: int) -> Iterator[str]:
         yield f"line 1: operand {layout.chosen} is chosen, there are 0 to {layout.operands - 1}"
     elif row == 5:
         yield f"line 2: the extents make {shown(prod(layout.extents))} cells; {shown(2**64 - 1)} are the most"
-    elif row in (6, 7):
-        for k, (size, strides) in enumerate(zip(layout.sizes, layout.strides)):
+    elif row == 6:
+        for k, strides in enumerate(layout.strides):
             terms = [(extent - 1, abs(stride)) for extent, stride in zip(layout.extents, strides) if extent > 1 and stride]
             reach = sum(steps * stride for steps, stride in terms)
-            summed = " + ".join(f"{shown(steps)} x {shown(stride)}" for steps, stride in terms)
-            if row == 6 and reach > most:
+            if reach > most:
+                summed = " + ".join(f"{shown(steps)} x {shown(stride)}" for steps, stride in terms)
                 yield f"line {k + 3}: operand {k} reaches {shown(reach)} = {summed}; {shown(most)} is the most"
-            elif row == 7 and size * (1 + reach) > most:
-                spanned = f"{shown(size * (1 + reach))} = {shown(size)} x (1 + {summed or 0}) bytes"
-                yield f"line {k + 3}: operand {k} spans {spanned}; {shown(most)} are the most"
     elif row == 24:
         yield f"the record is line {machine.line}, cache {machine.cache}, way {machine.way}, live {machine.live}"
     else:

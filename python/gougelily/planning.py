@@ -79,7 +79,7 @@ def plan(*arrays: Strided, purpose: str = "P", chosen: int | None = None, machin
 
 
 def plan_layout(layout: Layout, machine: Machine = FIXED) -> Plan:
-    """The plan of a layout on a machine. These alone fix it. Raises Refused with 1, 2, 4, 24, 5, 6 or 7.
+    """The plan of a layout on a machine. These alone fix it. Raises Refused with 1, 2, 4, 24, 5 or 6.
 
     >>> copy = Layout((36, 36), (32, 32), ((1, 36), (128, 1)), purpose="P", chosen=0)
     >>> print(plan_layout(copy))

@@ -19,7 +19,6 @@ REFUSALS = {
     4: Row("the chosen operand is not there", "operand 2 is chosen, there are 0 and 1"),
     5: Row("the product of the extents is above 2^64 - 1", "extents 2^32, 2^32"),
     6: Row("an operand's reach is above 2^63 - 1", "extent 3, stride 2^62; reach is the sum of (extent - 1) x stride size over the axes"),
-    7: Row("an operand's size times (1 + reach) is above 2^63 - 1", "extent 2, stride 2^60, size 8"),
     8: Row("the number of starts is not the number of operands", "one start, 2 operands"),
     9: Row("some offset from the start is outside 64-bit signed", "extent 2, stride 1, start 2^63 - 1"),
     10: Row("no walk begun on this plan comes to this state", "counter 5, extent 5"),

@@ -15,7 +15,6 @@ REFUSALS = {
     4: "chosen operand not there",
     5: "total above 2^64 - 1",
     6: "an operand's reach above 2^63 - 1",
-    7: "size x (1 + reach) above 2^63 - 1",
     12: "text not in the form",
     13: "total above 1,048,576",
     14: "output longer than the buffer",
