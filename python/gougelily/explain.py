@@ -127,7 +127,8 @@ class Explanation:
         rows = [Row("axis", range(self.plan.rank)), Row("extent", axes.extents)]
         for k, (row, byte_row, ranks) in enumerate(zip(axes.strides, axes.bytes, cutting.plan_ranks(axes.strides, axes.sizes))):
             rows += [Row(f"stride of operand {k}", row), Row("  in bytes", byte_row), Row("  rank", ranks)]
-        self.say(*table([*rows, Row("cost", self.parts.costs[: self.plan.rank], "twice the least stride size; 1 if an operand does not move")]))
+        costs = [cost or "none" for cost in self.parts.costs[: self.plan.rank]]
+        self.say(*table([*rows, Row("cost", costs, "twice the least stride size; 1 if some operand does not move, none if no operand does")]))
         line, cache = machine.line, machine.cache
         self.head(f"Region: {line} x (floor(C / {line}) + 1) x M for each operand; C sums (extent - 1) x byte stride over byte strides below {line},")
         self.say("M multiplies the other extents")
@@ -160,7 +161,7 @@ class Explanation:
 
     def the_cutting(self) -> list[int]:
         axes, cache = self.axes, self.machine.cache
-        self.head("Cutting: the block with the greatest score (block - 1) x cost is shortened, of equal ones the last")
+        self.head("Cutting: the block with the greatest score (block - 1) x cost is shortened, of equal ones the last; without a cost, none")
         ranks = cutting.plan_ranks(axes.strides, axes.sizes)
         for first in range(len(axes.extents)):
             rows = [row[first:] for row in axes.bytes]
