@@ -1,4 +1,3 @@
-pub mod Signs
 pub mod Joining
 pub mod Fusing
 pub mod Keeping

@@ -4,6 +4,7 @@ pub mod Tests
 pub mod Lists
 pub mod Integers
 pub mod Bits
+pub mod Signs
 pub mod Ranges
 pub mod Sums
 pub mod Counting

@@ -1,5 +1,6 @@
 -- What holds of the definitions of crate strided, whatever the code. A folder for each part of document 01; the main theorems:
 --   what a layout has that planning does not refuse, and back          Refusals/Accepted  accepted, accepted-back
+--   fewer cells and less reach are not refused either                  Refusals/Accepted  accepted-within
 --   row 24: the test is the claim; an allowed record changes no other row  Refusals/Record  allowed-true, allowed-back, planning-as, planning-layout
 --   the loop order and the order of fusing are permutations            Order/Permutation  fusing-permutes
 --   the loop order is the one that is sorted                           Order/Sorted       loop-order-is
@@ -35,6 +36,7 @@
 --   where the load fits the fit changes nothing; fitting twice         Fit/Idle           idle, last-idle, untested, again
 --   P and F have one plan with other than two operands, or none chosen Plan/Purposes      fit-alone, fit-unchosen
 --   layouts that were answered while row 7 was given keep their plans  Plan/Widened       plans-kept, widened
+--   a plan begins where rows 8 and 9 of its layout pass                Plan/Begins        begins-to, begins-from
 --   a plan's arrays have 64, 64 and 512 places                         Plan/Places        plan-extents, plan-blocks, plan-strides
 --   the text entry's answer: below 0, or within the lent bytes         Text/Answers       negated-below, lists-within
 pub mod Base

@@ -46,6 +46,7 @@ pub fn number(refusal: Refusal) -> u64
         Refusal::Form => 12,
         Refusal::TextTotal => 13,
         Refusal::Room => 14,
+        Refusal::Window => 15,
         Refusal::Record => 24,
     }
 }

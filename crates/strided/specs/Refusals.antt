@@ -12,7 +12,7 @@ use lib.ListN.{length, getD}
 use Rattle.strided.specs.declared.Machine.{Machine}
 use Rattle.strided.specs.declared.Purpose.{Purpose}
 use Rattle.strided.specs.declared.Refusal.{Refusal}
-use Rattle.strided.specs.declared.Refusal.the-variants.{Rank, Operands, StrideCount, Chosen, Total, Reach, StartCount, Offsets, State, Index, Form, TextTotal, Room, Record}
+use Rattle.strided.specs.declared.Refusal.the-variants.{Rank, Operands, StrideCount, Chosen, Total, Reach, StartCount, Offsets, State, Index, Form, TextTotal, Room, Window, Record}
 use Rattle.strided.specs.declared.Answer.{Answer}
 use Rattle.strided.specs.declared.Answer.the-variants.{Served, Refused}
 use Rattle.strided.specs.Base.{some-of}
@@ -34,6 +34,7 @@ number Index = 11
 number Form = 12
 number TextTotal = 13
 number Room = 14
+number Window = 15
 number Record = 24
 
 -- "the refusal's number negated": what an entry with a signed number as its answer answers
@@ -115,7 +116,7 @@ pub record OffsetLeaves (es : List ℕ) (operands : ℕ) (strides : ℕ → List
 abbrev pub row11 : List ℕ → List ℕ → Row
 row11 es x = record { applies = not (within es x); refusal = Index }
 
--- 12 to 14 are the text's
+-- 12 to 14 are the text's, 15 is the window's (crate window)
 
 -- 24, "a record outside these bounds"
 abbrev pub row24 : Machine → Row

@@ -22,7 +22,7 @@ pub struct Machine {
     pub live: u64,
 }
 
-// The rows of the refusal table, 1 to 14 in this order but for 7, which is given no longer, then 24. specs/Refusals has their numbers.
+// The rows of the refusal table, 1 to 15 in this order but for 7, which is given no longer, then 24. specs/Refusals has their numbers.
 pub enum Refusal {
     Rank,
     Operands,
@@ -37,6 +37,7 @@ pub enum Refusal {
     Form,
     TextTotal,
     Room,
+    Window,
     Record,
 }
 

@@ -10,7 +10,7 @@ use borrow.Author.Needs.{needs}
 use borrow.Author.Tests.{not-true, not-false}
 use Rattle.strided.specs.Layout.{strideColumn}
 use Rattle.strided.specs.Fuse.{joins, allJoin}
-use Rattle.fuse.proofs.Signs.{back}
+use Rattle.laws.specs.Base.Signs.{back}
 use Rattle.fuse.proofs.Joining.{join-turn, join-end}
 use Rattle.fuse.proofs.all_join.Statement.{statement}
 use Rattle.fuse.proofs.all_join.Tie as tie

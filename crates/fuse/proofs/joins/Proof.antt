@@ -9,7 +9,7 @@ use mir.Facts.{toZ-pos}
 use native.Mathlib.Omega.{arith}
 use borrow.Author.Needs.{needs}
 use borrow.Author.Tests.{leb-true, leb-false}
-use Rattle.fuse.proofs.Signs.{back}
+use Rattle.laws.specs.Base.Signs.{back}
 use Rattle.fuse.specs.Room.{roomOf}
 use Rattle.fuse.proofs.Joining.{bits-inj, eqb-bits, eqb-bits-zero, eqZ-comm, joins-zero, joins-far, joins-none, joins-long, within, joins-within}
 use Rattle.fuse.proofs.joins.Statement.{statement}

@@ -6,7 +6,7 @@ use lib.IntN.{pos, natAbs}
 use lib.ListN.{getD}
 use borrow.Author.Needs.{needs}
 use Rattle.strided.specs.Base.{least}
-use Rattle.fuse.proofs.Signs.{back}
+use Rattle.laws.specs.Base.Signs.{back}
 use Rattle.fuse.proofs.Costing.{sizeAt, least-one, least-more}
 use Rattle.fuse.proofs.least_size.Statement.{statement}
 use Rattle.fuse.proofs.least_size.Tie as tie

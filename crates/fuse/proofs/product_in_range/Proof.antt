@@ -8,7 +8,7 @@ use lib.IntN.{ℤ, pos, negsuc, natAbs}
 use borrow.Author.Needs.{needs}
 use borrow.Author.Tests.{le-leb}
 use Rattle.fuse.specs.Room.{roomOf}
-use Rattle.fuse.proofs.Signs.{back}
+use Rattle.laws.specs.Base.Signs.{back}
 use Rattle.fuse.proofs.product_in_range.Statement.{statement}
 use Rattle.fuse.proofs.product_in_range.Tie as tie
 

@@ -3,7 +3,7 @@ use mathlib.Core.Path.{_≡_}
 use mathlib.Core.Bool.{true, false}
 use lib.IntN.{pos}
 use lib.Signed.{ltZ}
-use Rattle.fuse.proofs.Signs.{back, is-neg, is-pos}
+use Rattle.laws.specs.Base.Signs.{back, is-neg, is-pos}
 use Rattle.fuse.proofs.room.Statement.{statement}
 use Rattle.fuse.proofs.room.Tie as tie
 

@@ -1,9 +1,10 @@
 -- What a layout has that planning does not refuse: the bounds that the planner's code leans on. Assumes nothing.
-use mathlib.Core.Path.{_≡_, sym, _∙_}
+use mathlib.Core.Path.{_≡_, sym, _∙_, subst}
 use mathlib.Core.Bool.{Bool, false, _||_, not}
 use mathlib.Core.List.{List}
 use mathlib.Core.Option.{none}
 use Prim.Native.Nat.{ℕ, _*_, _^_, _≤_, _<_}
+use native.Mathlib.Nat.{le-trans}
 use native.Mathlib.Omega.{arith}
 use lib.Dec.{ltb, eqb}
 use lib.IntN.{ℤ}
@@ -14,10 +15,11 @@ use Rattle.strided.specs.Layout.{strideRow, chosen, total, hasZero, reach, maxU
 use Rattle.strided.specs.Refusals.{layoutRows, layoutRefused, missing, row5}
 use Rattle.strided.specs.declared.Purpose.{Purpose}
 use Rattle.laws.specs.Base.Tests.{or-none}
+use Rattle.laws.specs.Base.Layouts.{total-nozero}
 use Rattle.laws.specs.Base.Refusals.{NoneApplies, none-applies, layout-counts}
 use Rattle.laws.specs.Refusals.Rows.{none-refuses, unless-passes, passes-unless}
 use Rattle.laws.specs.Refusals.Operands.{some-of-at, some-of-none}
-use Rattle.laws.specs.Refusals.Zeros.{row5-total}
+use Rattle.laws.specs.Refusals.Zeros.{row5-total, no-zero-of, no-zero-test, total-some}
 
 pub record Accepted (es sizes : List ℕ) (ss : List ℤ) (u : Purpose) : Type 0 where
   pub axes : length es ≤ 64
@@ -63,3 +65,37 @@ module _ (es sizes : List ℕ) (ss : List ℤ) (u : Purpose) where
       λ q. some-of-none farAt (length sizes) (λ k l. le-ltb maxI (reach es (strideRow ss (length es) k)) (f .near q k l)) in
       none-refuses (layoutRows es sizes ss u)
       (le-ltb 64 (length es) (f .axes), (two, (three, (f .there, (five, (passes-unless (hasZero es) (some-of farAt 0 (length sizes)) six, tt))))))
+
+-- ---- from one layout to another
+
+-- for any purpose whose chosen operand is there
+pub other-purpose : {es sizes : List ℕ} {ss : List ℤ} {u : Purpose} → Accepted es sizes ss u → (v : Purpose) → missing (length sizes) (chosen v) ≡ false
+    → Accepted es sizes ss v
+other-purpose a v h =
+    record {
+      axes = a .axes;
+      one = a .one;
+      few = a .few;
+      strides = a .strides;
+      there = h;
+      cells = a .cells;
+      near = a .near;
+    }
+
+-- fewer cells, less reach: fs and ts are extents and strides of as many axes and operands
+module _ {es sizes : List ℕ} {ss : List ℤ} {u : Purpose} (a : Accepted es sizes ss u) (fs : List ℕ) (ts : List ℤ) where
+  pub accepted-within : length fs ≡ length es → length ts ≡ length fs * length sizes → total fs ≤ total es
+      → ((k : ℕ) → k < length sizes → reach fs (strideRow ts (length fs) k) ≤ reach es (strideRow ss (length es) k)) → Accepted fs sizes ts u
+  accepted-within axes counted cells reaches =
+      record {
+        axes = subst (λ (n : ℕ). n ≤ 64) (sym axes) (a .axes);
+        one = a .one;
+        few = a .few;
+        strides = counted;
+        there = a .there;
+        cells = let c = a .cells in omega (arith, cells, c);
+        near = λ q k l. le-trans (reaches k l) (a .near (same-zero q) k l);
+      }
+    where
+      same-zero : hasZero fs ≡ false → hasZero es ≡ false
+      same-zero q = no-zero-test es (total-nozero es (let z = total-some fs (no-zero-of fs q) in omega (arith, cells, z)))
