@@ -72,7 +72,10 @@ extern "C" {
  * Why a call is refused. Of several reasons the least number is answered, but
  * that of a text 12 comes first, and that 24 follows 4. Total is the product of
  * the extents, reach the sum over the axes of (extent - 1) * size of the stride.
- * If an extent is 0, the rows 6 and 9 pass. 7 is given no longer.
+ * If an extent is 0, the rows 6 and 9 pass. 7 is given no longer. A window is
+ * refused with 15 if a list has not one entry per axis, a step is 0, an index
+ * lies outside its axis, a count is 0 and its first above the extent, or a new
+ * stride is outside 64-bit signed.
  *
  * The numbers here are positive, and a refused call answers them negated:
  * compare gougelily_refused(answer) with them, not the answer.
@@ -91,6 +94,7 @@ extern "C" {
     ROW(GOUGELILY_FORM, 12, "the text is not in the form")                                           \
     ROW(GOUGELILY_TEXT_TOTAL, 13, "a text's layout has more than 1,048,576 cells")                   \
     ROW(GOUGELILY_ROOM, 14, "the output is longer than the room lent for it")                        \
+    ROW(GOUGELILY_WINDOW, 15, "a window's list, step, index or new stride is wrong")                 \
     ROW(GOUGELILY_RECORD, 24, "the machine record is outside its bounds")
 
 #define GOUGELILY_ROW(name, number, sentence) name = number,
@@ -184,6 +188,31 @@ typedef struct gougelily_block_t {
     int64_t strides[GOUGELILY_MAX_OPERANDS];
 } gougelily_block_t;
 
+/*
+ * A window of a layout: for each axis the first index, how many there are, and
+ * the step to the next one, which is not 0 and goes backwards if it is negative.
+ * Index i of the window is index firsts + steps * i of the layout. The arrays
+ * stay the caller's.
+ */
+typedef struct gougelily_window_t {
+    const uint64_t *firsts;
+    const uint64_t *counts;
+    const int64_t *steps;
+    size_t rank; /* of each list */
+} gougelily_window_t;
+
+/*
+ * What a window yields: a layout of its own, with the rank, the operands and the
+ * sizes of the layout that it was cut from. The strides stand operand by operand
+ * with `rank` of them each, as a layout has them. A walk of the window starts,
+ * for operand k, at the start that the layout's walk has, plus shifts[k].
+ */
+typedef struct gougelily_windowed_t {
+    uint64_t extents[GOUGELILY_MAX_RANK];
+    int64_t strides[GOUGELILY_MAX_OPERANDS * GOUGELILY_MAX_RANK];
+    int64_t shifts[GOUGELILY_MAX_OPERANDS];
+} gougelily_windowed_t;
+
 /* ------------------------------------------------------------ functions on the structs */
 
 /*
@@ -204,6 +233,23 @@ static inline int64_t gougelily_plan_layout(const gougelily_layout_t *layout, co
  * Refuses 1, 2, 3, 4, 5, 6: what planning refuses on such a machine.
  */
 static inline int64_t gougelily_check(const gougelily_layout_t *layout);
+
+/*
+ * A window of a layout. Purpose and chosen operand are not looked at.
+ *
+ * Answers 0, and the window's extents, which are its counts; its strides, step *
+ * stride where the count is 2 or more and else the layout's; and the shifts, the
+ * sums of first * stride. A count of 0 on any axis makes the window empty, and
+ * then every shift is 0. What planning takes of the layout it takes of its
+ * windows, and starts that its walk takes are taken, shifted, by theirs.
+ * Refuses 1, 2, 3, 5, 6, 15, in this order.
+ */
+static inline int64_t gougelily_window_layout(const gougelily_layout_t *layout, const gougelily_window_t *window,
+                                              gougelily_windowed_t *windowed);
+
+/* The layout of a window, to be planned: it has the arrays of `windowed`, and the sizes and the purpose of the one it was cut from. */
+static inline gougelily_layout_t gougelily_windowed_layout(const gougelily_layout_t *layout,
+                                                           const gougelily_windowed_t *windowed);
 
 /*
  * The original index of a plan index: which cell of the layout a walk is at.
@@ -323,6 +369,14 @@ int64_t gougelily_plan(const uint64_t *extents, size_t extent_count, const uint6
 int64_t gougelily_check_layout(const uint64_t *extents, size_t extent_count, const uint64_t *sizes, size_t size_count,
                                const int64_t *strides, size_t stride_count, uint64_t purpose, uint64_t chosen);
 
+/* gougelily_window_layout */
+int64_t gougelily_window(const uint64_t *extents, size_t extent_count, const uint64_t *sizes, size_t size_count,
+                         const int64_t *strides, size_t stride_count, const uint64_t *firsts, size_t first_count,
+                         const uint64_t *counts, size_t count_count, const int64_t *steps, size_t step_count,
+                         uint64_t window_extents[GOUGELILY_MAX_RANK],
+                         int64_t window_strides[GOUGELILY_MAX_OPERANDS * GOUGELILY_MAX_RANK],
+                         int64_t shifts[GOUGELILY_MAX_OPERANDS]);
+
 /* gougelily_original_index_of */
 int64_t gougelily_original_index(const uint64_t *extents, size_t extent_count, const uint64_t *sizes,
                                  size_t size_count, const int64_t *strides, size_t stride_count, uint64_t purpose,
@@ -396,6 +450,23 @@ static inline int64_t gougelily_check(const gougelily_layout_t *layout)
 {
     return gougelily_check_layout(layout->extents, layout->rank, layout->sizes, layout->operands, layout->strides,
                                   layout->stride_count, layout->purpose, layout->chosen);
+}
+
+static inline int64_t gougelily_window_layout(const gougelily_layout_t *layout, const gougelily_window_t *window,
+                                              gougelily_windowed_t *windowed)
+{
+    return gougelily_window(layout->extents, layout->rank, layout->sizes, layout->operands, layout->strides,
+                            layout->stride_count, window->firsts, window->rank, window->counts, window->rank,
+                            window->steps, window->rank, windowed->extents, windowed->strides, windowed->shifts);
+}
+
+static inline gougelily_layout_t gougelily_windowed_layout(const gougelily_layout_t *layout,
+                                                           const gougelily_windowed_t *windowed)
+{
+    gougelily_layout_t cut = *layout;
+    cut.extents = windowed->extents;
+    cut.strides = windowed->strides;
+    return cut;
 }
 
 static inline int64_t gougelily_original_index_of(const gougelily_layout_t *layout, const uint64_t *counters,

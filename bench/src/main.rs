@@ -10,6 +10,7 @@ mod planning;
 mod texts;
 mod timing;
 mod walking;
+mod windows;
 
 use counting::Side;
 use std::io::{stdout, Write};
@@ -19,7 +20,7 @@ use tools::options::{end, unknown, Options};
 const HELP: &str = "\
 bench: times the port and the original, and prints the ratios as tables
 
-  --only WHAT      only this table: planning, walking, finding, texts or
+  --only WHAT      only this table: planning, windows, walking, finding, texts or
                    parts; may be repeated
   --runs N         short runs of each side, of which the best counts (2000)
   --seed S         the seed of the layouts for parts (0)
@@ -82,6 +83,18 @@ fn planning_table(asked: &Asked, out: &mut impl Write) -> Result<(), String> {
     ratios.sort_by(f64::total_cmp);
     let (median, most) = (ratios[ratios.len() / 2], ratios[ratios.len() - 1]);
     text += &format!("\nThe median ratio is {median:.2}, the greatest {most:.2}.\n\n");
+    put(out, &text)
+}
+
+fn windows_table(asked: &Asked, out: &mut impl Write) -> Result<(), String> {
+    let mut text = String::from("## Windows\n\n| rank | operands | ns |\n|---|---|---|\n");
+    for row in windows::times(asked.runs) {
+        text += &format!(
+            "| {} | {} | {:.0} |\n",
+            row.rank, row.operands, row.nanoseconds
+        );
+    }
+    text.push('\n');
     put(out, &text)
 }
 
@@ -178,7 +191,7 @@ fn run() -> Result<(), String> {
             _ => return Err(unknown(&option)),
         }
     }
-    if ["planning", "walking", "finding", "texts"]
+    if ["planning", "windows", "walking", "finding", "texts"]
         .iter()
         .any(|what| asked.wants(what))
     {
@@ -189,6 +202,9 @@ fn run() -> Result<(), String> {
     }
     if asked.wants("planning") {
         planning_table(&asked, &mut out)?;
+    }
+    if asked.wants("windows") {
+        windows_table(&asked, &mut out)?;
     }
     if asked.wants("walking") {
         walking_table(&asked, &mut out)?;

@@ -25,6 +25,7 @@ from .refusals import REFUSALS, Refused, refusal_text
 from .texts import NotInForm, read_layout, walklist, write_layout
 from .version import VERSION as __version__
 from .walking import Block, Run, Walk, blocks
+from .windows import Windowed, window
 
 __all__ = [
     "FIXED",
@@ -37,6 +38,7 @@ __all__ = [
     "Refused",
     "Run",
     "Walk",
+    "Windowed",
     "__version__",
     "blocks",
     "machine",
@@ -49,5 +51,6 @@ __all__ = [
     "repeat_mark",
     "version",
     "walklist",
+    "window",
     "write_layout",
 ]

@@ -36,6 +36,7 @@ FUNCTIONS: dict[str, list[Any]] = {
     "gougelily_begin": [*PLAN, I64S, SIZE, *WALK],
     "gougelily_step": [*PLAN, *WALK, U64S, U64S, I64S, I64S],
     "gougelily_step_many": [*PLAN, *WALK, U64S, SIZE, I64S, SIZE],
+    "gougelily_window": [*LAYOUT[:6], U64S, SIZE, U64S, SIZE, I64S, SIZE, U64S, I64S, I64S],
     "gougelily_repeat_mark": [U64S, SIZE, I64S, SIZE],
     "gougelily_walklist": [BYTES, SIZE, BYTES, SIZE],
 }

@@ -26,6 +26,7 @@ REFUSALS = {
     12: Row("the text is not in the form", "a number with a leading zero, a last line without LF"),
     13: Row("a text's layout has more than 1,048,576 cells", "extent 1,048,577"),
     14: Row("the output is longer than the room lent for it", "8,000 blocks in the 65,536 bytes of walklist"),
+    15: Row("a window's list, step, index or new stride is wrong", "a step of 0, index 5 on an axis of extent 5"),
     24: Row("the machine record is outside its bounds", "a line of 48 bytes"),
 }
 

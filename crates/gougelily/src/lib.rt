@@ -10,3 +10,4 @@ pub mod plans;
 pub mod texts;
 pub mod versions;
 pub mod walks;
+pub mod windows;

@@ -1,13 +1,15 @@
--- Small windows, computed: every second index, a reversed axis, an empty window, and what is refused. Assumes nothing.
+-- Small windows, computed: every second index, a reversed axis, an empty window, and what is refused; and the order of the rows.
+-- Assumes nothing.
 use mathlib.Core.Path.{_≡_, refl}
 use mathlib.Core.List.{List, [], _∷_}
 use mathlib.Core.Option.{Option, none, some}
 use Prim.Native.Nat.{ℕ}
 use lib.IntN.{ℤ, pos, negsuc}
 use Rattle.strided.specs.Base.{some-of}
+use Rattle.strided.specs.Rows.{numbers}
 use Rattle.strided.specs.declared.Refusal.{Refusal}
 use Rattle.strided.specs.declared.Refusal.the-variants.{Reach, Window}
-use Rattle.window.specs.Window.{parentIndex, windowStrides, windowShifts, windowRefused}
+use Rattle.window.specs.Window.{parentIndex, windowStrides, windowShifts, windowRows, windowRefused}
 
 -- a window of the layout of extents 4 and 5 with one operand of size 8 and strides 1 and 4: firsts, counts, steps
 pub record Row : Type 0 where
@@ -52,6 +54,10 @@ rows-right = ((refl, refl, refl), ((refl, refl, refl), ((refl, refl, refl), ((re
 -- index 1, 2 of the first window
 pub first-index : parentIndex (3 ∷ 0 ∷ []) (negsuc 1 ∷ pos 2 ∷ []) (1 ∷ 2 ∷ []) ≡ 1 ∷ 4 ∷ []
 first-index = refl
+
+-- the numbers of a window's rows, in the order in which they are asked, whatever the entry is called with
+pub window-rows : (es sizes : List ℕ) (ss : List ℤ) (fs ns : List ℕ) (st : List ℤ) → numbers (windowRows es sizes ss fs ns st) ≡ 1 ∷ 2 ∷ 3 ∷ 5 ∷ 6 ∷ 15 ∷ []
+window-rows es sizes ss fs ns st = refl
 
 -- "after 6": a wrong window of a parent that row 6 refuses
 pub after-6 : windowRefused (3 ∷ []) (8 ∷ []) (pos 9223372036854775807 ∷ []) (9 ∷ []) (1 ∷ []) (pos 1 ∷ []) ≡ some Reach

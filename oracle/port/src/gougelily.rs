@@ -14,6 +14,14 @@ pub struct Plan {
     pub strides: Strides,
 }
 
+/// A window as the port hands it out: a layout's extents and strides, and shifts.
+#[derive(Clone, Debug, PartialEq, Eq)]
+pub struct Windowed {
+    pub extents: [u64; 64],
+    pub strides: Strides,
+    pub shifts: [i64; 8],
+}
+
 /// An index as the port tells it: how many places it has, and the places.
 #[derive(Clone, Debug, PartialEq, Eq)]
 pub struct Told {
@@ -67,6 +75,23 @@ mod library {
             plan_extents: *mut [u64; 64],
             blocks: *mut [u64; 64],
             plan_strides: *mut [i64; 512],
+        ) -> i64;
+        pub fn gougelily_window(
+            extents: *const u64,
+            rank: usize,
+            sizes: *const u64,
+            operands: usize,
+            strides: *const i64,
+            stride_count: usize,
+            firsts: *const u64,
+            first_count: usize,
+            counts: *const u64,
+            count_count: usize,
+            steps: *const i64,
+            step_count: usize,
+            window_extents: *mut [u64; 64],
+            window_strides: *mut [i64; 512],
+            shifts: *mut [i64; 8],
         ) -> i64;
         pub fn gougelily_original_index(
             extents: *const u64,
@@ -193,6 +218,33 @@ faces! {
             &mut plan.extents,
             &mut plan.blocks,
             &mut plan.strides,
+        )
+    }
+
+    /// A window of a layout.
+    pub fn window(
+        layout: &Flat,
+        firsts: &[u64],
+        counts: &[u64],
+        steps: &[i64],
+        windowed: &mut Windowed,
+    ) -> i64 {
+        library::gougelily_window(
+            layout.extents.as_ptr(),
+            layout.extents.len(),
+            layout.sizes.as_ptr(),
+            layout.sizes.len(),
+            layout.strides.as_ptr(),
+            layout.strides.len(),
+            firsts.as_ptr(),
+            firsts.len(),
+            counts.as_ptr(),
+            counts.len(),
+            steps.as_ptr(),
+            steps.len(),
+            &mut windowed.extents,
+            &mut windowed.strides,
+            &mut windowed.shifts,
         )
     }
 
