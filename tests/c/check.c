@@ -6,7 +6,7 @@
  *   what planning it for the fixed machine answers; the words of a refusal;
  * - layouts at random: a walk meets every cell once, at the offsets that its
  *   original index tells, and the index maps are inverse; many steps in one call
- *   hand out the blocks of single steps;
+ *   hand out the blocks of single steps; windows have the offsets of their cells;
  * - plans and states at random, whatever they hold: a call ends with an answer.
  * After every call its inputs are as they were, after a refusal its outputs too.
  */
@@ -132,6 +132,29 @@ static int64_t plan_of(const struct layout *l, gougelily_plan_t *p)
 {
     int64_t answer = plan_on(l, fixed, p);
     CHECK(answer == check_of(l));
+    return answer;
+}
+
+/* The lists of a window, with room for counts that are refused. */
+struct window {
+    uint64_t firsts[70], counts[70];
+    int64_t steps[70];
+    size_t first_count, count_count, step_count;
+};
+
+static int64_t window_of(const struct layout *l, const struct window *n, gougelily_windowed_t *made)
+{
+    const uint64_t *e = lend(l->extents, l->rank * 8), *z = lend(l->sizes, l->operands * 8);
+    const int64_t *s = lend(l->strides, l->stride_count * 8);
+    const uint64_t *f = lend(n->firsts, n->first_count * 8), *c = lend(n->counts, n->count_count * 8);
+    const int64_t *d = lend(n->steps, n->step_count * 8);
+    uint64_t *extents = LEND(made->extents);
+    int64_t *strides = LEND(made->strides), *shifts = LEND(made->shifts);
+    int64_t answer = gougelily_window(e, l->rank, z, l->operands, s, l->stride_count, f, n->first_count, c,
+                                      n->count_count, d, n->step_count, extents, strides, shifts);
+    TAKE(made->extents, extents), TAKE(made->strides, strides), TAKE(made->shifts, shifts);
+    CHECK(answer == 0 || answer == -15 || (answer <= -1 && answer >= -6 && answer != -4));
+    settle(6, answer == 0);
     return answer;
 }
 
@@ -336,6 +359,37 @@ static void known_refusals(void)
     CHECK(step_of(&p, &w, &k) == -GOUGELILY_RANK && begin_of(&p, &last, 1, &w) == -GOUGELILY_RANK);
 }
 
+static void known_windows(void)
+{
+    struct layout l = two(4, 5, 1, 4, 5, 1, GOUGELILY_POINTWISE);
+    struct window n = {{3, 0}, {2, 3}, {-2, 2}, 2, 2, 2};
+    gougelily_windowed_t made = {0}, again = {0};
+    const gougelily_layout_t v = view(&l);
+    const gougelily_window_t w = {n.firsts, n.counts, n.steps, 2};
+    CHECK(window_of(&l, &n, &made) == 0 && made.extents[0] == 2 && made.extents[1] == 3 && made.extents[2] == 0);
+    CHECK(made.strides[0] == -2 && made.strides[1] == 8 && made.strides[2] == -10 && made.strides[3] == 2);
+    CHECK(made.strides[4] == 0 && made.shifts[0] == 3 && made.shifts[1] == 15 && made.shifts[2] == 0);
+    CHECK(gougelily_window_layout(&v, &w, &again) == 0 && memcmp(&made, &again, sizeof made) == 0);
+    CHECK(gougelily_windowed_layout(&v, &made).strides == made.strides);
+    n.counts[1] = 4;
+    CHECK(window_of(&l, &n, &made) == -GOUGELILY_WINDOW);
+    n.counts[1] = 0, n.firsts[1] = 5;
+    CHECK(window_of(&l, &n, &made) == 0 && made.shifts[0] == 0 && made.shifts[1] == 0 && made.strides[1] == 4);
+    n.firsts[1] = 6;
+    CHECK(window_of(&l, &n, &made) == -GOUGELILY_WINDOW);
+    n.firsts[1] = 0, n.counts[1] = 1, n.steps[1] = 0;
+    CHECK(window_of(&l, &n, &made) == -GOUGELILY_WINDOW);
+    n.steps[1] = 1, n.step_count = 1;
+    CHECK(window_of(&l, &n, &made) == -GOUGELILY_WINDOW);
+    l.strides[3] = INT64_MAX;
+    CHECK(window_of(&l, &n, &made) == -GOUGELILY_REACH);
+    l.stride_count = 3;
+    CHECK(window_of(&l, &n, &made) == -GOUGELILY_STRIDE_COUNT);
+    l.rank = 0, l.stride_count = 0;
+    CHECK(gougelily_window(NULL, 0, l.sizes, 2, NULL, 0, NULL, 0, NULL, 0, NULL, 0, made.extents, made.strides,
+                           made.shifts) == 0);
+}
+
 static void known_texts(void)
 {
     static const char text[] = "L,P,2,2,-\nE,2,3\nO,8,1,2\nO,8,3,1\n";
@@ -484,7 +538,7 @@ static int machine_allowed(gougelily_machine_t m)
            m.way % m.line == 0 && m.way >= m.line && m.way <= m.cache && m.live >= 1 && m.live <= 16;
 }
 
-static uint64_t cells_met, blocks_met, refusals_met, records_refused;
+static uint64_t cells_met, blocks_met, windows_met, refusals_met, records_refused;
 
 /* "array places behind the counts are 0" */
 static int blank(const void *array, size_t from, size_t to)
@@ -594,6 +648,65 @@ static void walk_layout(const struct layout *l)
     free(seen);
 }
 
+/* A window of it at random, and one cell of the window. */
+static void cut_layout(const struct layout *l)
+{
+    struct window n = {0};
+    gougelily_windowed_t made;
+    uint64_t x[70], y[70];
+    int empty = 0;
+    n.first_count = n.count_count = n.step_count = l->rank;
+    for (size_t i = 0; i < l->rank; i++) {
+        const uint64_t e = l->extents[i];
+        const int64_t step = (int64_t)(1 + below(3)) * (below(2) ? 1 : -1);
+        n.steps[i] = step, n.firsts[i] = e > 0 ? below(e) : 0;
+        if (e > 0)
+            n.counts[i] = 1 + (step < 0 ? n.firsts[i] / (uint64_t)-step : (e - 1 - n.firsts[i]) / (uint64_t)step);
+        if (below(10) == 0)
+            n.counts[i] = 0;
+        empty |= n.counts[i] == 0;
+    }
+    make_wild(&made, sizeof made / 8);
+    CHECK(window_of(l, &n, &made) == 0 && memcmp(made.extents, n.counts, 8 * l->rank) == 0);
+    CHECK(blank(made.extents, l->rank, 64) && blank(made.strides, l->rank * l->operands, 512));
+    CHECK(blank(made.shifts, empty ? 0 : l->operands, 8));
+    for (size_t i = 0; i < l->rank && !empty; i++) {
+        x[i] = below(n.counts[i]);
+        y[i] = n.firsts[i] + (uint64_t)n.steps[i] * x[i];
+        CHECK(y[i] < l->extents[i]);
+    }
+    for (size_t k = 0; k < l->operands && !empty; k++) {
+        int64_t here = made.shifts[k], there = 0;
+        for (size_t i = 0; i < l->rank; i++) {
+            here += (int64_t)x[i] * made.strides[k * l->rank + i];
+            there += (int64_t)y[i] * l->strides[k * l->rank + i];
+        }
+        CHECK(here == there);
+    }
+    windows_met++;
+    if (l->rank > 0) {
+        const size_t i = below(l->rank);
+        if (below(2))
+            n.counts[i] = l->extents[i] + 1;
+        else
+            n.steps[i] = 0;
+        CHECK(window_of(l, &n, &made) == -GOUGELILY_WINDOW);
+        refusals_met++;
+    }
+}
+
+/* Any lists at all. */
+static void garbage_window(const struct layout *l)
+{
+    struct window n;
+    gougelily_windowed_t made = {0};
+    make_wild(n.firsts, 70), make_wild(n.counts, 70), make_wild(n.steps, 70);
+    n.first_count = below(8) ? l->rank : below(70);
+    n.count_count = below(8) ? l->rank : below(70);
+    n.step_count = below(8) ? l->rank : below(70);
+    refusals_met += window_of(l, &n, &made) < 0;
+}
+
 /* ------------------------------------------------------------ plans and states at random */
 
 /* A few steps, whatever plan and state are. */
@@ -685,6 +798,7 @@ int main(int argc, char **argv)
     known_walk();
     known_words();
     known_refusals();
+    known_windows();
     known_texts();
     for (round_number = 1; round_number <= rounds; round_number++) {
         struct layout l = tame(), g = garbage();
@@ -692,6 +806,8 @@ int main(int argc, char **argv)
         gougelily_index_t x = {0};
         uint64_t counters[4];
         walk_layout(&l);
+        cut_layout(&l);
+        garbage_window(&g);
         one_number_changed(&l);
         garbage_plan();
         refusals_met += plan_of(&g, &p) < 0;
@@ -702,7 +818,8 @@ int main(int argc, char **argv)
         if (l.rank > 0)
             mark_of(&l, below(l.operands));
     }
-    printf("%llu rounds: %" PRIu64 " blocks, %" PRIu64 " cells, %" PRIu64 " refusals, %" PRIu64 " of them of records\n",
-           rounds, blocks_met, cells_met, refusals_met + records_refused, records_refused);
+    printf("%llu rounds: %" PRIu64 " blocks, %" PRIu64 " cells, %" PRIu64 " windows, %" PRIu64 " refusals, %" PRIu64
+           " of them of records\n",
+           rounds, blocks_met, cells_met, windows_met, refusals_met + records_refused, records_refused);
     return 0;
 }

@@ -116,6 +116,10 @@ class Refusals(unittest.TestCase):
             (11, g.plan_index, one, (0, 0)),
             (12, g.walklist, "x"),
             (14, g.walklist, "L,P,1,1,-\nE,4\nO,8,1\n", 10),
+            (6, g.window, g.Layout((3,), (8,), ((2**62,),)), (9,), (1,), (1,)),
+            (15, g.window, one, (0, 0), (1,), (1,)),
+            (15, g.window, one, (0,), (1,), (0,)),
+            (15, g.window, one, (4,), (3,), (-3,)),
             (24, g.plan_layout, one, g.Machine(48, 32_768, 4_080, 6)),
         ):
             with self.subTest(number=number, call=call.__name__):
@@ -178,6 +182,27 @@ class Walks(unittest.TestCase):
         rows = memoryview(bytearray(range(24))).cast("B", (2, 3, 4))
         self.assertEqual(g.Layout.of(rows), g.Layout((4, 3, 2), (1,), ((1, 4, 12),)))
         self.assertEqual(str(g.plan(rows)), "K,1\nA,0,24,24,1")
+
+
+class Windows(unittest.TestCase):
+    def test_slices_of_a_memoryview(self):
+        held = memoryview(bytes(range(40)))
+        told = g.Layout.of(held)
+        for cut in (slice(3, 30, 4), slice(None, None, -3), slice(39, 2, -7), slice(5, 6), slice(9, 9)):
+            picked = range(*cut.indices(40))
+            made = g.window(told, (picked.start,), (len(picked),), (picked.step,))
+            plan = g.plan_layout(made.layout)
+            read = [offset + k * plan.steps[0] for length, (offset,) in g.blocks(plan, made.starts()) for k in range(length)]
+            self.assertEqual(read, list(picked))
+        self.assertRaises(ValueError, made.starts, (1, 2))
+
+    def test_a_window_of_a_window(self):
+        told = g.Layout((12, 9), (8, 4), ((1, 12), (9, -1)), "F", 1)
+        outer = g.window(told, (10, 1), (5, 4), (-2, 2))
+        inner = g.window(outer.layout, (4, 0), (2, 2), (-3, 3))
+        both = g.window(told, (2, 1), (2, 2), (6, 6))
+        self.assertEqual(inner.layout, both.layout)
+        self.assertEqual(inner.starts(outer.shifts), both.shifts)
 
 
 class Machines(unittest.TestCase):

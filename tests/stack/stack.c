@@ -28,7 +28,7 @@ static void end(const char *what)
 
 /* Cutting keeps one axis after another, as deep as it can: all strides are alike. */
 static uint64_t deep_extents[58], wide_extents[64];
-static int64_t deep_strides[58 * 8], wide_strides[64 * 8];
+static int64_t deep_strides[58 * 8], wide_strides[64 * 8], forwards[64];
 static const uint64_t sizes[8] = {8, 8, 8, 8, 8, 8, 8, 8};
 
 static gougelily_layout_t deep, wide, transposed;
@@ -46,6 +46,8 @@ static void make_layouts(void)
         deep_strides[i] = 512;
     for (int i = 0; i < 64; i++)
         wide_extents[i] = i % 8 < 5 ? 2 : 1;
+    for (int i = 0; i < 64; i++)
+        forwards[i] = 1;
     for (int k = 0; k < 8; k++)
         for (int i = 0; i < 64; i++)
             wide_strides[k * 64 + i] = (int64_t)1 << (i * (k + 3) % 40);
@@ -71,6 +73,7 @@ static gougelily_plan_t plan;
 static gougelily_walk_t walk;
 static gougelily_block_t block;
 static gougelily_index_t told;
+static gougelily_windowed_t cut;
 static int64_t answer;
 static uint64_t lengths[64];
 static int64_t offsets[512];
@@ -81,6 +84,11 @@ static void plan_deep(void) { answer = gougelily_plan_layout(&deep, &fixed, &pla
 static void plan_transposed(void) { answer = gougelily_plan_layout(&transposed, &fixed, &plan); }
 static void plan_wide(void) { answer = gougelily_plan_layout(&wide, &fixed, &plan); }
 static void check(void) { answer = gougelily_check(&wide); }
+static void window(void)
+{
+    const gougelily_window_t all = {zeros, wide_extents, forwards, 64};
+    answer = gougelily_window_layout(&wide, &all, &cut);
+}
 static void begin(void) { answer = gougelily_begin_walk(&plan, starts, plan.operands, &walk); }
 static void step(void) { answer = gougelily_step_walk(&plan, &walk, &block); }
 static void find(void) { answer = gougelily_original_index_of(&wide, zeros, plan.rank, &told); }
@@ -158,6 +166,7 @@ int main(void)
         {"gougelily_plan, a transpose of 1,000", plan_transposed},
         {"gougelily_plan, 64 axes, 8 operands", plan_wide},
         {"gougelily_check_layout", check},
+        {"gougelily_window", window},
         {"gougelily_original_index", find},
         {"gougelily_plan_index", find_back},
         {"gougelily_begin", begin},
