@@ -147,7 +147,7 @@ pub fn in_plan(
 
 // ---- the entries
 
-// The original index of a plan index in lent memory: rows 1 to 7, then 11.
+// The original index of a plan index in lent memory: rows 1 to 6, then 11.
 pub fn original_index_into<'a>(
     extents: &'a [u64],
     sizes: &'a [u64],
@@ -179,7 +179,7 @@ pub fn original_index_into<'a>(
     }
 }
 
-// The plan index of an original index in lent memory: rows 1 to 7, then 11.
+// The plan index of an original index in lent memory: rows 1 to 6, then 11.
 pub fn plan_index_into<'a>(
     extents: &'a [u64],
     sizes: &'a [u64],
@@ -212,7 +212,7 @@ pub fn plan_index_into<'a>(
     }
 }
 
-// The original index of a plan index: rows 1 to 7, then 11.
+// The original index of a plan index: rows 1 to 6, then 11.
 pub fn original_index<'a>(
     extents: &'a [u64],
     sizes: &'a [u64],
@@ -241,7 +241,7 @@ pub fn original_index<'a>(
     }
 }
 
-// The plan index of an original index: rows 1 to 7, then 11.
+// The plan index of an original index: rows 1 to 6, then 11.
 pub fn plan_index<'a>(
     extents: &'a [u64],
     sizes: &'a [u64],
