@@ -7,7 +7,8 @@ use lib.ListN.{getD}
 use borrow.Author.Needs.{needs}
 use Rattle.strided.specs.Base.{least}
 use Rattle.laws.specs.Base.Signs.{back}
-use Rattle.fuse.proofs.Costing.{sizeAt, least-one, least-more}
+use Rattle.laws.specs.Cut.Ranges.{least-first, least-more}
+use Rattle.fuse.proofs.Costing.{sizeAt}
 use Rattle.fuse.proofs.least_size.Statement.{statement}
 use Rattle.fuse.proofs.least_size.Tie as tie
 
@@ -34,7 +35,7 @@ loop-holds c =
     c .magnitude .ensures ∙ ap natAbs (back (getD (s .args .strides .now) (s .args .axis) (pos 0)) (record { sfits = c .before .magnitude-arg .given })) in (
       omega arith,
       omega (arith, s .pre),
-      e ∙ ap (λ (i : ℕ). natAbs (getD (s .args .strides .now) i (pos 0))) (sym z) ∙ sym (least-one (sizeAt (s .args .strides .now) (s .args .axis))),
+      e ∙ ap (λ (i : ℕ). natAbs (getD (s .args .strides .now) i (pos 0))) (sym z) ∙ sym (least-first (sizeAt (s .args .strides .now) (s .args .axis))),
     )
 
 mul-at : tie.Need-mul-at Inv-loop μ-loop
