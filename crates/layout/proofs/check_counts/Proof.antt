@@ -1,4 +1,5 @@
 -- `layout::check_counts` meets its contract: its tests are rows 1 to 4 of the table, one after the other. Assumes nothing.
+use Prim.Native.Nat.{ℕ}
 use borrow.Author.Needs.{needs}
 use Rattle.strided.specs.Refusals.{countRows}
 use Rattle.laws.specs.Refusals.Rows.{past-none, past-next, past-refused, past-served, few-axes, few-operands}
@@ -6,18 +7,43 @@ use Rattle.layout.proofs.Table.{Passed}
 use Rattle.layout.proofs.check_counts.Statement.{statement}
 use Rattle.layout.proofs.check_counts.Tie as tie
 
+-- the places behind a row that does not apply: back to the one before, and to the entry
+abbrev start-1 : tie.Else1 → tie.Start
+start-1 c = c .before .before .before .before
+
+abbrev row-1 : tie.Else2 → tie.Else1
+row-1 c = c .before .before
+
+abbrev row-2 : tie.Else3 → tie.Else2
+row-2 c = c .before .before
+
+abbrev row-3 : tie.Else4 → tie.Else3
+row-3 c = c .before .before
+
+abbrev start-2 : tie.Else2 → tie.Start
+start-2 c = start-1 (row-1 c)
+
+abbrev start-3 : tie.Else3 → tie.Start
+start-3 c = start-2 (row-2 c)
+
+abbrev start-4 : tie.Else4 → tie.Start
+start-4 c = start-3 (row-3 c)
+
 -- no row up to the one just tested applies
-passed-1 : (c : tie.Else1) → let a = c .before .before .before .before .args in Passed 1 (a .extents .now) (a .sizes .now) (a .strides .now) (a .purpose)
+abbrev Past : tie.Start → ℕ → Type 0
+Past s n = let a = s .args in Passed n (a .extents .now) (a .sizes .now) (a .strides .now) (a .purpose)
+
+passed-1 : (c : tie.Else1) → Past (start-1 c) 1
 passed-1 c = past-next (past-none _) (c .before .rank-over .ensures) (c .if1 .left)
 
-passed-2 : (c : tie.Else2) → let a = c .before .before .before .before .before .before .args in Passed 2 (a .extents .now) (a .sizes .now) (a .strides .now) (a .purpose)
-passed-2 c = past-next (passed-1 (c .before .before)) (c .before .operands-wrong .ensures) (c .if2 .left)
+passed-2 : (c : tie.Else2) → Past (start-2 c) 2
+passed-2 c = past-next (passed-1 (row-1 c)) (c .before .operands-wrong .ensures) (c .if2 .left)
 
-passed-3 : (c : tie.Else3) → let a = c .before .before .before .before .before .before .before .before .args in Passed 3 (a .extents .now) (a .sizes .now) (a .strides .now) (a .purpose)
-passed-3 c = past-next (passed-2 (c .before .before)) (c .before .strides-wrong .ensures) (c .if3 .left)
+passed-3 : (c : tie.Else3) → Past (start-3 c) 3
+passed-3 c = past-next (passed-2 (row-2 c)) (c .before .strides-wrong .ensures) (c .if3 .left)
 
-passed-4 : (c : tie.Else4) → let a = c .before .before .before .before .before .before .before .before .before .before .args in Passed 4 (a .extents .now) (a .sizes .now) (a .strides .now) (a .purpose)
-passed-4 c = past-next (passed-3 (c .before .before)) (c .before .chosen-missing .ensures) (c .if4 .left)
+passed-4 : (c : tie.Else4) → Past (start-4 c) 4
+passed-4 c = past-next (passed-3 (row-3 c)) (c .before .chosen-missing .ensures) (c .if4 .left)
 
 rank-over-requires : tie.Need-rank-over-requires
 rank-over-requires c κs = search needs

@@ -31,11 +31,18 @@ byte-table-into-requires c κs =
 fits-whole-requires : tie.Need-fits-whole-requires
 fits-whole-requires c κs = search needs
 
+-- where the table of byte strides is made, and the entry
+abbrev table-of : tie.After-cut-axes → tie.After-byte-table-into
+table-of q = q .before .before .before .before .before .before .before
+
+abbrev start : tie.After-byte-table-into → tie.Start
+start b = b .before .before .before .before .before
+
 -- what the table of byte strides has
-bytes-are : (c : tie.After-byte-table-into) → let a = c .before .before .before .before .before .args in
+bytes-are : (c : tie.After-byte-table-into) → let a = start c .args in
     Images (a .machine) (length (a .sizes .now)) (a .rank) (c .byte-table-into .last .1 .1 .1 .1 .0) (byteTable (a .sizes .now) (a .table .now))
 bytes-are c =
-    let s = c .before .before .before .before .before in
+    let s = start c in
     let a = s .args in
     rows-read (a .machine) (a .sizes .now) (a .table .now) (a .rank) (length (a .sizes .now)) _ refl (s .pre .1 .few) (s .pre .1 .axes) (c .byte-table-into .ensures)
 
@@ -43,7 +50,7 @@ returns-2 : tie.Need-returns-2
 returns-2 c =
     let f = c .before .before in
     let b = f .before .before in
-    let s = b .before .before .before .before .before in
+    let s = start b in
     let a = s .args in
     let es = a .es .now in
     let t = b .byte-table-into .last .1 .1 .1 .1 .0 in
@@ -54,7 +61,7 @@ returns-2 c =
 cut-axes-requires : tie.Need-cut-axes-requires
 cut-axes-requires c κs =
     let b = c .before .before .before .before .before .before in
-    let s = b .before .before .before .before .before in
+    let s = start b in
     let n = s .pre .1 in (
       s .pre .0,
       (
@@ -74,32 +81,27 @@ cut-axes-requires c κs =
 
 declines-tiles-requires : tie.Need-declines-tiles-requires
 declines-tiles-requires c κs =
-    let s = c .before .before .before .before .before .before .before .before .before .before .before .before .before in
+    let s = start (table-of (c .before)) in
     let a = s .args in
     (s .pre .0, within-reach (a .sizes .now) (a .es .now) (a .table .now) (a .rank) (a .purpose) (s .pre .1))
 
--- where the axes are cut: the arguments, the table, and that there is no exit
-abbrev start : tie.After-cut-axes → tie.Start
-start q = q .before .before .before .before .before .before .before .before .before .before .before .before
-
-abbrev table-of : tie.After-cut-axes → tie.After-byte-table-into
-table-of q = q .before .before .before .before .before .before .before
-
-on : (q : tie.After-cut-axes) → let a = start q .args in exits (a .machine) (table-of q .byte-table-into .last .1 .1 .1 .1 .0) (a .sizes .now) (a .es .now) (a .table .now) (a .rank) ≡ false
+-- where the axes are cut there is no exit
+on : (q : tie.After-cut-axes) → let b = table-of q in let a = start b .args in exits (a .machine) (b .byte-table-into .last .1 .1 .1 .1 .0) (a .sizes .now) (a .es .now) (a .table .now) (a .rank) ≡ false
 on q =
     let x = q .before .before .before .before in
     let f = x .before in
     let b = f .before .before in
     let o = b .before .before .before in
-    let a = start q .args in
+    let a = start b .args in
     exits-not (a .machine) _ (a .sizes .now) (a .es .now) (a .table .now) (a .rank) (sym (o .keeps-order .ensures) ∙ b .before .before .if1 .left) (sym (f .fits-whole .ensures) ∙ x .if2 .left)
 
 returns-3 : tie.Need-returns-3
 returns-3 c =
     let d = c .before .before in
     let q = d .before .before in
-    let a = start q .args in
-    whole-declined (a .machine) (a .sizes .now) (a .es .now) (a .table .now) (a .rank) (a .purpose) (start q .pre .0) _ (bytes-are (table-of q)) _ (q .cut-axes .ensures) (on q)
+    let b = table-of q in
+    let a = start b .args in
+    whole-declined (a .machine) (a .sizes .now) (a .es .now) (a .table .now) (a .rank) (a .purpose) (start b .pre .0) _ (bytes-are b) _ (q .cut-axes .ensures) (on q)
     (sym (d .declines-tiles .ensures) ∙ c .before .if3 .taken)
 
 fit-for-requires : tie.Need-fit-for-requires
@@ -110,8 +112,9 @@ returns-4 c =
     let e = c .before .before .before in
     let d = e .before in
     let q = d .before .before in
-    let a = start q .args in
-    whole-fitted (a .machine) (a .sizes .now) (a .es .now) (a .table .now) (a .rank) (a .purpose) (start q .pre .0) _ (bytes-are (table-of q)) _ (q .cut-axes .ensures) (on q)
+    let b = table-of q in
+    let a = start b .args in
+    whole-fitted (a .machine) (a .sizes .now) (a .es .now) (a .table .now) (a .rank) (a .purpose) (start b .pre .0) _ (bytes-are b) _ (q .cut-axes .ensures) (on q)
     (sym (d .declines-tiles .ensures) ∙ e .if3 .left) (c .fit-for .ensures)
 
 pub block-sizes-spec : {M : Type 1} → statement M

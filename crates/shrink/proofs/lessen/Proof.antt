@@ -44,24 +44,30 @@ enum-known-i c = search needs
 enum-told : tie.Need-enum-told Inv-loop μ-loop
 enum-told c = search needs
 
+-- where the axis is picked, from where the pick is told; and the turn's begin
+abbrev pick : tie.After-known-told Inv-loop μ-loop → tie.After-last-argmax-weighted Inv-loop μ-loop
+pick c = c .before .before .before
+
+abbrev begin : tie.After-last-argmax-weighted Inv-loop μ-loop → tie.At-loop Inv-loop μ-loop
+begin p = p .before .before .before .before .before .before
+
+abbrev top : tie.After-known-told Inv-loop μ-loop → tie.At-loop Inv-loop μ-loop
+top c = begin (pick c)
+
 returns-2 : tie.Need-returns-2 Inv-loop μ-loop
 returns-2 c = let p = c .before .before in
-    let l = p .before .before .before .before .before .before in
+    let l = begin p in
     let a = l .before .args in
     let n : ℕ = axes (a .tail) in
     let nothing : greatestScore (l .loop .blocks) (a .costs .now) (a .tail .offset) n ≡ none = sym (p .last-argmax-weighted .ensures) ∙ ap picked (c .enum-told .given .1) in
     sym (lessened-nothing (a .machine) (a .bytes .now) (a .tail .operands) (a .costs .now) (a .tail .offset) n (l .loop .blocks) nothing) ∙ l .loop .inv .1
-
--- the turn's begin, from where the pick is told
-abbrev top : tie.After-known-told Inv-loop μ-loop → tie.At-loop Inv-loop μ-loop
-top c = c .before .before .before .before .before .before .before .before .before
 
 -- the pick, where there is one
 at : (c : tie.After-known-told Inv-loop μ-loop)
     → let l = top c in
     let a = l .before .args in
     greatestScore (l .loop .blocks) (a .costs .now) (a .tail .offset) (axes (a .tail)) ≡ some (c .before .i .given .0 .0)
-at c = sym (c .before .before .before .last-argmax-weighted .ensures) ∙ ap picked (c .before .i .given .1)
+at c = sym (pick c .last-argmax-weighted .ensures) ∙ ap picked (c .before .i .given .1)
 
 -- it is a place of the array
 place : (c : tie.After-known-told Inv-loop μ-loop) → c .before .i .given .0 .0 < 64

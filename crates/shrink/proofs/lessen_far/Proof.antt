@@ -41,18 +41,26 @@ level-requires c κs = let s = c .before .before .before .before .before in (s .
 clip-into-requires : tie.Need-clip-into-requires
 clip-into-requires c κs = search needs
 
+-- where the level is found, and the entry
+abbrev found : tie.After-clip-into → tie.After-level
+found k = k .before .before .before .before
+
+abbrev start : tie.After-level → tie.Start
+start l = l .before .before .before .before .before .before
+
 lessen-requires : tie.Need-lessen-requires
 lessen-requires c κs =
     let k = c .before in
-    let s = k .before .before .before .before .before .before .before .before .before .before in
+    let l = found k in
+    let s = start l in
     let a = s .args in
-    (s .pre .0, (s .pre .1 .0, still-fit (a .machine) (a .bytes .now) (a .tail .operands) (a .costs .now) (a .tail .offset) (axes (a .tail)) (a .tail .rank) (a .blocks .now) (k .before .before .before .before .level .result) (k .clip-into .ensures) (s .pre .1 .1)))
+    (s .pre .0, (s .pre .1 .0, still-fit (a .machine) (a .bytes .now) (a .tail .operands) (a .costs .now) (a .tail .offset) (axes (a .tail)) (a .tail .rank) (a .blocks .now) (l .level .result) (k .clip-into .ensures) (s .pre .1 .1)))
 
 returns-2 : tie.Need-returns-2
 returns-2 c =
     let k = c .before .before in
-    let l = k .before .before .before .before in
-    let a = k .before .before .before .before .before .before .before .before .before .before .args in
+    let l = found k in
+    let a = start l .args in
     c .lessen .ensures
     ∙ same-end (a .machine) (a .bytes .now) (a .tail .operands) (a .costs .now) (a .tail .offset) (axes (a .tail)) (a .tail .rank) (a .blocks .now) (l .level .result) (k .clip-into .ensures) (l .level .ensures)
 

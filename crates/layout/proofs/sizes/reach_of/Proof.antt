@@ -51,11 +51,12 @@ loop-less c = search needs
 
 loop-again : tie.Need-loop-again Inv-loop μ-loop
 loop-again c =
-    let l = c .before .before .before .before .before .before .before .loop in
-    let a = c .before .before .before .before .before .before .before .before .before .args in
-    let g = c .before .before .before .before .before .magnitude-arg .given in
-    let n = c .before .before .before .before .magnitude .ensures ∙ ap natAbs (elem-read (a .strides .now) (l .i) g) in
-    (omega arith, summed-turn _ _ _ (l .i) _ _ _ _ (c .before .before .before .before .before .before .loop-test .taken) (c .before .before .before .before .before .before .before .before .before .pre) (l .inv .1) n (c .before .before .less-one .ensures) (c .before .mul-cap .ensures) (c .add-cap .ensures))
+    let m = c .before .before .before .before in
+    let t = m .before .before in
+    let s = t .before .before .before in
+    let l = t .before .loop in
+    let n = m .magnitude .ensures ∙ ap natAbs (elem-read (s .args .strides .now) (l .i) (m .before .magnitude-arg .given)) in
+    (omega arith, summed-turn _ _ _ (l .i) _ _ _ _ (t .loop-test .taken) (s .pre) (l .inv .1) n (c .before .before .less-one .ensures) (c .before .mul-cap .ensures) (c .add-cap .ensures))
 
 returns : tie.Need-returns Inv-loop μ-loop
 returns c = summed-end _ _ _ _ (le-antisymm (c .before .loop .inv .0) (c .loop-test .left)) (c .before .loop .inv .1)
