@@ -125,7 +125,8 @@ pub fn compute_blocks_at<'a>(
 )
     requires { ⌜ Allowed machine ⌝ }
     requires { ⌜ ((0 < tail .operands) × Within tail) × ScoresFit (tail .rank) (now costs) (now blocks) ⌝ }
-    ensures { λ _. ⌜ now (blocks .exit) ≡ cutting machine (now (bytes .entry)) (tail .operands) (now (costs .entry)) ranks (tail .offset) (axes tail) (now (blocks .entry)) ⌝ }
+    ensures { λ _. ⌜ now (blocks .exit)
+        ≡ cutting machine (now (bytes .entry)) (tail .operands) (now (costs .entry)) ranks (tail .offset) (axes tail) (now (blocks .entry)) ⌝ }
 {
     if tail.offset == tail.rank {
         return;

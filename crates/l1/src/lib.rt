@@ -158,7 +158,8 @@ impl L1Sets {
     )
         requires { ⌜ Allowed machine ⌝ }
         requires { ⌜ ((rank ≤ 64) × (chosen < 8)) × (length (now sizes) ≡ 2) ⌝ }
-        ensures { λ _. ⌜ now (blocks .exit) ≡ fitted machine (now (bytes .entry)) (now (sizes .entry)) rank (chosenSize (now (strides .entry)) chosen) (now (blocks .entry)) ⌝ }
+        ensures { λ _. ⌜ now (blocks .exit)
+            ≡ fitted machine (now (bytes .entry)) (now (sizes .entry)) rank (chosenSize (now (strides .entry)) chosen) (now (blocks .entry)) ⌝ }
     {
         let sets = Self::of(machine, bytes, sizes, rank);
         if sets.load(blocks) <= machine.live {

@@ -122,7 +122,8 @@ fn clip_into<'a>(
 // The greatest score of the tail.
 fn top_score<'a>(tail: Tail, blocks: &'a [u64; 64], costs: &'a [u64; 64]) -> u64
     requires { ⌜ Within tail × ScoresFit (tail .rank) (now costs) (now blocks) ⌝ }
-    ensures { λ r. ⌜ r ≡ topOf (score (now (blocks .entry)) (now (costs .entry))) (greatestScore (now (blocks .entry)) (now (costs .entry)) (tail .offset) (axes tail)) ⌝ }
+    ensures { λ r. ⌜ r ≡ topOf (score (now (blocks .entry)) (now (costs .entry)))
+        (greatestScore (now (blocks .entry)) (now (costs .entry)) (tail .offset) (axes tail)) ⌝ }
 {
     let Pick::At(i) = last_argmax_weighted(tail, blocks, costs) else {
         return 0;
