@@ -26,6 +26,10 @@
 --   many steps in one call, and many such calls: the walk's blocks     Walk/Bulk          first-blocks, calls-are, hands-block, place-block
 --   the plan's blocks, by offsets and lengths, are those of the steps  Walk/Placed        placed-part, placed-next, placed-over
 --   demand 3                                                           Demand3/Whole      demand3, exactly-one
+--   the repeat mark: no means that no two indices share an offset      Mark/Marks         no-apart
+--   yes means that two do; up to 4,096 cells it is never undecided     Mark/Marks         yes-shared, small-decided
+--   the exact test is the claim; sizes serve for strides               Mark/Exact, Mark/Mirror  test-shared, shared-test; shared-near, near-shared
+--   the rising test, axis by axis and in any order of equal sizes      Mark/Rises         rises-clear, clear-rises, any-order
 --   a text says one thing at most                                      Text/Once          in-form-once
 --   a text in the form is refused as planning refuses its layout       Text/Planning      no-row3, as-planning, has-plan
 --   a text has one listing at most; some text is in the form           Text/Planning, Text/Example  one-listing, example-in-form
@@ -48,4 +52,5 @@ pub mod Fit
 pub mod Walk
 pub mod Demand3
 pub mod Plan
+pub mod Mark
 pub mod Text

@@ -1,52 +1,52 @@
-// The repeat mark of an operand: whether two indices of a layout surely share an offset. It reads the extents and one operand's strides.
+// The repeat mark of an operand: whether two indices of a layout share an offset. It reads the extents and one operand's strides.
+use distinct::repeats;
 use layout::has_zero;
 use layout::rank_over;
+use layout::reach_over;
 use layout::strides_wrong;
+use layout::total_at_most;
+use layout::total_over;
+use quick::rising;
+use quick::some_stays;
 use strided::Answer;
+use strided::Mark;
 use strided::Marked;
 use strided::Refusal;
 ghost use mathlib.Core.Path.{_≡_};
-ghost use mathlib.Core.Bool.{_&&_};
-ghost use lib.Dec.{ltb, eqb};
-ghost use lib.IntN.{natAbs};
+ghost use mathlib.Core.Bool.{false};
+ghost use Prim.Native.Nat.{_≤_};
 ghost use lib.ListN.{length};
-ghost use Rattle.strided.specs.Base.{some-of};
-ghost use Rattle.strided.specs.Mark.{repeatsAt, repeats as repeatsOf, marked};
+ghost use Rattle.strided.specs.Layout.{hasZero, reach, maxI};
+ghost use Rattle.strided.specs.Mark.{markOf, marked};
 
-// Whether an axis has more than one index and none of them moves.
-fn stays(extent: u64, stride: i64) -> bool
-    ensures { λ r. ⌜ r ≡ (ltb 1 extent && eqb (natAbs stride) 0) ⌝ }
-{
-    if 1 < extent { stride == 0 } else { false }
-}
+pub mod quick;
 
-// Whether some axis does.
-fn some_stays<'a>(extents: &'a [u64], strides: &'a [i64]) -> bool
+// The mark of what is not refused. The tests come in the order of what they cost: those that are quick are right at every total, so up to
+// 4,096 cells they only spare the exact one.
+fn mark_of<'a>(extents: &'a [u64], strides: &'a [i64]) -> Mark
     requires { ⌜ length (now strides) ≡ length (now extents) ⌝ }
-    ensures { λ r. ⌜ r ≡ some-of (repeatsAt (now (extents .entry)) (now (strides .entry))) 0 (length (now (extents .entry))) ⌝ }
-{
-    let mut i: usize = 0;
-    while i < extents.len() {
-        if stays(extents[i], strides[i]) {
-            return true;
-        }
-        i += 1;
-    }
-    false
-}
-
-// A layout with a zero extent has no index, so none repeats.
-fn repeats<'a>(extents: &'a [u64], strides: &'a [i64]) -> bool
-    requires { ⌜ length (now strides) ≡ length (now extents) ⌝ }
-    ensures { λ r. ⌜ r ≡ repeatsOf (now (extents .entry)) (now (strides .entry)) ⌝ }
+    requires { ⌜ (hasZero (now extents) ≡ false → reach (now extents) (now strides) ≤ maxI) ⌝ }
+    ensures { λ r. ⌜ r ≡ markOf (now (extents .entry)) (now (strides .entry)) ⌝ }
 {
     if has_zero(extents) {
-        return false;
+        return Mark::No;
     }
-    some_stays(extents, strides)
+    if some_stays(extents, strides) {
+        return Mark::Yes;
+    }
+    if rising(extents, strides) {
+        return Mark::No;
+    }
+    if total_at_most(extents, 4096) {
+        if repeats(extents, strides) {
+            return Mark::Yes;
+        }
+        return Mark::No;
+    }
+    Mark::Undecided
 }
 
-// The repeat mark: rows 1 and 3, which reads one operand.
+// The repeat mark: rows 1, 3, which reads one operand, 5 and 6.
 pub fn repeat_mark<'a>(extents: &'a [u64], strides: &'a [i64]) -> Marked
     ensures { λ r. ⌜ r ≡ marked (now (extents .entry)) (now (strides .entry)) ⌝ }
 {
@@ -54,18 +54,30 @@ pub fn repeat_mark<'a>(extents: &'a [u64], strides: &'a [i64]) -> Marked
     if rank_over(rank) {
         return Marked {
             answer: Answer::Refused(Refusal::Rank),
-            repeats: false,
+            mark: Mark::No,
         };
     }
     if strides_wrong(rank, 1, strides) {
         return Marked {
             answer: Answer::Refused(Refusal::StrideCount),
-            repeats: false,
+            mark: Mark::No,
         };
     }
-    let mark = repeats(extents, strides);
+    if total_over(extents) {
+        return Marked {
+            answer: Answer::Refused(Refusal::Total),
+            mark: Mark::No,
+        };
+    }
+    if reach_over(extents, strides, rank, 1) {
+        return Marked {
+            answer: Answer::Refused(Refusal::Reach),
+            mark: Mark::No,
+        };
+    }
+    let mark = mark_of(extents, strides);
     Marked {
         answer: Answer::Served,
-        repeats: mark,
+        mark,
     }
 }

@@ -19,6 +19,8 @@ use Rattle.strided.specs.declared.Walk.{Walk}
 use Rattle.strided.specs.declared.Planned.{Planned}
 use Rattle.strided.specs.declared.Begun.{Begun}
 use Rattle.strided.specs.declared.Told.{Told}
+use Rattle.strided.specs.declared.Mark.{Mark}
+use Rattle.strided.specs.declared.Mark.the-variants.{No, Yes, Undecided}
 use Rattle.strided.specs.declared.Marked.{Marked}
 use Rattle.strided.specs.declared.Outcome.{Outcome}
 use Rattle.strided.specs.declared.Outcome.the-variants.{Block, Ended, Rejected}
@@ -40,7 +42,7 @@ use Rattle.strided.specs.Plan.{grows, cutBlocks, planFrom, planned}
 use Rattle.strided.specs.Begin.{beginRefused, begunAt}
 use Rattle.strided.specs.Step.{stepped}
 use Rattle.strided.specs.Bulk.{SteppedMany, steppedMany}
-use Rattle.strided.specs.Mark.{repeats, markRefused, marked}
+use Rattle.strided.specs.Mark.{someIndex, shared, insertUp, upwards, exceeds, rises, markOf, markRefused, marked, markNumber}
 use Rattle.strided.specs.Digits.{digitsOf}
 use Rattle.strided.specs.Text.{OperandLine, Parsed, written, printedPlan, printed, textRefused, listed, printedBy}
 
@@ -69,8 +71,9 @@ pub data Figure : Type 0 where
   -- many steps a call: a plan, starts, and for how many blocks each call has room; the blocks that each wrote, and the lengths and offsets in
   -- the slices of all calls, lent full of 9
   callsAre : Plan → List ℤ → List ℕ → List ℕ → List ℕ → List ℤ → Figure
-  -- the repeat mark: extents, strides
-  markIs : List ℕ → List ℤ → Bool → Figure
+  -- the repeat mark: extents, strides; and the number that it refuses with
+  markIs : List ℕ → List ℤ → Mark → Figure
+  markRefuses : List ℕ → List ℤ → ℕ → Figure
   -- what a text says, and the room lent: the text, and what is printed
   textIs : Parsed → ℕ → List ℕ → List ℕ → Figure
 
@@ -173,9 +176,9 @@ figures =
     ∷ indexIs (2 ∷ 3 ∷ 4 ∷ []) (8 ∷ []) (whole (1 ∷ 2 ∷ 6 ∷ [])) Pointwise (11 ∷ []) (1 ∷ 2 ∷ 1 ∷ [])
     ∷ indexIs (33 ∷ 32 ∷ []) (8 ∷ []) (whole (32 ∷ 1 ∷ [])) (Fold 0) (70 ∷ []) (2 ∷ 6 ∷ [])
     -- 31 to 33: the repeat mark
-    ∷ markIs (3 ∷ 2 ∷ []) (whole (1 ∷ 0 ∷ [])) true
-    ∷ markIs (3 ∷ 1 ∷ []) (whole (1 ∷ 0 ∷ [])) false
-    ∷ markIs (0 ∷ 2 ∷ []) (whole (1 ∷ 0 ∷ [])) false
+    ∷ markIs (3 ∷ 2 ∷ []) (whole (1 ∷ 0 ∷ [])) Yes
+    ∷ markIs (3 ∷ 1 ∷ []) (whole (1 ∷ 0 ∷ [])) No
+    ∷ markIs (0 ∷ 2 ∷ []) (whole (1 ∷ 0 ∷ [])) No
     -- 34 and 35: the text's worked example, in a room that is just enough, and in one of a byte less
     ∷ textIs example 64 exampleText exampleOut
     ∷ textIs example 63 exampleText (82 ∷ 44 ∷ 49 ∷ 52 ∷ 10 ∷ [])
@@ -263,6 +266,25 @@ figures =
     ∷ planIs (64 ∷ 33 ∷ []) (1 ∷ 2 ^ 40 ∷ []) (whole (2 ∷ 1 ∷ 1 ∷ 2 ^ 24 ∷ [])) (PointwiseInto 0) (33 ∷ 64 ∷ []) (17 ∷ 30 ∷ []) (whole (1 ∷ 2 ∷ []))
     ∷ planOn (machineOf 32 8192 96 1) (31 ∷ 64 ∷ 16 ∷ []) (63 ∷ 1 ∷ []) (whole (1 ∷ 0 ∷ 576460752303423424 ∷ 2 ∷ 64 ∷ 1 ∷ [])) (PointwiseInto 0)
     (31 ∷ 16 ∷ 64 ∷ []) (14 ∷ 1 ∷ 28 ∷ []) (whole (1 ∷ 576460752303423424 ∷ 0 ∷ []))
+    -- 80 to 84: the layout of ask 2, which folds onto itself; one that only looks so; signs do not matter; a layout without an axis; a zero
+    -- extent beside a total that would be decided quickly
+    ∷ markIs (3 ∷ 3 ∷ []) (whole (1 ∷ 1 ∷ [])) Yes
+    ∷ markIs (3 ∷ 2 ∷ []) (whole (2 ∷ 3 ∷ [])) No
+    ∷ markIs (3 ∷ 3 ∷ []) (pos 1 ∷ negsuc 1 ∷ []) Yes
+    ∷ markIs [] [] No
+    ∷ markIs (5000 ∷ 0 ∷ []) (whole (0 ∷ 1 ∷ [])) No
+    -- 85 to 90: totals above 4,096. A zero stride, at an extent of 1 too; a size that exceeds the reach before it, one that equals it, and one
+    -- that would exceed it by its sign; a layout that does not fold, and is not decided
+    ∷ markIs (4097 ∷ 2 ∷ []) (whole (1 ∷ 0 ∷ [])) Yes
+    ∷ markIs (4097 ∷ 1 ∷ []) (whole (1 ∷ 0 ∷ [])) No
+    ∷ markIs (2 ∷ 4097 ∷ []) (negsuc 4096 ∷ pos 1 ∷ []) No
+    ∷ markIs (2 ∷ 4097 ∷ []) (negsuc 4095 ∷ pos 1 ∷ []) Undecided
+    ∷ markIs (65 ∷ 65 ∷ []) (pos 1 ∷ negsuc 0 ∷ []) Undecided
+    ∷ markIs (3 ∷ 2 ∷ 4097 ∷ []) (whole (2 ∷ 3 ∷ 8 ∷ [])) Undecided
+    -- 91 to 93: rows 5 and 6 hold for the mark, and 6 passes at a zero extent
+    ∷ markRefuses (2 ^ 32 ∷ 2 ^ 32 ∷ []) (whole (1 ∷ 0 ∷ [])) 5
+    ∷ markRefuses (3 ∷ []) (whole (2 ^ 62 ∷ [])) 6
+    ∷ markIs (3 ∷ 0 ∷ []) (whole (2 ^ 62 ∷ 1 ∷ [])) No
     ∷ []
 
 -- ---- what the definitions give
@@ -278,11 +300,6 @@ sameZ [] [] = true
 sameZ [] (y ∷ ys) = false
 sameZ (x ∷ xs) [] = false
 sameZ (x ∷ xs) (y ∷ ys) = eqZ x y && sameZ xs ys
-
-abbrev pub sameBool : Bool → Bool → Bool
-sameBool true b = b
-sameBool false true = false
-sameBool false false = true
 
 -- the number of a refusal, 0 where there is none
 abbrev pub numberOf : Answer → ℕ
@@ -351,7 +368,8 @@ right (callsAre p starts rooms counts ns zs) =
     let a : Begun = begunAt p starts in
     let c : Calls = called rooms p (a .walk) in
     eqb (numberOf (a .answer)) 0 && (same (c .counts) counts && (same (c .lengths) ns && sameZ (c .offsets) zs))
-right (markIs es ts b) = let a : Marked = marked es ts in eqb (numberOf (a .answer)) 0 && sameBool (a .repeats) b
+right (markIs es ts m) = let a : Marked = marked es ts in eqb (numberOf (a .answer)) 0 && eqb (markNumber (a .mark)) (markNumber m)
+right (markRefuses es ts n) = let a : Marked = marked es ts in eqb (numberOf (a .answer)) n && eqb (markNumber (a .mark)) 0
 right (textIs p room t out) = same (written p) t && same (printedBy (listed p (replicate room 0))) out
 
 -- the numbers of the rows that are not right, from row n on
@@ -361,5 +379,5 @@ wrong n (f ∷ fs) = unless (right f) n (wrong (suc n) fs)
 
 -- ALL ROWS ARE RIGHT
 pub figures-right : wrong 0 figures ≡ []
-unfolding figures planOf seen called right wrong until sum product least every some-of seek greatest allowed layoutRefused planningRefused smaller rankOf ranks rankTable leadingZeros packingWidth shiftOf termOf sizeAt rankIn addend weightAt termFits sumFits axisFits try capTries widthTries weights loopOrder fusingOrder planAxes originalIndex indexInPlan toldOriginal toldPlan regionOf region still costOf costs greatestScore halving lessening halved lessened shrunk leastRank leastByte keepsFirst ones cutting firstCut insertRising rising apart widthOf passes declined reuse counts loadOf load entersOf enters shortens mostOf fitFrom fitted grows cutBlocks planFrom planned beginRefused begunAt stepped steppedMany repeats markRefused marked digitsOf printedPlan printed textRefused listed
+unfolding figures planOf seen called right wrong until sum product least every some-of seek greatest allowed layoutRefused planningRefused smaller rankOf ranks rankTable leadingZeros packingWidth shiftOf termOf sizeAt rankIn addend weightAt termFits sumFits axisFits try capTries widthTries weights loopOrder fusingOrder planAxes originalIndex indexInPlan toldOriginal toldPlan regionOf region still costOf costs greatestScore halving lessening halved lessened shrunk leastRank leastByte keepsFirst ones cutting firstCut insertRising rising apart widthOf passes declined reuse counts loadOf load entersOf enters shortens mostOf fitFrom fitted grows cutBlocks planFrom planned beginRefused begunAt stepped steppedMany someIndex shared insertUp upwards exceeds rises markOf markRefused marked digitsOf printedPlan printed textRefused listed
 figures-right = refl

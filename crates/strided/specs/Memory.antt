@@ -11,6 +11,7 @@ use lib.IntN.{ℤ, pos}
 use lib.ListN.{getD}
 use Rattle.strided.specs.Refusals.{negated}
 use Rattle.strided.specs.Bulk.{SteppedMany}
+use Rattle.strided.specs.Mark.{markNumber}
 use Rattle.strided.specs.declared.Purpose.{Purpose}
 use Rattle.strided.specs.declared.Purpose.the-variants.{Pointwise, PointwiseInto, Fold}
 use Rattle.strided.specs.declared.Answer.{Answer}
@@ -143,9 +144,9 @@ Tells t old new r = Handed (t .answer) (indexMemory t) old new r
 abbrev pub Begins : Begun → WalkMemory → WalkMemory → ℤ → Type 0
 Begins b old new r = Handed (b .answer) (walkMemory (b .walk)) old new r
 
--- the repeat mark is 1 for yes and 0 for no
+-- the repeat mark is 0 for no, 1 for yes, 2 for undecided
 abbrev pub markCode : Marked → ℤ
-markCode m = codeOr (m .answer) (pos (flag (m .repeats)))
+markCode m = codeOr (m .answer) (pos (markNumber (m .mark)))
 
 -- ---- a step, and many
 

@@ -35,7 +35,7 @@ pub step-rows : (p : Plan) → numbers (stepRows p) ++ (number State ∷ []) ≡
 step-rows p = refl
 
 -- of an operand: the repeat mark
-pub mark-rows : (es : List ℕ) (ts : List ℤ) → numbers (markRows es ts) ≡ 1 ∷ 3 ∷ []
+pub mark-rows : (es : List ℕ) (ts : List ℤ) → numbers (markRows es ts) ≡ 1 ∷ 3 ∷ 5 ∷ 6 ∷ []
 mark-rows es ts = refl
 
 -- of a text

@@ -107,8 +107,14 @@ pub struct Several {
     pub walk: Walk,
 }
 
-// The repeat mark of an operand.
+// The repeat mark of an operand: no two indices share an offset, two do, or it is not decided.
+pub enum Mark {
+    No,
+    Yes,
+    Undecided,
+}
+
 pub struct Marked {
     pub answer: Answer,
-    pub repeats: bool,
+    pub mark: Mark,
 }

@@ -1,4 +1,4 @@
--- `mark::some_stays` meets its contract. Assumes nothing.
+-- `mark::quick::some_stays` meets its contract. Assumes nothing.
 use mathlib.Core.Path.{_≡_, sym, _∙_, ap}
 use mathlib.Core.Bool.{false, _&&_}
 use Prim.Native.Nat.{ℕ, _≤_, _-_}
@@ -9,15 +9,15 @@ use lib.IntN.{ℤ, pos, natAbs}
 use lib.ListN.{length, getD}
 use borrow.Author.Needs.{needs}
 use Rattle.strided.specs.Base.{some-of}
-use Rattle.strided.specs.Mark.{repeatsAt}
+use Rattle.strided.specs.Mark.{staysAt}
 use Rattle.laws.specs.Base.Bits.{read-back}
 use Rattle.laws.specs.Refusals.Operands.{some-of-empty, some-of-step, some-of-found}
-use Rattle.mark.proofs.some_stays.Statement.{statement}
-use Rattle.mark.proofs.some_stays.Tie as tie
+use Rattle.mark.proofs.quick.some_stays.Statement.{statement}
+use Rattle.mark.proofs.quick.some_stays.Tie as tie
 
 -- no axis before i stays
 abbrev Inv-loop : tie.InvT-loop
-Inv-loop extents strides i₀ i = (i ≤ length extents) × (some-of (repeatsAt extents strides) 0 i ≡ false)
+Inv-loop extents strides i₀ i = (i ≤ length extents) × (some-of (staysAt extents strides) 0 i ≡ false)
 
 abbrev μ-loop : tie.MeasureT-loop
 μ-loop extents strides i₀ i = length extents - i
@@ -42,7 +42,7 @@ stays-requires c κs = search needs
 
 -- what `stays` answered of axis i
 answer : (c : tie.After-stays Inv-loop μ-loop)
-    → let l = c .before .before .before .before in let a = l .before .before .args in c .stays .result ≡ repeatsAt (a .extents .now) (a .strides .now) (l .loop .i)
+    → let l = c .before .before .before .before in let a = l .before .before .args in c .stays .result ≡ staysAt (a .extents .now) (a .strides .now) (l .loop .i)
 answer c =
     let l = c .before .before .before .before in
     let a = l .before .before .args in

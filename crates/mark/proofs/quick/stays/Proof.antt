@@ -1,9 +1,9 @@
--- `mark::stays` meets its contract. Assumes nothing.
+-- `mark::quick::stays` meets its contract. Assumes nothing.
 use mathlib.Core.Path.{sym}
 use borrow.Author.Tests.{lt-ltb, le-ltb}
 use Rattle.laws.specs.Base.Bits.{zero-bits}
-use Rattle.mark.proofs.stays.Statement.{statement}
-use Rattle.mark.proofs.stays.Tie as tie
+use Rattle.mark.proofs.quick.stays.Statement.{statement}
+use Rattle.mark.proofs.quick.stays.Tie as tie
 
 returns : tie.Need-returns
 returns c = simp (lt-ltb _ _ (c .if1 .taken)) (sym (zero-bits (c .before .args .stride) (c .before .fits .stride .sfits)))
