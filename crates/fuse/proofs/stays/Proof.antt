@@ -8,7 +8,7 @@ use lib.IntN.{pos, natAbs}
 use lib.ListN.{getD}
 use borrow.Author.Needs.{needs}
 use Rattle.laws.specs.Cut.Tables.{still-each, still-not}
-use Rattle.fuse.proofs.Signs.{back}
+use Rattle.laws.specs.Base.Signs.{back}
 use Rattle.fuse.proofs.Costing.{sizeAt}
 use Rattle.fuse.proofs.stays.Statement.{statement}
 use Rattle.fuse.proofs.stays.Tie as tie
