@@ -33,7 +33,8 @@ fn list_served<'a>(
     room: &mut [u8],
 ) -> i64
     requires { ⌜ layoutRefused (now extents) (now sizes) (now strides) purpose ≡ none ⌝ }
-    ensures { λ r. ⌜ record { answer = r; room = now (room .exit) } ≡ listedServed (now (extents .entry)) (now (sizes .entry)) (now (strides .entry)) purpose (now (room .entry)) ⌝ }
+    ensures { λ r. ⌜ record { answer = r; room = now (room .exit) }
+        ≡ listedServed (now (extents .entry)) (now (sizes .entry)) (now (strides .entry)) purpose (now (room .entry)) ⌝ }
 {
     let mut es = [0u64; 64];
     let mut blocks = [0u64; 64];
@@ -65,7 +66,8 @@ fn list_layout<'a>(
     purpose: Purpose,
     room: &mut [u8],
 ) -> i64
-    ensures { λ r. ⌜ record { answer = r; room = now (room .exit) } ≡ listedLayout (now (extents .entry)) (now (sizes .entry)) (now (strides .entry)) purpose (now (room .entry)) ⌝ }
+    ensures { λ r. ⌜ record { answer = r; room = now (room .exit) }
+        ≡ listedLayout (now (extents .entry)) (now (sizes .entry)) (now (strides .entry)) purpose (now (room .entry)) ⌝ }
 {
     match check_layout(extents, sizes, strides, purpose) {
         Answer::Refused(refusal) => negated(refusal),
@@ -90,7 +92,8 @@ fn list_numbers<'a>(
     room: &mut [u8],
 ) -> i64
     requires { ⌜ Places (now extents) (now sizes) (now strides) ⌝ }
-    ensures { λ r. ⌜ record { answer = r; room = now (room .exit) } ≡ listedNumbers rank operands (now (extents .entry)) (now (sizes .entry)) (now (strides .entry)) purpose (now (room .entry)) ⌝ }
+    ensures { λ r. ⌜ record { answer = r; room = now (room .exit) }
+        ≡ listedNumbers rank operands (now (extents .entry)) (now (sizes .entry)) (now (strides .entry)) purpose (now (room .entry)) ⌝ }
 {
     if rank_over(rank) {
         return negated(Refusal::Rank);
