@@ -319,13 +319,24 @@ static inline int64_t gougelily_step_walk_many(const gougelily_plan_t *plan, gou
 
 /* ------------------------------------------------------------ functions on texts and one operand */
 
+/* Whether two indices of an operand share an offset. */
+typedef enum gougelily_mark_t {
+    GOUGELILY_MARK_NO = 0,
+    GOUGELILY_MARK_YES = 1,
+    GOUGELILY_MARK_UNDECIDED = 2
+} gougelily_mark_t;
+
 /*
- * The repeat mark of an operand: whether two indices of the layout surely share
- * an offset, because some axis of extent above 1 has stride 0 and no extent is 0.
+ * The repeat mark of an operand: whether two indices of the layout share an
+ * offset.
  *
  * Takes the extents and the strides of the one operand.
- * Answers 1 if it repeats, else 0.
- * Refuses 1, 3.
+ * Answers a gougelily_mark_t. Up to 4,096 cells it is no or yes, exactly. Above
+ * that it is yes if an axis of extent above 1 has stride 0; else no if, by rising
+ * stride size over the axes of extent above 1, each stride size exceeds the reach
+ * of those before it; else undecided. With a zero extent it is no. At any total
+ * no says that no two indices share an offset, and yes that two do.
+ * Refuses 1, 3, 5, 6.
  */
 int64_t gougelily_repeat_mark(const uint64_t *extents, size_t extent_count, const int64_t *strides,
                               size_t stride_count);

@@ -1,5 +1,6 @@
-// Build script of the shim: compiles the original auxiliary.rs where it lies
-// and checks the shim's constants and types against the original lib.rs.
+// Build script of the shim: compiles the original auxiliary.rs and injectivity.rs
+// where they lie and checks the shim's constants and types against the original
+// lib.rs.
 
 #[path = "../source.rs"]
 #[allow(dead_code)]
@@ -13,6 +14,7 @@ fn main() {
         "lib.rs",
         &["INLINE_RANK", "StrideVec", "AxisVec", "Result<T>"],
     );
-    let modules = source::module(PACKAGE, "auxiliary.rs");
+    let modules = ["auxiliary.rs", "injectivity.rs"].map(|file| source::module(PACKAGE, file));
+    let modules = modules.concat();
     source::write_modules(PACKAGE, &modules.replace("pub(crate) mod", "pub mod"));
 }

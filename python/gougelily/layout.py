@@ -114,11 +114,14 @@ def in_elements(array: Strided, number: int) -> tuple[int, ...]:
     return tuple(stride // size for stride in reversed(array.strides))
 
 
-def repeat_mark(extents: Sequence[int], strides: Sequence[int]) -> bool:
-    """Whether an operand surely has two indices at one offset: no extent is 0, and some axis of extent above 1 has stride 0.
+MARKS = ("no", "yes", "undecided")
 
-    >>> repeat_mark((3, 4), (1, 0)), repeat_mark((3, 1), (1, 0))
-    (True, False)
+
+def repeat_mark(extents: Sequence[int], strides: Sequence[int]) -> str:
+    """Whether two indices of an operand share an offset: "no", "yes", or above 4,096 cells perhaps "undecided".
+
+    >>> repeat_mark((3, 3), (1, 1)), repeat_mark((3, 2), (2, 3)), repeat_mark((65, 65), (1, 64))
+    ('yes', 'no', 'undecided')
     """
     lent, moved = unsigned(extents, "extents"), signed(strides, "strides")
-    return served(library().gougelily_repeat_mark(lent, len(lent), moved, len(moved))) == 1
+    return MARKS[served(library().gougelily_repeat_mark(lent, len(lent), moved, len(moved)))]

@@ -236,7 +236,7 @@ static int64_t mark_of(const struct layout *l, size_t operand)
     const uint64_t *e = lend(l->extents, l->rank * 8);
     const int64_t *s = lend(l->strides + operand * l->rank, l->rank * 8);
     int64_t answer = gougelily_repeat_mark(e, l->rank, s, l->rank);
-    CHECK(answer == 1 || answer == 0 || answer == -1);
+    CHECK(answer == -1 || answer == -5 || answer == -6 || (answer >= 0 && answer <= GOUGELILY_MARK_UNDECIDED));
     settle(2, 0);
     return answer;
 }

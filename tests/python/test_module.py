@@ -107,6 +107,8 @@ class Refusals(unittest.TestCase):
             (2, g.plan_layout, g.Layout((5,), (), ())),
             (2, g.Walk, g.Plan((5,), (5,), ((1,),) * 9)),
             (3, g.repeat_mark, (5,), (1, 2)),
+            (5, g.repeat_mark, (2**32, 2**32), (0, 0)),
+            (6, g.repeat_mark, (3,), (2**62,)),
             (4, g.plan_layout, g.Layout((5,), (8,), ((1,),), "F", 1)),
             (5, g.plan_layout, g.Layout((2**32, 2**32), (8,), ((0, 0),))),
             (6, g.plan_layout, g.Layout((3,), (8,), ((2**62,),))),

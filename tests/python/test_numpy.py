@@ -58,7 +58,7 @@ class Views(unittest.TestCase):
 
     def test_the_mark_of_a_broadcast(self):
         wide = g.Layout.of(np.broadcast_to(np.arange(3), (2, 3)))
-        self.assertTrue(g.repeat_mark(wide.extents, wide.strides[0]))
+        self.assertEqual(g.repeat_mark(wide.extents, wide.strides[0]), "yes")
 
 
 if __name__ == "__main__":

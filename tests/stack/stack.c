@@ -93,7 +93,13 @@ static void begin(void) { answer = gougelily_begin_walk(&plan, starts, plan.oper
 static void step(void) { answer = gougelily_step_walk(&plan, &walk, &block); }
 static void find(void) { answer = gougelily_original_index_of(&wide, zeros, plan.rank, &told); }
 static void find_back(void) { answer = gougelily_plan_index_of(&wide, zeros, 64, &told); }
-static void mark(void) { answer = gougelily_repeat_mark(wide_extents, 64, wide_strides, 64); }
+/* The exact test of 4,096 cells, with its two lists. */
+static void mark(void)
+{
+    static const uint64_t folded_extents[2] = {64, 64};
+    static const int64_t folded_strides[2] = {3, 5};
+    answer = gougelily_repeat_mark(folded_extents, 2, folded_strides, 2);
+}
 static void list(void)
 {
     answer = gougelily_walklist((const uint8_t *)text, strlen(text), (uint8_t *)room, sizeof room);

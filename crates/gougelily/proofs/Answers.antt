@@ -8,6 +8,7 @@ use lib.IntN.{ℤ, pos}
 use lib.ListN.{length}
 use Rattle.strided.specs.Refusals.{negated}
 use Rattle.strided.specs.Bulk.{lengthsOf, offsetsOf, roomFor, laidOn, SteppedMany, steppedMany}
+use Rattle.strided.specs.Mark.{markNumber}
 use Rattle.strided.specs.Memory.{codeOr, flag, WalkMemory, walkMemory, Handed, Tells, markCode, ManyMemory, manyMemory, StepsMany}
 use Rattle.strided.specs.declared.Purpose.{Purpose}
 use Rattle.strided.specs.declared.Refusal.{Refusal}
@@ -52,11 +53,10 @@ module _ {x m : Marked} (is : x ≡ m) where
       let g : m .answer ≡ Refused r = sym (ap (λ (y : Marked). y .answer) is) ∙ h in
       rw g e
 
-  pub mark-served : {b : Bool} → x .answer ≡ Served → x .repeats ≡ b → pos (flag b) ≡ markCode m
-  mark-served {b} h q =
+  pub mark-served : {n : ℤ} → x .answer ≡ Served → n ≡ pos (markNumber (x .mark)) → n ≡ markCode m
+  mark-served {n} h q =
       let g : m .answer ≡ Served = sym (ap (λ (y : Marked). y .answer) is) ∙ h in
-      let f : b ≡ m .repeats = sym q ∙ ap (λ (y : Marked). y .repeats) is in
-      rw g (ap (λ (z : Bool). pos (flag z)) f)
+      q ∙ ap (λ (y : Marked). pos (markNumber (y .mark))) is ∙ sym (rw g)
 
 -- many steps, in the call's result x
 module _ (p : Plan) (w : Walk) (ls : List ℕ) (os : List ℤ) {x : SteppedMany} (is : x ≡ steppedMany p w ls os) where

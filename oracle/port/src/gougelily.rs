@@ -347,7 +347,7 @@ faces! {
         library::gougelily_walklist(text.as_ptr(), text.len(), room.as_mut_ptr(), room.len())
     }
 
-    /// The repeat mark of an operand: 1 for yes, 0 for no.
+    /// The repeat mark of an operand: 0 for no, 1 for yes, 2 for undecided.
     pub fn repeat_mark(extents: &[u64], strides: &[i64]) -> i64 {
         library::gougelily_repeat_mark(
             extents.as_ptr(),

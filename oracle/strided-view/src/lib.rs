@@ -1,5 +1,6 @@
 //! Shim of strided-view's lib.rs: the constants, types and errors that the
-//! planner's files name. The module `auxiliary` is the original file. The
+//! planner's files name. The modules `auxiliary` and `injectivity` are the
+//! original files. The
 //! build fails if a definition here differs from the original's.
 
 include!(concat!(env!("OUT_DIR"), "/originals.rs"));
