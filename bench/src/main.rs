@@ -5,6 +5,7 @@
 mod counting;
 mod finding;
 mod layouts;
+mod marks;
 mod parts;
 mod planning;
 mod texts;
@@ -20,8 +21,8 @@ use tools::options::{end, unknown, Options};
 const HELP: &str = "\
 bench: times the port and the original, and prints the ratios as tables
 
-  --only WHAT      only this table: planning, windows, walking, finding, texts or
-                   parts; may be repeated
+  --only WHAT      only this table: planning, windows, walking, finding, marks, texts
+                   or parts; may be repeated
   --runs N         short runs of each side, of which the best counts (2000)
   --seed S         the seed of the layouts for parts (0)
   --instructions   count instructions of planning too, with valgrind
@@ -134,6 +135,24 @@ fn finding_table(asked: &Asked, out: &mut impl Write) -> Result<(), String> {
     put(out, &text)
 }
 
+fn marks_table(asked: &Asked, out: &mut impl Write) -> Result<(), String> {
+    let mut text = String::from(
+        "## The repeat mark\n\n| layout | mark | Rust, sorting, ns | port ns | ratio |\n|---|---|---|---|---|\n",
+    );
+    for row in marks::times(asked.runs.div_ceil(4)) {
+        let mark = ["no", "yes", "undecided"][row.answer as usize];
+        text += &format!(
+            "| {} | {mark} | {:.0} | {:.0} | {} |\n",
+            row.name,
+            row.plain,
+            row.port,
+            shown(row.port / row.plain)
+        );
+    }
+    text.push('\n');
+    put(out, &text)
+}
+
 fn texts_table(asked: &Asked, out: &mut impl Write) -> Result<(), String> {
     let mut text =
         String::from("## Texts\n\n| text | bytes | answer | microseconds |\n|---|---|---|---|\n");
@@ -191,7 +210,7 @@ fn run() -> Result<(), String> {
             _ => return Err(unknown(&option)),
         }
     }
-    if ["planning", "windows", "walking", "finding", "texts"]
+    if ["planning", "windows", "walking", "finding", "marks", "texts"]
         .iter()
         .any(|what| asked.wants(what))
     {
@@ -211,6 +230,9 @@ fn run() -> Result<(), String> {
     }
     if asked.wants("finding") {
         finding_table(&asked, &mut out)?;
+    }
+    if asked.wants("marks") {
+        marks_table(&asked, &mut out)?;
     }
     if asked.wants("texts") {
         texts_table(&asked, &mut out)?;
