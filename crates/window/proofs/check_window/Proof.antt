@@ -1,8 +1,8 @@
 -- `window::check_window` meets its contract: its tests are the rows of the window's table, one after the other. Assumes nothing.
 use lib.ListN.{length}
 use borrow.Author.Needs.{needs}
-use Rattle.layout.proofs.Table.{few-axes, few-operands, rows-laid}
-use Rattle.laws.specs.Refusals.Rows.{past-none, past-next, past-refused, past-served}
+use Rattle.layout.proofs.Table.{rows-laid}
+use Rattle.laws.specs.Refusals.Rows.{few-axes, few-operands, past-none, past-next, past-refused, past-served}
 use Rattle.window.specs.Window.{windowRows, windowRefused}
 use Rattle.window.proofs.Row15.{Passed, strides-counted}
 use Rattle.window.proofs.check_window.Statement.{statement}
