@@ -1,6 +1,7 @@
 /*
  * The repeat mark against brute force: every layout of rank 0 to 3 with extents 0 to 4 and strides -5 to 5, and seeded ones with totals around
- * 4,096, where it ceases to be exact. The answers are worked out here from document 02's sentences: all offsets sorted, or the stride sizes.
+ * 4,096, where it ceases to be exact, and around 64, where the code goes over from one way of listing offsets to another. The answers are worked
+ * out here from document 02's sentences: all offsets sorted, or the stride sizes.
  */
 #include "gougelily.h"
 
@@ -11,7 +12,7 @@
 enum { LIMIT = 4096, MOST = 8 };
 
 static const char *const names[] = {"no", "yes", "undecided"};
-static uint64_t small_met[2], at_limit_met[2], above_met[3];
+static uint64_t small_met[2], near_met[2], at_limit_met[2], above_met[3];
 
 static int by_number(const void *one, const void *other)
 {
@@ -91,6 +92,8 @@ static void compare(size_t rank, const uint64_t *extents, const int64_t *strides
         above_met[want]++;
     else if (total > 3500)
         at_limit_met[want]++;
+    else if (total >= 56)
+        near_met[want]++;
     else
         small_met[want]++;
 }
@@ -114,8 +117,11 @@ static uint64_t below(uint64_t n)
     return state % n;
 }
 
-/* A layout of 3,500 to 4,700 cells: drawn extents, the last of them what is missing. Strides packed, nearly packed, small, or of any size. */
-static void draw(void)
+/*
+ * A layout of `low` to `high` cells, one in four of exactly `around` or one more of an axis: drawn extents, one of them what is missing; if the
+ * others have too many cells already, it is 1. Strides packed, nearly packed, small, or of any size.
+ */
+static void draw(uint64_t low, uint64_t around, uint64_t high)
 {
     uint64_t extents[MOST];
     int64_t strides[MOST];
@@ -127,9 +133,9 @@ static void draw(void)
     }
     last = below(rank);
     total /= extents[last];
-    extents[last] = total > 4700 ? 1 : (3500 + below(1200)) / total;
-    if (below(4) == 0 && LIMIT % total == 0)
-        extents[last] = LIMIT / total + below(2);
+    extents[last] = total > high ? 1 : (low + below(high - low)) / total;
+    if (below(4) == 0 && around % total == 0)
+        extents[last] = around / total + below(2);
     for (size_t i = 0; i < rank; i++) {
         int64_t stride = (int64_t)(kind == 2 ? below(40) : below(100000));
         if (kind < 2) {
@@ -156,13 +162,16 @@ int main(void)
         int64_t strides[3];
         all_small(rank, 0, extents, strides);
     }
-    uint64_t small = small_met[0] + small_met[1];
+    uint64_t small = small_met[0] + small_met[1] + near_met[0] + near_met[1];
+    near_met[0] = near_met[1] = 0;
     for (int i = 0; i < 10000; i++)
-        draw();
-    printf("%" PRIu64 " small layouts; then up to %d cells %" PRIu64 " no, %" PRIu64 " yes; above %" PRIu64 " no, %" PRIu64 " yes, %" PRIu64 " undecided\n",
-           small, LIMIT, at_limit_met[0], at_limit_met[1], above_met[0], above_met[1], above_met[2]);
+        draw(3500, LIMIT, 4700);
+    for (int i = 0; i < 10000; i++)
+        draw(56, 64, 72);
+    printf("%" PRIu64 " small layouts, and %" PRIu64 " no, %" PRIu64 " yes from 56 cells on; then up to %d cells %" PRIu64 " no, %" PRIu64 " yes; above %" PRIu64 " no, %" PRIu64 " yes, %" PRIu64 " undecided\n",
+           small, near_met[0], near_met[1], LIMIT, at_limit_met[0], at_limit_met[1], above_met[0], above_met[1], above_met[2]);
     for (int i = 0; i < 2; i++)
-        if (at_limit_met[i] < 100 || above_met[i] < 100 || above_met[2] < 100) {
+        if (near_met[i] < 100 || at_limit_met[i] < 100 || above_met[i] < 100 || above_met[2] < 100) {
             printf("some answer was hardly met\n");
             return 1;
         }

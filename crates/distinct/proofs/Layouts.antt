@@ -1,4 +1,4 @@
--- The rising list of a layout, axis by axis from the last. Assumes nothing.
+-- The list of a layout, axis by axis from the last. Assumes nothing.
 use mathlib.Core.Path.{_≡_, refl, sym, ap, ap₂, _∙_, subst}
 use mathlib.Core.Logic.{inl, inr, _↔_}
 use mathlib.Core.Bool.{true, false, false≢true}
@@ -12,12 +12,13 @@ use lib.Seq.{drop-cons, drop-length}
 use Rattle.strided.specs.Layout.{Within, NoZero, total, reach}
 use Rattle.laws.specs.Base.Layouts.{nozero-at}
 use Rattle.laws.specs.Refusals.Reaches.{reach-drop}
-use Rattle.distinct.specs.Lists.{In, Rising, top, Listed}
-use Rattle.distinct.specs.Copies.{Spread, Fold}
+use Rattle.laws.specs.Refusals.Zeros.{total-some}
+use Rattle.distinct.specs.Lists.{In, top, Low}
+use Rattle.distinct.specs.Copies.{Copied, Fold}
 use Rattle.strided.specs.Mark.{Shared}
 use Rattle.laws.specs.Mark.Sizes.{far, far-reach, Near, near-later}
 use Rattle.laws.specs.Mark.Mirror.{shared-near, near-shared}
-use Rattle.distinct.proofs.Copying.{spread-one}
+use Rattle.distinct.proofs.Copying.{copied-one}
 
 -- an index as far as u
 pub record Reached (es : List ℕ) (ts : List ℤ) (u : ℕ) : Type 0 where
@@ -27,7 +28,6 @@ pub record Reached (es : List ℕ) (ts : List ℤ) (u : ℕ) : Type 0 where
 
 -- l lists how far the indices are, and no two are equally far
 pub record Lists (es : List ℕ) (ts : List ℤ) (l : List ℕ) : Type 0 where
-  pub rising : Rising l
   pub size : length l ≡ total es
   pub covers : (x : List ℕ) → Within es x → In (far x ts) l
   pub from : (u : ℕ) → In u l → Reached es ts u
@@ -35,7 +35,6 @@ pub record Lists (es : List ℕ) (ts : List ℤ) (l : List ℕ) : Type 0 where
 
 pub lists-none : Lists [] [] (0 ∷ [])
 lists-none = record {
-  rising = ((λ y q. absurd q), tt);
   size = refl;
   covers = none-covers;
   from = none-from;
@@ -56,9 +55,8 @@ lists-none = record {
     none-apart (k ∷ x) y w w′ e = absurd w
 
 module _ (es : List ℕ) (ts : List ℤ) (l : List ℕ) (i : Lists es ts l) (e : ℕ) (t : ℤ) where
-  pub lists-more : (z : List ℕ) → Spread l e (natAbs t) z → Lists (e ∷ es) (t ∷ ts) z
+  pub lists-more : (z : List ℕ) → Copied l e (natAbs t) z → Lists (e ∷ es) (t ∷ ts) z
   lists-more z s = record {
-    rising = s .rising;
     size = s .size ∙ ap (λ (n : ℕ). n * e) (i .size) ∙ mul-comm (total es) e;
     covers = more-covers;
     from = λ u q. let c = s .from u q in
@@ -107,23 +105,30 @@ total-drop (e ∷ es) (suc i) z =
     let g : 1 * total es ≤ e * total es = mul-le-mul-right (total es) (z .0) in
     omega (arith, total-drop es i (z .1))
 
--- ---- the loop: the axes from i on are listed
+nozero-drop : (es : List ℕ) (i : ℕ) → NoZero es → NoZero (drop i es)
+nozero-drop es zero z = z
+nozero-drop [] (suc i) z = z
+nozero-drop (e ∷ es) (suc i) z = nozero-drop es i (z .1)
 
-pub record Behind (es : List ℕ) (ts : List ℤ) (list : List ℕ) (n i : ℕ) : Type 0 where
+-- ---- the loop: the axes from i on are listed, in an array of N places
+
+pub record Behind (N : ℕ) (es : List ℕ) (ts : List ℤ) (list : List ℕ) (n i : ℕ) : Type 0 where
   pub within : i ≤ length es
-  pub long : length list ≡ 4096
+  pub long : length list ≡ N
   pub count : n ≡ total (drop i es)
   pub lists : Lists (drop i es) (drop i ts) (take n list)
 
--- what `spread` asks for
-pub record Ready (list : List ℕ) (n e a : ℕ) : Type 0 where
+-- what `spread` and `extend` ask for
+pub record Ready (N : ℕ) (list : List ℕ) (n e a : ℕ) : Type 0 where
+  pub one : 0 < n
   pub some : 0 < e
-  pub room : n * e ≤ 4096
+  pub room : n * e ≤ N
+  pub long : n ≤ N
   pub high : (e - 1) * a < top
-  pub listed : Listed list n ((e - 1) * a)
+  pub low : Low list n ((e - 1) * a)
 
-pub behind-starts : (es : List ℕ) (ts : List ℤ) (list : List ℕ) → length ts ≡ length es → length list ≡ 4096 → take 1 list ≡ 0 ∷ [] → Behind es ts list 1 (length es)
-behind-starts es ts list l h e =
+pub behind-starts : (N : ℕ) (es : List ℕ) (ts : List ℤ) (list : List ℕ) → length ts ≡ length es → length list ≡ N → take 1 list ≡ 0 ∷ [] → Behind N es ts list 1 (length es)
+behind-starts N es ts list l h e =
     let none : drop (length es) es ≡ [] = drop-length es in
     let none′ : drop (length es) ts ≡ [] = ap (λ (n : ℕ). drop n ts) (sym l) ∙ drop-length ts in
     record {
@@ -133,8 +138,8 @@ behind-starts es ts list l h e =
       lists = rw (none, none′, e) lists-none;
     }
 
-module _ (es : List ℕ) (ts : List ℤ) (l : length ts ≡ length es) (z : NoZero es) (small : total es ≤ 4096) (near : reach es ts ≤ 2 ^ 63 - 1) where
-  module _ (list : List ℕ) (n i : ℕ) (b : Behind es ts list n i) (p : 0 < i) where
+module _ (N : ℕ) (es : List ℕ) (ts : List ℤ) (l : length ts ≡ length es) (z : NoZero es) (small : total es ≤ N) (near : reach es ts ≤ 2 ^ 63 - 1) where
+  module _ (list : List ℕ) (n i : ℕ) (b : Behind N es ts list n i) (p : 0 < i) where
     e : ℕ
     e = getD es (i - 1) 0
 
@@ -152,7 +157,7 @@ module _ (es : List ℕ) (ts : List ℤ) (l : length ts ≡ length es) (z : NoZe
     unfolding t
     strides = drop-cons ts (i - 1) (pos 0) (omega (arith, b .within, l)) ∙ ap (λ (k : ℕ). getD ts (i - 1) (pos 0) ∷ drop k ts) next
 
-    room : n * e ≤ 4096
+    room : n * e ≤ N
     room =
         let g : total (drop (i - 1) es) ≡ e * total (drop i es) = ap total extents in
         omega (arith, g, total-drop es (i - 1) z, b .count, mul-comm e (total (drop i es)), ap (λ (k : ℕ). k * e) (b .count))
@@ -167,19 +172,21 @@ module _ (es : List ℕ) (ts : List ℤ) (l : length ts ≡ length es) (z : NoZe
         let r = b .lists .from v q in
         omega (arith, r .is, far-reach (drop i es) (drop i ts) (r .index) (r .inside), reaches)
 
-    pub behind-ready : 1 < getD es (i - 1) 0 → Ready list n (getD es (i - 1) 0) (natAbs (getD ts (i - 1) (pos 0)))
+    pub behind-ready : Ready N list n (getD es (i - 1) 0) (natAbs (getD ts (i - 1) (pos 0)))
     unfolding e t
-    behind-ready h = record {
-      some = omega arith;
+    behind-ready = record {
+      one = omega (arith, b .count, total-some (drop i es) (nozero-drop es i z));
+      some = some-e;
       room = room;
+      long = omega (arith, room, mul-le-mul-left n some-e);
       high = omega (arith, reaches);
-      listed = record { long = omega (arith, b .long, room, n-le); rising = b .lists .rising; below = below };
+      low = below;
     }
       where
-        n-le : n * 1 ≤ n * getD es (i - 1) 0
-        n-le = mul-le-mul-left n (omega arith)
+        some-e : 1 ≤ getD es (i - 1) 0
+        some-e = nozero-at es (i - 1) z (omega (arith, b .within))
 
-    grown : (list′ : List ℕ) (m : ℕ) → length list′ ≡ 4096 → m ≡ n * e → Spread (take n list) e (natAbs t) (take m list′) → Behind es ts list′ m (i - 1)
+    grown : (list′ : List ℕ) (m : ℕ) → length list′ ≡ N → m ≡ n * e → Copied (take n list) e (natAbs t) (take m list′) → Behind N es ts list′ m (i - 1)
     grown list′ m h q s = record {
       within = omega (arith, b .within);
       long = h;
@@ -187,25 +194,25 @@ module _ (es : List ℕ) (ts : List ℤ) (l : length ts ≡ length es) (z : NoZe
       lists = rw (extents, strides) (lists-more (drop i es) (drop i ts) (take n list) (b .lists) e t (take m list′) s);
     }
 
-    pub behind-more : (list′ : List ℕ) → length list′ ≡ 4096
-        → Spread (take n list) (getD es (i - 1) 0) (natAbs (getD ts (i - 1) (pos 0))) (take (n * getD es (i - 1) 0) list′) → Behind es ts list′ (n * getD es (i - 1) 0) (i - 1)
+    pub behind-more : (list′ : List ℕ) → length list′ ≡ N
+        → Copied (take n list) (getD es (i - 1) 0) (natAbs (getD ts (i - 1) (pos 0))) (take (n * getD es (i - 1) 0) list′) → Behind N es ts list′ (n * getD es (i - 1) 0) (i - 1)
     unfolding e t
     behind-more list′ h s = grown list′ (n * e) h refl s
 
     -- an axis of one index changes nothing
-    pub behind-one : getD es (i - 1) 0 ≤ 1 → Behind es ts list n (i - 1)
+    pub behind-one : getD es (i - 1) 0 ≤ 1 → Behind N es ts list n (i - 1)
     unfolding e t
     behind-one h =
         let one : 1 ≡ e = omega (arith, nozero-at es (i - 1) z (omega (arith, b .within)), h) in
         grown list n (b .long) (let g : n ≡ n * 1 = omega arith in g ∙ ap (λ (k : ℕ). n * k) one)
-        (subst (λ (k : ℕ). Spread (take n list) k (natAbs t) (take n list)) one (spread-one (take n list) (natAbs t) (b .lists .rising)))
+        (subst (λ (k : ℕ). Copied (take n list) k (natAbs t) (take n list)) one (copied-one (take n list) (natAbs t)))
 
     pub behind-folds : Fold (take n list) (getD es (i - 1) 0) (natAbs (getD ts (i - 1) (pos 0))) → Shared es ts
     unfolding e t
     behind-folds f =
         near-shared es ts l (near-drop es ts (i - 1) z l (rw (extents, strides) (near-fold (drop i es) (drop i ts) (take n list) (b .lists) e t f)))
 
-  pub behind-ends : (list : List ℕ) (n i : ℕ) → Behind es ts list n i → i ≤ 0 → Shared es ts → ⊥
+  pub behind-ends : (list : List ℕ) (n i : ℕ) → Behind N es ts list n i → i ≤ 0 → Shared es ts → ⊥
   behind-ends list n i b h s =
       let q : i ≡ 0 = omega arith in
       let a : Lists es ts (take n list) = subst (λ (k : ℕ). Lists (drop k es) (drop k ts) (take n list)) q (b .lists) in

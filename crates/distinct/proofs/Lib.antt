@@ -4,3 +4,4 @@ pub mod Copying
 pub mod Pasting
 pub mod Doubling
 pub mod Layouts
+pub mod Extending

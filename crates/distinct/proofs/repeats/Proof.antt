@@ -1,130 +1,28 @@
--- `distinct::repeats` meets its contract. The invariant: the axes from i on are listed. Assumes nothing.
-use mathlib.Core.Path.{_≡_, refl, ap, _∙_}
-use Prim.Native.Nat.{ℕ, _-_}
-use native.Mathlib.Omega.{arith}
-use lib.IntN.{ℤ, pos, natAbs}
-use lib.ListN.{length, getD, replicate, length-replicate}
+-- `distinct::repeats` meets its contract: few cells and many answer the same. Assumes nothing.
+use mathlib.Core.Path.{sym, _∙_}
 use borrow.Author.Needs.{needs}
-use Rattle.laws.specs.Base.Bits.{read-back}
-use Rattle.distinct.proofs.Layouts.{Behind, Ready, behind-starts, behind-ready, behind-more, behind-one, behind-folds, behind-ends, shared-true, shared-false}
+use borrow.Author.Tests.{leb-true}
+use Rattle.strided.specs.Layout.{total}
 use Rattle.distinct.proofs.repeats.Statement.{statement}
 use Rattle.distinct.proofs.repeats.Tie as tie
 
-abbrev Inv-loop : tie.InvT-loop
-Inv-loop extents strides list₀ spare₀ n₀ i₀ list spare n i = Behind extents strides list n i × (length spare ≡ 4096)
+total-at-most-requires : tie.Need-total-at-most-requires
+total-at-most-requires c κs = search needs
 
-abbrev μ-loop : tie.MeasureT-loop
-μ-loop extents strides list₀ spare₀ n₀ i₀ list spare n i = i
+few-repeat-requires : tie.Need-few-repeat-requires
+few-repeat-requires c κs =
+    let t = c .before in
+    let s = t .before .before in
+    (s .pre .0, (leb-true (total (s .args .extents .now)) 64 (sym (t .total-at-most .ensures) ∙ c .if1 .taken), s .pre .1 .1))
 
-loop-holds : tie.Need-loop-holds Inv-loop μ-loop
-loop-holds c =
-    let s = c .before in
-    let long = length-replicate {A = ℕ} 4096 0 in
-    (behind-starts (s .args .extents .now) (s .args .strides .now) (replicate 4096 0) (s .pre .0 .0) long refl, long)
+returns : tie.Need-returns
+returns c = search needs
 
-sub-i : tie.Need-sub-i Inv-loop μ-loop
-sub-i c = omega arith
+many-repeat-requires : tie.Need-many-repeat-requires
+many-repeat-requires c κs = search needs
 
-mul-extent : tie.Need-mul-extent Inv-loop μ-loop
-mul-extent c = omega arith
-
-shared-slice-read-extent : tie.Need-shared-slice-read-extent Inv-loop μ-loop
-shared-slice-read-extent c = omega arith
-
-mul-magnitude : tie.Need-mul-magnitude Inv-loop μ-loop
-mul-magnitude c = omega arith
-
-shared-slice-copy-out-magnitude : tie.Need-shared-slice-copy-out-magnitude Inv-loop μ-loop
-shared-slice-copy-out-magnitude c = omega arith
-
-magnitude-requires : tie.Need-magnitude-requires Inv-loop μ-loop
-magnitude-requires c κs = search needs
-
--- the size of the axis's stride
-size-at : (c : tie.After-magnitude Inv-loop μ-loop)
-    → let l = c .before .before .before .before .before in c .magnitude .result ≡ natAbs (getD (l .before .before .args .strides .now) (l .loop .i - 1) (pos 0))
-size-at c =
-    let l = c .before .before .before .before .before in
-    let t : ℤ = getD (l .before .before .args .strides .now) (l .loop .i - 1) (pos 0) in
-    c .magnitude .ensures ∙ ap natAbs (read-back t (c .before .magnitude-arg .given))
-
--- the list may be spread over the axis
-ready-at : (c : tie.After-magnitude Inv-loop μ-loop)
-    → let l = c .before .before .before .before .before in
-    Ready (l .loop .list) (l .loop .n) (getD (l .before .before .args .extents .now) (l .loop .i - 1) 0) (c .magnitude .result)
-ready-at c =
-    let l = c .before .before .before .before .before in
-    let s = l .before .before in
-    rw (size-at c)
-    (behind-ready (s .args .extents .now) (s .args .strides .now) (s .pre .0 .0) (s .pre .0 .1) (s .pre .1 .0) (s .pre .1 .1) (l .loop .list) (l .loop .n) (l .loop .i) (l .loop .inv .0) (c .before .before .before .before .loop-test .taken) (omega (arith, c .before .before .if1 .taken)))
-
-spread-requires : tie.Need-spread-requires Inv-loop μ-loop
-spread-requires c κs =
-    let m = c .before .before in
-    let r = ready-at m in
-    let inv = m .before .before .before .before .before .loop .inv in
-    ((r .some, r .room, r .high, r .listed), (inv .0 .long, inv .1))
-
-mul-n : tie.Need-mul-n Inv-loop μ-loop
-mul-n c = omega (arith, ready-at (c .before .before .before .before) .room)
-
-loop-less : tie.Need-loop-less Inv-loop μ-loop
-loop-less c = omega arith
-
-loop-again : tie.Need-loop-again Inv-loop μ-loop
-loop-again c =
-    let m = c .before .before .before .before in
-    let l = m .before .before .before .before .before in
-    let s = l .before .before in
-    let k = c .before .spread in (
-      behind-more (s .args .extents .now) (s .args .strides .now) (s .pre .0 .0) (s .pre .0 .1) (s .pre .1 .0) (s .pre .1 .1) (l .loop .list) (l .loop .n) (l .loop .i) (l .loop .inv .0) (m .before .before .before .before .loop-test .taken) (k .last .0) (k .ensures .1 .0)
-          (rw (size-at m) at (k .ensures .0 .listed (c .if2 .taken))),
-      k .ensures .1 .1,
-    )
-
-returns : tie.Need-returns Inv-loop μ-loop
-returns c =
-    let m = c .before .before .before .before in
-    let l = m .before .before .before .before .before in
-    let s = l .before .before in
-    let k = c .before .spread in
-    shared-true
-    (behind-folds (s .args .extents .now) (s .args .strides .now) (s .pre .0 .0) (s .pre .0 .1) (s .pre .1 .0) (s .pre .1 .1) (l .loop .list) (l .loop .n) (l .loop .i) (l .loop .inv .0) (m .before .before .before .before .loop-test .taken)
-    (rw (size-at m) at (k .ensures .0 .fold (c .if2 .left))))
-
-loop-less-2 : tie.Need-loop-less-2 Inv-loop μ-loop
-loop-less-2 c = omega arith
-
-loop-again-2 : tie.Need-loop-again-2 Inv-loop μ-loop
-loop-again-2 c =
-    let l = c .before .before .before in
-    let s = l .before .before in
-    (behind-one (s .args .extents .now) (s .args .strides .now) (s .pre .0 .0) (s .pre .0 .1) (s .pre .1 .0) (s .pre .1 .1) (l .loop .list) (l .loop .n) (l .loop .i) (l .loop .inv .0) (c .before .before .loop-test .taken) (c .if1 .left), l .loop .inv .1)
-
-returns-2 : tie.Need-returns-2 Inv-loop μ-loop
-returns-2 c =
-    let l = c .before in
-    let s = l .before .before in
-    shared-false (behind-ends (s .args .extents .now) (s .args .strides .now) (s .pre .0 .0) (s .pre .0 .1) (s .pre .1 .0) (s .pre .1 .1) (l .loop .list) (l .loop .n) (l .loop .i) (l .loop .inv .0) (c .loop-test .left))
+returns-2 : tie.Need-returns-2
+returns-2 c = search needs
 
 pub repeats-spec : {M : Type 1} → statement M
-repeats-spec =
-    tie.close
-    (tie.spec
-    Inv-loop
-    μ-loop
-    loop-holds
-    sub-i
-    mul-extent
-    shared-slice-read-extent
-    mul-magnitude
-    shared-slice-copy-out-magnitude
-    magnitude-requires
-    spread-requires
-    mul-n
-    loop-less
-    loop-again
-    returns
-    loop-less-2
-    loop-again-2
-    returns-2)
+repeats-spec = tie.close (tie.spec total-at-most-requires few-repeat-requires returns many-repeat-requires returns-2)
