@@ -39,6 +39,8 @@ fn layouts() -> Vec<(&'static str, Vec<u64>, Vec<i64>)> {
     vec![
         ("3 x 3, strides 1, 1", vec![3, 3], vec![1, 1]),
         ("8 x 8, strides 3, 5", vec![8, 8], vec![3, 5]),
+        ("2, six times, far strides", vec![2; 6], odd(6)),
+        ("5 x 13, far strides", vec![5, 13], odd(2)),
         ("64 x 64, packed", vec![64, 64], vec![1, 64]),
         ("64 x 64, far strides", vec![64, 64], odd(2)),
         ("16 x 16 x 16, far strides", vec![16; 3], odd(3)),
