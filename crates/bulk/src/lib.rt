@@ -135,37 +135,31 @@ fn put_rows<'a>(
     put_staying(operands, (at + last) * operands, &mut *o, &mut *offsets);
 }
 
-// Where a walk that runs stands: at these counters and offsets, in a plan of so many axes and operands.
-pub struct Here {
-    pub rank: usize,
-    pub operands: usize,
-    pub counters: [u64; 64],
-    pub offsets: [i64; 8],
-}
-
 // Writes the next blocks, at most `room`, from a state that runs, stretch by stretch. It checks nothing.
 fn put_blocks<'a>(
     room: usize,
-    here: Here,
+    rank: usize,
+    operands: usize,
     e: &'a [u64; 64],
     b: &'a [u64; 64],
     s: &'a [i64; 512],
+    counters: [u64; 64],
+    start: [i64; 8],
     lengths: &mut [u64],
     offsets: &mut [i64],
 ) -> Several
-    requires { ⌜ Taken (planOf (here .rank) (here .operands) (now e) (now b) (now s)) (walkOf false (here .counters) (here .offsets)) ⌝ }
-    requires { ⌜ HasRoom room (here .operands) (now lengths) (now offsets) ⌝ }
-    ensures { λ r. ⌜ Wrote room
-        (planOf (here .rank) (here .operands) (now (e .entry)) (now (b .entry)) (now (s .entry))) (walkOf false (here .counters) (here .offsets))
+    requires { ⌜ Taken (planOf rank operands (now e) (now b) (now s)) (walkOf false counters start) ⌝ }
+    requires { ⌜ HasRoom room operands (now lengths) (now offsets) ⌝ }
+    ensures { λ r. ⌜ Wrote room (planOf rank operands (now (e .entry)) (now (b .entry)) (now (s .entry))) (walkOf false counters start)
         (now (lengths .entry)) (now (offsets .entry)) r (now (lengths .exit)) (now (offsets .exit)) ⌝ }
 {
-    let w = widths(here.rank, e, b);
-    let y = way_of(here.rank, here.operands, e, &w);
+    let w = widths(rank, e, b);
+    let y = way_of(rank, operands, e, &w);
     let d = moves_of(y, s);
-    let mut c = here.counters;
-    let mut o = here.offsets;
-    let mut first = here.offsets;
-    let mut t = tile_starts(here.rank, &w, &c);
+    let mut c = counters;
+    let mut o = start;
+    let mut first = start;
+    let mut t = tile_starts(rank, &w, &c);
     let mut n: usize = 0;
     while n < room {
         let x = next_stretch(
@@ -181,7 +175,7 @@ fn put_blocks<'a>(
         );
         let count = x.count as usize;
         put_lengths(count, n, x.length, &mut *lengths);
-        put_rows(count, here.operands, n, &d, &mut first, &mut *offsets);
+        put_rows(count, operands, n, &d, &mut first, &mut *offsets);
         n += count;
         let more = x.more;
         if !more {
@@ -218,13 +212,18 @@ pub fn step_many_on<'a>(
         },
         Outcome::Block => {
             let room = room_for(operands, lengths.len(), offsets.len());
-            let here = Here {
-                rank: rank,
-                operands: operands,
-                counters: c,
-                offsets: o,
-            };
-            put_blocks(room, here, e, b, s, &mut *lengths, &mut *offsets)
+            put_blocks(
+                room,
+                rank,
+                operands,
+                e,
+                b,
+                s,
+                c,
+                o,
+                &mut *lengths,
+                &mut *offsets,
+            )
         }
     }
 }

@@ -13,15 +13,15 @@ use Rattle.bulk.proofs.put_blocks.Statement.{statement}
 use Rattle.bulk.proofs.put_blocks.Tie as tie
 
 abbrev Inv-loop : tie.InvT-loop
-Inv-loop room here e b s lengths₀ offsets₀ w y d c₀ o₀ first₀ t₀ n₀ lengths offsets c o first t n =
-    (n ≤ room) × Turned (planOf (here .rank) (here .operands) e b s) (walkOf false c₀ o₀) y w lengths₀ offsets₀ n t c o lengths offsets
+Inv-loop room rank operands e b s lengths₀ offsets₀ w y d c₀ o₀ first₀ t₀ n₀ lengths offsets c o first t n =
+    (n ≤ room) × Turned (planOf rank operands e b s) (walkOf false c₀ o₀) y w lengths₀ offsets₀ n t c o lengths offsets
 
 abbrev μ-loop : tie.MeasureT-loop
-μ-loop room here e b s lengths₀ offsets₀ w y d c₀ o₀ first₀ t₀ n₀ lengths offsets c o first t n = room - n
+μ-loop room rank operands e b s lengths₀ offsets₀ w y d c₀ o₀ first₀ t₀ n₀ lengths offsets c o first t n = room - n
 
 -- from the loop back to the entry of the function
 abbrev ready : tie.At-loop Inv-loop μ-loop → tie.After-moves-of Inv-loop μ-loop
-ready c = c .before .before .before .before .before .before .before
+ready c = c .before .before .before .before
 
 abbrev entry : tie.At-loop Inv-loop μ-loop → tie.Start Inv-loop μ-loop
 entry c = ready c .before .before .before .before .before
@@ -64,13 +64,13 @@ moves-of-requires c κs = may-move (c .before .before .widths .ensures) (c .way-
 
 tile-starts-requires : tie.Need-tile-starts-requires Inv-loop μ-loop
 tile-starts-requires c κs =
-    let v = c .before .before .before .before .before .before .before .before in
+    let v = c .before .before .before .before .before in
     let k = v .before .before .pre .0 in
     (axes-few _ _ k, widths-here _ _ k _ (v .widths .ensures))
 
 loop-holds : tie.Need-loop-holds Inv-loop μ-loop
 loop-holds c =
-    let y = c .before .before .before .before .before .before .before in
+    let y = c .before .before .before .before in
     let v = y .before .before in
     (omega arith, turned-none (v .widths .ensures) (y .way-of .ensures) (v .before .before .pre .0) (c .tile-starts .ensures))
 
