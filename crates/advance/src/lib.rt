@@ -202,18 +202,13 @@ pub fn inner_axes(rank: usize, w: &[u64; 64]) -> usize
     n
 }
 
-// Where a carry goes: along the axes from `first` to `last` of a plan's `rank`, inside a tile or from tile to tile.
-pub struct Along {
-    pub inside: bool,
-    pub first: usize,
-    pub last: usize,
-    pub rank: usize,
-    pub operands: usize,
-}
-
-// A carry. Says whether an axis went ahead.
+// A carry along the axes from `first` to `last`, inside a tile or from tile to tile. Says whether an axis went ahead.
 pub fn carry(
-    along: Along,
+    inside: bool,
+    first: usize,
+    last: usize,
+    rank: usize,
+    operands: usize,
     e: &[u64; 64],
     w: &[u64; 64],
     s: &[i64; 512],
@@ -221,19 +216,19 @@ pub fn carry(
     c: &mut [u64; 64],
     o: &mut [i64; 8],
 ) -> bool
-    requires { ⌜ Roomy (along .rank) (along .operands) (now e) (now s) (now c) (now o) ⌝ }
-    requires { ⌜ Tiled (along .rank) (now w) (now c) (now t) ⌝ }
-    requires { ⌜ along .last ≤ along .rank ⌝ }
-    ensures { λ r. ⌜ CarriedTo (along .inside) (along .first) (along .last) (along .rank) (along .operands)
+    requires { ⌜ Roomy rank operands (now e) (now s) (now c) (now o) ⌝ }
+    requires { ⌜ Tiled rank (now w) (now c) (now t) ⌝ }
+    requires { ⌜ last ≤ rank ⌝ }
+    ensures { λ r. ⌜ CarriedTo inside first last rank operands
         (now (e .entry)) (now (w .entry)) (now (s .entry)) (now (c .entry)) (now (o .entry))
         r (now (t .exit)) (now (c .exit)) (now (o .exit)) ⌝ }
 {
-    let mut i = along.first;
-    while i < along.last {
+    let mut i = first;
+    while i < last {
         let at = c[i];
-        let a = aim_of(along.inside, e[i], w[i], t[i], at);
+        let a = aim_of(inside, e[i], w[i], t[i], at);
         let to = a.to;
-        shift(along.operands, i, at, to, s, &mut *o);
+        shift(operands, i, at, to, s, &mut *o);
         c[i] = to;
         let start = a.start;
         t[i] = start;
@@ -265,25 +260,35 @@ pub fn advance<'a>(
     ensures { λ r. ⌜ AdvancedTo rank operands (now (e .entry)) (now (w .entry)) (now (s .entry)) (now (c .entry)) (now (o .entry))
         r (now (t .exit)) (now (c .exit)) (now (o .exit)) ⌝ }
 {
-    let along = Along {
-        inside: true,
-        first: 1,
-        last: inner,
-        rank: rank,
-        operands: operands,
-    };
-    let more = carry(along, e, w, s, &mut *t, &mut *c, &mut *o);
+    let more = carry(
+        true,
+        1,
+        inner,
+        rank,
+        operands,
+        e,
+        w,
+        s,
+        &mut *t,
+        &mut *c,
+        &mut *o,
+    );
     if more {
         return true;
     }
-    let along = Along {
-        inside: false,
-        first: 0,
-        last: rank,
-        rank: rank,
-        operands: operands,
-    };
-    carry(along, e, w, s, &mut *t, &mut *c, &mut *o)
+    carry(
+        false,
+        0,
+        rank,
+        rank,
+        operands,
+        e,
+        w,
+        s,
+        &mut *t,
+        &mut *c,
+        &mut *o,
+    )
 }
 
 // The length of the block at the counters.

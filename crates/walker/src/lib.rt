@@ -13,7 +13,6 @@ ghost use lib.ListN.{getD, replicate};
 ghost use Rattle.advance.specs.Axis.{startOf};
 ghost use Rattle.advance.specs.Moves.{Shifts};
 ghost use Rattle.walker.specs.Way.{Leads, leftIn, movesOf, AtEnd, MayGo, Gone, Strides, Leaves, Strode, MayMove, added};
-use advance::Along;
 use advance::advance;
 use advance::carry;
 use advance::inner_axes;
@@ -205,39 +204,52 @@ fn leave<'a>(
         let start = t[axis];
         shift(operands, axis, at, start, s, &mut *o);
         c[axis] = start;
-        let next = axis + 1;
-        let along = Along {
-            inside: true,
-            first: next,
-            last: y.inner,
-            rank: rank,
-            operands: operands,
-        };
-        let more = carry(along, e, w, s, &mut *t, &mut *c, &mut *o);
+        let more = carry(
+            true,
+            axis + 1,
+            y.inner,
+            rank,
+            operands,
+            e,
+            w,
+            s,
+            &mut *t,
+            &mut *c,
+            &mut *o,
+        );
         if more {
             return true;
         }
-        let along = Along {
-            inside: false,
-            first: 0,
-            last: rank,
-            rank: rank,
-            operands: operands,
-        };
-        return carry(along, e, w, s, &mut *t, &mut *c, &mut *o);
+        return carry(
+            false,
+            0,
+            rank,
+            rank,
+            operands,
+            e,
+            w,
+            s,
+            &mut *t,
+            &mut *c,
+            &mut *o,
+        );
     }
     shift(operands, axis, at, 0, s, &mut *o);
     c[axis] = 0;
     t[axis] = 0;
-    let next = axis + 1;
-    let along = Along {
-        inside: false,
-        first: next,
-        last: rank,
-        rank: rank,
-        operands: operands,
-    };
-    carry(along, e, w, s, &mut *t, &mut *c, &mut *o)
+    carry(
+        false,
+        axis + 1,
+        rank,
+        rank,
+        operands,
+        e,
+        w,
+        s,
+        &mut *t,
+        &mut *c,
+        &mut *o,
+    )
 }
 
 // THE STRETCH at the counters, of at most `limit` blocks: the offsets of its first block go to `first`, and the counters, the offsets and

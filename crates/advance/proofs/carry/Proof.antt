@@ -8,86 +8,74 @@ use Rattle.advance.proofs.carry.Statement.{statement}
 use Rattle.advance.proofs.carry.Tie as tie
 
 abbrev Inv-loop : tie.InvT-loop
-Inv-loop along e w s t₀ c₀ o₀ i₀ t c o i =
-    (along .last ≤ along .rank) × Before (along .inside) (along .first) (along .last) (along .rank) (along .operands) e w s c₀ o₀ i t c o
+Inv-loop inside first last rank operands e w s t₀ c₀ o₀ i₀ t c o i = (last ≤ rank) × Before inside first last rank operands e w s c₀ o₀ i t c o
 
 abbrev μ-loop : tie.MeasureT-loop
-μ-loop along e w s t₀ c₀ o₀ i₀ t c o i = along .last - i
+μ-loop inside first last rank operands e w s t₀ c₀ o₀ i₀ t c o i = last - i
 
 loop-holds : tie.Need-loop-holds Inv-loop μ-loop
 loop-holds c = (c .pre .1 .1, begins _ _ _ _ _ _ _ _ _ _ _ (c .pre .0) (c .pre .1 .0))
 
--- a turn looks at an axis of the plan
-few : (c : tie.Then1 Inv-loop μ-loop) → c .before .before .loop .i < 64
-few c = let i = c .before .before .loop .inv in omega (arith, c .if1 .taken, i .0, i .1 .roomy .axes)
-
 mul-at : tie.Need-mul-at Inv-loop μ-loop
-mul-at c = record { fits = omega (arith, few c) }
+mul-at c = record { fits = omega (arith, c .before .loop .inv .0, c .before .loop .inv .1 .roomy .axes) }
 
 element-copy-out-at : tie.Need-element-copy-out-at Inv-loop μ-loop
-element-copy-out-at c = few c
+element-copy-out-at c = omega (arith, c .before .loop .inv .0, c .before .loop .inv .1 .roomy .axes)
 
 mul-aim-of : tie.Need-mul-aim-of Inv-loop μ-loop
-mul-aim-of c = record { fits = omega (arith, few (c .before)) }
+mul-aim-of c = record { fits = omega (arith, c .before .before .loop .inv .0, c .before .before .loop .inv .1 .roomy .axes) }
 
 element-copy-out-aim-of : tie.Need-element-copy-out-aim-of Inv-loop μ-loop
-element-copy-out-aim-of c = few (c .before)
+element-copy-out-aim-of c = omega (arith, c .before .before .loop .inv .0, c .before .before .loop .inv .1 .roomy .axes)
 
 mul-aim-of-2 : tie.Need-mul-aim-of-2 Inv-loop μ-loop
-mul-aim-of-2 c = record { fits = omega (arith, few (c .before .before)) }
+mul-aim-of-2 c = record { fits = omega (arith, c .before .before .before .loop .inv .0, c .before .before .before .loop .inv .1 .roomy .axes) }
 
 element-copy-out-aim-of-2 : tie.Need-element-copy-out-aim-of-2 Inv-loop μ-loop
-element-copy-out-aim-of-2 c = few (c .before .before)
+element-copy-out-aim-of-2 c = omega (arith, c .before .before .before .loop .inv .0, c .before .before .before .loop .inv .1 .roomy .axes)
 
 mul-aim-of-3 : tie.Need-mul-aim-of-3 Inv-loop μ-loop
-mul-aim-of-3 c = record { fits = omega (arith, few (c .before .before .before)) }
+mul-aim-of-3 c = record { fits = omega (arith, c .before .before .before .before .loop .inv .0, c .before .before .before .before .loop .inv .1 .roomy .axes) }
 
 element-copy-out-aim-of-3 : tie.Need-element-copy-out-aim-of-3 Inv-loop μ-loop
-element-copy-out-aim-of-3 c = few (c .before .before .before)
+element-copy-out-aim-of-3 c = omega (arith, c .before .before .before .before .loop .inv .0, c .before .before .before .before .loop .inv .1 .roomy .axes)
 
 aim-of-requires : tie.Need-aim-of-requires Inv-loop μ-loop
 aim-of-requires c κs =
-    let h = c .before .before .before .before in
-    let a = h .before .before in
-    let l = a .loop in
-    let t : l .i < a .before .args .along .rank = omega (arith, h .if1 .taken, l .inv .0) in
+    let l = c .before .before .before .before .before .loop in
+    let t : l .i < c .before .before .before .before .before .before .args .rank = omega (arith, c .before .before .before .before .loop-test .taken, l .inv .0) in
     (l .inv .1 .tiled .wide _ t, l .inv .1 .roomy .within _ t, l .inv .1 .tiled .start _ t)
 
 shift-requires : tie.Need-shift-requires Inv-loop μ-loop
-shift-requires c κs =
-    let f = c .before in
-    let h = f .before .before .before .before .before in
-    let i = h .before .before .loop .inv in
-    shifts-at _ _ _ _ _ _ _ _ _ _ _ _ _ _ (i .1) (i .0) (h .if1 .taken) _ (f .aim-of .ensures)
+shift-requires c κs = shifts-at _ _ _ _ _ _ _ _ _ _ _ _ _ _ (c .before .before .before .before .before .before .before .loop .inv .1) (c .before .before .before .before .before .before .before .loop .inv .0) (c .before .before .before .before .before .before .loop-test .taken) _ (c .before .aim-of .ensures)
 
 -- where the axis has moved: this turn, and where its target was found
-abbrev turn : tie.After-shift Inv-loop μ-loop → tie.Then1 Inv-loop μ-loop
+abbrev turn : tie.After-shift Inv-loop μ-loop → tie.In-loop Inv-loop μ-loop
 turn c = c .before .before .before .before .before .before .before
 
 abbrev aimed : tie.After-shift Inv-loop μ-loop → tie.After-aim-of Inv-loop μ-loop
 aimed c = c .before .before
 
 mul-c : tie.Need-mul-c Inv-loop μ-loop
-mul-c c = record { fits = omega (arith, few (turn c)) }
+mul-c c = let i = turn c .before .loop .inv in record { fits = omega (arith, i .0, i .1 .roomy .axes) }
 
 element-write-c : tie.Need-element-write-c Inv-loop μ-loop
-element-write-c c = few (turn c)
+element-write-c c = let i = turn c .before .loop .inv in omega (arith, i .0, i .1 .roomy .axes)
 
 mul-t : tie.Need-mul-t Inv-loop μ-loop
-mul-t c = record { fits = omega (arith, few (turn c)) }
+mul-t c = let i = turn c .before .loop .inv in record { fits = omega (arith, i .0, i .1 .roomy .axes) }
 
 element-write-t : tie.Need-element-write-t Inv-loop μ-loop
-element-write-t c = few (turn c)
+element-write-t c = let i = turn c .before .loop .inv in omega (arith, i .0, i .1 .roomy .axes)
 
 returns : tie.Need-returns Inv-loop μ-loop
 returns c =
     let f = c .before in
-    let h = turn f in
-    let i = h .before .before .loop .inv in
-    stops-at _ _ _ _ _ _ _ _ _ _ _ _ _ _ (i .1) (i .0) (h .if1 .taken) _ (aimed f .aim-of .ensures) _ (f .shift .ensures) (c .if2 .taken)
+    let i = turn f .before .loop .inv in
+    stops-at _ _ _ _ _ _ _ _ _ _ _ _ _ _ (i .1) (i .0) (turn f .loop-test .taken) _ (aimed f .aim-of .ensures) _ (f .shift .ensures) (c .if1 .taken)
 
 add-i : tie.Need-add-i Inv-loop μ-loop
-add-i c = record { fits = omega (arith, few (turn (c .before))) }
+add-i c = let i = turn (c .before) .before .loop .inv in record { fits = omega (arith, i .0, i .1 .roomy .axes) }
 
 loop-less : tie.Need-loop-less Inv-loop μ-loop
 loop-less c = omega arith
@@ -95,12 +83,11 @@ loop-less c = omega arith
 loop-again : tie.Need-loop-again Inv-loop μ-loop
 loop-again c =
     let f = c .before in
-    let h = turn f in
-    let i = h .before .before .loop .inv in
-    (i .0, goes-on-at _ _ _ _ _ _ _ _ _ _ _ _ _ _ (i .1) (i .0) (h .if1 .taken) _ (aimed f .aim-of .ensures) _ (f .shift .ensures) (c .if2 .left))
+    let i = turn f .before .loop .inv in
+    (i .0, goes-on-at _ _ _ _ _ _ _ _ _ _ _ _ _ _ (i .1) (i .0) (turn f .loop-test .taken) _ (aimed f .aim-of .ensures) _ (f .shift .ensures) (c .if1 .left))
 
 returns-2 : tie.Need-returns-2 Inv-loop μ-loop
-returns-2 c = ends _ _ _ _ _ _ _ _ _ _ _ _ _ _ (c .before .before .loop .inv .1) (c .if1 .left)
+returns-2 c = ends _ _ _ _ _ _ _ _ _ _ _ _ _ _ (c .before .loop .inv .1) (c .loop-test .left)
 
 pub carry-spec : {M : Type 1} → statement M
 carry-spec =

@@ -29,8 +29,8 @@ mul-c c = search needs
 element-write-c : tie.Need-element-write-c
 element-write-c c = search needs
 
-add-next : tie.Need-add-next
-add-next c = search needs
+add-carry : tie.Need-add-carry
+add-carry c = search needs
 
 -- behind the first carry: where the axis was left by a tile, and the entry
 abbrev tile : tie.After-carry → tie.Then1
@@ -82,8 +82,8 @@ mul-t c = search needs
 element-write-t : tie.Need-element-write-t
 element-write-t c = search needs
 
-add-next-2 : tie.Need-add-next-2
-add-next-2 c = search needs
+add-carry-2 : tie.Need-add-carry-2
+add-carry-2 c = search needs
 
 carry-requires-3 : tie.Need-carry-requires-3
 carry-requires-3 c κs =
@@ -108,7 +108,7 @@ leave-spec =
     shift-requires
     mul-c
     element-write-c
-    add-next
+    add-carry
     carry-requires
     returns
     carry-requires-2
@@ -118,6 +118,6 @@ leave-spec =
     element-write-c-2
     mul-t
     element-write-t
-    add-next-2
+    add-carry-2
     carry-requires-3
     returns-3)
