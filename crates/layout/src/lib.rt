@@ -47,6 +47,7 @@ pub fn number(refusal: Refusal) -> u64
         Refusal::TextTotal => 13,
         Refusal::Room => 14,
         Refusal::Window => 15,
+        Refusal::Visits => 23,
         Refusal::Record => 24,
     }
 }

@@ -90,7 +90,7 @@ fn read_chosen(s: &[u8], at: usize, fold: bool) -> Chosen
     read_pointwise(s, at)
 }
 
-fn read_counts(s: &[u8], at: usize) -> Counts
+pub fn read_counts(s: &[u8], at: usize) -> Counts
     ensures { λ r. ⌜ ReadsCounts (now (s .entry)) at r ⌝ }
 {
     match field(s, at) {

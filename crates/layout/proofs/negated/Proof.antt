@@ -10,7 +10,7 @@ use mir.Syntax.{w64}
 use mir.Facts.{toZ-pos, toZ-ofZ}
 use Rattle.strided.specs.Refusals.{number, negated}
 use Rattle.strided.specs.declared.Refusal.{Refusal}
-use Rattle.strided.specs.declared.Refusal.the-variants.{Rank, Operands, StrideCount, Chosen, Total, Reach, StartCount, Offsets, State, Index, Form, TextTotal, Room, Window, Record}
+use Rattle.strided.specs.declared.Refusal.the-variants.{Rank, Operands, StrideCount, Chosen, Total, Reach, StartCount, Offsets, State, Index, Form, TextTotal, Room, Window, Visits, Record}
 use Rattle.layout.proofs.negated.Statement.{statement}
 use Rattle.layout.proofs.negated.Tie as tie
 
@@ -29,6 +29,7 @@ number-small Form = omega arith
 number-small TextTotal = omega arith
 number-small Room = omega arith
 number-small Window = omega arith
+number-small Visits = omega arith
 number-small Record = omega arith
 
 mag-less : (n : ℕ) → mag (negℤ (pos n)) ≤ n
