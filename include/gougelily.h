@@ -75,7 +75,9 @@ extern "C" {
  * If an extent is 0, the rows 6 and 9 pass. 7 is given no longer. A window is
  * refused with 15 if a list has not one entry per axis, a step is 0, an index
  * lies outside its axis, a count is 0 and its first above the extent, or a new
- * stride is outside 64-bit signed.
+ * stride is outside 64-bit signed. Judging gives 23 for a rank of 0, a line that
+ * is not in the V form, a length of 0, an axis that is not there, or a mark
+ * buffer of another length.
  *
  * The numbers here are positive, and a refused call answers them negated:
  * compare gougelily_refused(answer) with them, not the answer.
@@ -92,9 +94,10 @@ extern "C" {
     ROW(GOUGELILY_STATE, 10, "no walk begun on this plan comes to this state")                       \
     ROW(GOUGELILY_INDEX, 11, "the counters or the index are wrong in number or out of range")        \
     ROW(GOUGELILY_FORM, 12, "the text is not in the form")                                           \
-    ROW(GOUGELILY_TEXT_TOTAL, 13, "a text's layout has more than 1,048,576 cells")                   \
+    ROW(GOUGELILY_TEXT_TOTAL, 13, "more than 1,048,576 cells in a text, or 65,536 in judging")       \
     ROW(GOUGELILY_ROOM, 14, "the output is longer than the room lent for it")                        \
     ROW(GOUGELILY_WINDOW, 15, "a window's list, step, index or new stride is wrong")                 \
+    ROW(GOUGELILY_VISITS, 23, "visits not in the form, rank 0, or a mark buffer of another length")  \
     ROW(GOUGELILY_RECORD, 24, "the machine record is outside its bounds")
 
 #define GOUGELILY_ROW(name, number, sentence) name = number,
@@ -355,6 +358,31 @@ int64_t gougelily_repeat_mark(const uint64_t *extents, size_t extent_count, cons
  * Refuses 12, 1, 2, 4, 5, 6, 13, 14, in this order.
  */
 int64_t gougelily_walklist(const uint8_t *text, size_t text_len, uint8_t *room, size_t room_len);
+
+/* What is said of a list of visits. */
+typedef enum gougelily_verdict_t {
+    GOUGELILY_ACCEPTED = 0, /* each index of the layout is met exactly once */
+    GOUGELILY_SHORT = 1,    /* some index is not met */
+    GOUGELILY_DOUBLE = 2,   /* some index is met twice */
+    GOUGELILY_OUTSIDE = 3   /* some run leaves the layout */
+} gougelily_verdict_t;
+
+/*
+ * Judges the walk of another tool: whether the runs that it lists meet each
+ * index of a layout exactly once.
+ *
+ * Takes the extents, rank 1 to 64; the visits as text of any length, perhaps
+ * empty, each a line V,axis,length,index with one number per axis: a run of that
+ * length, 1 or more, along the axis from the index on; and a mark buffer of one
+ * byte per index of the layout.
+ * Answers a gougelily_verdict_t: outside if a run leaves the layout, else double
+ * if an index comes again, else short if one does not come, else accepted. The
+ * marks are then 1 at each index met and 0 elsewhere, axis 0 quickest; outside
+ * they are all 0. Our own walks, as runs of single cells, are accepted.
+ * Refuses 1, 5, 13, 23, in this order; 13 from 65,537 cells on.
+ */
+int64_t gougelily_judge(const uint64_t *extents, size_t extent_count, const uint8_t *text, size_t text_len,
+                        uint8_t *marks, size_t mark_count);
 
 /* The version of the library that the program runs with, as GOUGELILY_VERSION has it: 1.2.3 is 1,002,003. */
 int64_t gougelily_version(void);

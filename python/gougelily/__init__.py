@@ -17,6 +17,7 @@ A,1,3,3,2,1
 and the sentence. `python3 -m gougelily` explains a layout's plan in the terminal.
 """
 
+from .judging import VERDICTS, Judgement, Visit, judge, write_visits
 from .layout import Layout, repeat_mark
 from .library import version
 from .machine import FIXED, Machine, machine
@@ -30,17 +31,21 @@ from .windows import Windowed, window
 __all__ = [
     "FIXED",
     "REFUSALS",
+    "VERDICTS",
     "Block",
+    "Judgement",
     "Layout",
     "Machine",
     "NotInForm",
     "Plan",
     "Refused",
     "Run",
+    "Visit",
     "Walk",
     "Windowed",
     "__version__",
     "blocks",
+    "judge",
     "machine",
     "original_index",
     "plan",
@@ -53,4 +58,5 @@ __all__ = [
     "walklist",
     "window",
     "write_layout",
+    "write_visits",
 ]

@@ -24,9 +24,10 @@ REFUSALS = {
     10: Row("no walk begun on this plan comes to this state", "counter 5, extent 5"),
     11: Row("the counters or the index are wrong in number or out of range", "index 5 on an axis of extent 5"),
     12: Row("the text is not in the form", "a number with a leading zero, a last line without LF"),
-    13: Row("a text's layout has more than 1,048,576 cells", "extent 1,048,577"),
+    13: Row("more than 1,048,576 cells in a text, or 65,536 in judging", "extent 1,048,577"),
     14: Row("the output is longer than the room lent for it", "8,000 blocks in the 65,536 bytes of walklist"),
     15: Row("a window's list, step, index or new stride is wrong", "a step of 0, index 5 on an axis of extent 5"),
+    23: Row("visits not in the form, rank 0, or a mark buffer of another length", "a length of 0, an axis that is not there"),
     24: Row("the machine record is outside its bounds", "a line of 48 bytes"),
 }
 

@@ -4,6 +4,7 @@
 
 pub mod checks;
 pub mod indices;
+pub mod judging;
 pub mod many;
 pub mod marks;
 pub mod plans;
