@@ -4,6 +4,7 @@
 
 mod counting;
 mod finding;
+mod judging;
 mod layouts;
 mod marks;
 mod parts;
@@ -21,8 +22,8 @@ use tools::options::{end, unknown, Options};
 const HELP: &str = "\
 bench: times the port and the original, and prints the ratios as tables
 
-  --only WHAT      only this table: planning, windows, walking, finding, marks, texts
-                   or parts; may be repeated
+  --only WHAT      only this table: planning, windows, walking, finding, marks, texts,
+                   judging or parts; may be repeated
   --runs N         short runs of each side, of which the best counts (2000)
   --seed S         the seed of the layouts for parts (0)
   --instructions   count instructions of planning too, with valgrind
@@ -167,6 +168,22 @@ fn texts_table(asked: &Asked, out: &mut impl Write) -> Result<(), String> {
     put(out, &text)
 }
 
+fn judging_table(asked: &Asked, out: &mut impl Write) -> Result<(), String> {
+    let mut text = String::from(
+        "## Judging\n\n| visits | bytes | answer | Rust microseconds | port microseconds | ratio | MB/s |\n|---|---|---|---|---|---|---|\n",
+    );
+    for row in judging::times(asked.runs) {
+        let (plain, port) = (row.plain / 1000.0, row.port / 1000.0);
+        let (ratio, speed) = (shown(port / plain), row.bytes as f64 / port);
+        text += &format!(
+            "| {} | {} | {} | {plain:.1} | {port:.1} | {ratio} | {speed:.0} |\n",
+            row.name, row.bytes, row.answer
+        );
+    }
+    text.push('\n');
+    put(out, &text)
+}
+
 fn parts_table(asked: &Asked, out: &mut impl Write) -> Result<(), String> {
     let mut text = String::from(
         "## Parts\n\n| function | rank | operands | Rust ns | port ns | ratio |\n|---|---|---|---|---|---|\n",
@@ -210,9 +227,11 @@ fn run() -> Result<(), String> {
             _ => return Err(unknown(&option)),
         }
     }
-    if ["planning", "windows", "walking", "finding", "marks", "texts"]
-        .iter()
-        .any(|what| asked.wants(what))
+    if [
+        "planning", "windows", "walking", "finding", "marks", "texts", "judging",
+    ]
+    .iter()
+    .any(|what| asked.wants(what))
     {
         port::gougelily::linked()?;
     }
@@ -236,6 +255,9 @@ fn run() -> Result<(), String> {
     }
     if asked.wants("texts") {
         texts_table(&asked, &mut out)?;
+    }
+    if asked.wants("judging") {
+        judging_table(&asked, &mut out)?;
     }
     if asked.wants("parts") {
         parts_table(&asked, &mut out)?;

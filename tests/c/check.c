@@ -7,6 +7,7 @@
  * - layouts at random: a walk meets every cell once, at the offsets that its
  *   original index tells, and the index maps are inverse; many steps in one call
  *   hand out the blocks of single steps; windows have the offsets of their cells;
+ * - lists of visits at random, judged;
  * - plans and states at random, whatever they hold: a call ends with an answer.
  * After every call its inputs are as they were, after a refusal its outputs too.
  */
@@ -254,6 +255,20 @@ static int64_t text_of(const char *text, char *room, size_t size)
     return answer;
 }
 
+static int64_t judge_of(const uint64_t *extents, size_t rank, const char *text, uint8_t *marks, size_t count)
+{
+    const size_t length = strlen(text);
+    const uint64_t *e = lend(extents, rank * 8);
+    const uint8_t *t = lend(text, length);
+    uint8_t *m = lend(marks, count);
+    int64_t answer = gougelily_judge(e, rank, t, length, m, count);
+    if (count > 0)
+        memcpy(marks, m, count);
+    CHECK(answer <= GOUGELILY_OUTSIDE && (answer >= -1 || answer == -5 || answer == -13 || answer == -23));
+    settle(2, answer >= 0);
+    return answer;
+}
+
 /* ------------------------------------------------------------ known answers */
 
 static struct layout two(uint64_t e0, uint64_t e1, int64_t a0, int64_t a1, int64_t b0, int64_t b1, uint64_t purpose)
@@ -418,6 +433,37 @@ static void known_texts(void)
     CHECK(text_of("L,P,1,1,-\nE,02\nO,8,1\n", room, sizeof room) == -GOUGELILY_FORM);
 }
 
+#define MARKED(list) (memcmp(marks, list, 7) == 0)
+
+static void known_judging(void)
+{
+    static const uint64_t extents[65] = {3, 2}, none[2] = {3, 0}, many[1] = {65537}, far[2] = {UINT64_MAX, 2};
+    uint8_t marks[7];
+    memset(marks, 7, sizeof marks);
+    CHECK(judge_of(extents, 2, "V,0,3,0,1\nV,0,3,0,0\n", marks, 6) == GOUGELILY_ACCEPTED && MARKED("\1\1\1\1\1\1\7"));
+    CHECK(judge_of(extents, 2, "V,1,2,1,0\n", marks, 6) == GOUGELILY_SHORT && MARKED("\0\1\0\0\1\0\7"));
+    CHECK(judge_of(extents, 2, "V,0,3,0,0\nV,1,2,1,0\n", marks, 6) == GOUGELILY_DOUBLE && MARKED("\1\1\1\0\1\0\7"));
+    CHECK(judge_of(extents, 2, "V,0,3,0,0\nV,0,2,2,1\n", marks, 6) == GOUGELILY_OUTSIDE && MARKED("\0\0\0\0\0\0\7"));
+    CHECK(judge_of(extents, 2, "V,0,18446744073709551615,1,0\n", marks, 6) == GOUGELILY_OUTSIDE);
+    CHECK(judge_of(extents, 2, "", marks, 6) == GOUGELILY_SHORT);
+    CHECK(judge_of(none, 2, "", marks, 0) == GOUGELILY_ACCEPTED);
+    CHECK(judge_of(none, 2, "V,0,1,0,0\n", marks, 0) == GOUGELILY_OUTSIDE);
+    memset(marks, 7, sizeof marks);
+    for (size_t count = 0; count <= 7; count++)
+        CHECK(count == 6 || judge_of(extents, 2, "", marks, count) == -GOUGELILY_VISITS);
+    CHECK(judge_of(extents, 2, "V,0,0,0,0\n", marks, 6) == -GOUGELILY_VISITS);
+    CHECK(judge_of(extents, 2, "V,2,1,0,0\n", marks, 6) == -GOUGELILY_VISITS);
+    CHECK(judge_of(extents, 2, "V,0,3,0,0\nV,0,3,0,1", marks, 6) == -GOUGELILY_VISITS);
+    CHECK(judge_of(extents, 2, "V,0,18446744073709551616,0,0\n", marks, 6) == -GOUGELILY_VISITS);
+    CHECK(judge_of(extents, 0, "", marks, 1) == -GOUGELILY_VISITS);
+    CHECK(judge_of(many, 1, "", marks, 1) == -GOUGELILY_TEXT_TOTAL);
+    CHECK(judge_of(far, 2, "", marks, 1) == -GOUGELILY_TOTAL);
+    CHECK(judge_of(extents, 65, "", marks, 1) == -GOUGELILY_RANK);
+    CHECK(MARKED("\7\7\7\7\7\7\7"));
+    CHECK(gougelily_judge(none, 2, NULL, 0, NULL, 0) == GOUGELILY_ACCEPTED);
+    CHECK(gougelily_judge(NULL, 0, NULL, 0, NULL, 0) == -GOUGELILY_VISITS);
+}
+
 /* ------------------------------------------------------------ numbers at random */
 
 static uint64_t state = 1;
@@ -538,7 +584,7 @@ static int machine_allowed(gougelily_machine_t m)
            m.way % m.line == 0 && m.way >= m.line && m.way <= m.cache && m.live >= 1 && m.live <= 16;
 }
 
-static uint64_t cells_met, blocks_met, windows_met, refusals_met, records_refused;
+static uint64_t cells_met, blocks_met, windows_met, lists_judged, refusals_met, records_refused;
 
 /* "array places behind the counts are 0" */
 static int blank(const void *array, size_t from, size_t to)
@@ -707,6 +753,24 @@ static void garbage_window(const struct layout *l)
     refusals_met += window_of(l, &n, &made) < 0;
 }
 
+/* Lines over 2 x 2 cells, most of them in the form; the marks say which cells were met. */
+static void any_visits(void)
+{
+    static const uint64_t extents[2] = {2, 2};
+    char text[160] = "", *at = text;
+    uint8_t marks[4] = {9, 9, 9, 9};
+    for (uint64_t lines = below(6); lines > 0; lines--)
+        at += sprintf(at, "V,%d,%d,%d,%d\n", (int)below(2), 1 + (int)below(2), (int)below(2), (int)below(2));
+    if (below(4) == 0 && at > text)
+        text[below((uint64_t)(at - text))] = "V,0123\n"[below(7)];
+    const int64_t answer = judge_of(extents, 2, text, marks, 4);
+    for (int i = 0; i < 4; i++)
+        CHECK(answer < 0 ? marks[i] == 9 : marks[i] <= (answer != GOUGELILY_OUTSIDE));
+    CHECK(answer != GOUGELILY_ACCEPTED || memcmp(marks, "\1\1\1\1", 4) == 0);
+    refusals_met += answer < 0;
+    lists_judged++;
+}
+
 /* ------------------------------------------------------------ plans and states at random */
 
 /* A few steps, whatever plan and state are. */
@@ -800,6 +864,7 @@ int main(int argc, char **argv)
     known_refusals();
     known_windows();
     known_texts();
+    known_judging();
     for (round_number = 1; round_number <= rounds; round_number++) {
         struct layout l = tame(), g = garbage();
         gougelily_plan_t p = {0};
@@ -808,6 +873,7 @@ int main(int argc, char **argv)
         walk_layout(&l);
         cut_layout(&l);
         garbage_window(&g);
+        any_visits();
         one_number_changed(&l);
         garbage_plan();
         refusals_met += plan_of(&g, &p) < 0;
@@ -818,8 +884,8 @@ int main(int argc, char **argv)
         if (l.rank > 0)
             mark_of(&l, below(l.operands));
     }
-    printf("%llu rounds: %" PRIu64 " blocks, %" PRIu64 " cells, %" PRIu64 " windows, %" PRIu64 " refusals, %" PRIu64
-           " of them of records\n",
-           rounds, blocks_met, cells_met, windows_met, refusals_met + records_refused, records_refused);
+    printf("%llu rounds: %" PRIu64 " blocks, %" PRIu64 " cells, %" PRIu64 " windows, %" PRIu64 " judged lists, %" PRIu64
+           " refusals, %" PRIu64 " of them of records\n",
+           rounds, blocks_met, cells_met, windows_met, lists_judged, refusals_met + records_refused, records_refused);
     return 0;
 }

@@ -122,6 +122,12 @@ class Refusals(unittest.TestCase):
             (15, g.window, one, (0, 0), (1,), (1,)),
             (15, g.window, one, (0,), (1,), (0,)),
             (15, g.window, one, (4,), (3,), (-3,)),
+            (1, g.judge, (1,) * 65, ""),
+            (5, g.judge, (2**32, 2**32), ""),
+            (13, g.judge, (65_537,), "x"),
+            (23, g.judge, (), ""),
+            (23, g.judge, (5,), "V,0,0,0\n"),
+            (23, g.judge, (5,), "V,0,1,0"),
             (24, g.plan_layout, one, g.Machine(48, 32_768, 4_080, 6)),
         ):
             with self.subTest(number=number, call=call.__name__):
@@ -205,6 +211,32 @@ class Windows(unittest.TestCase):
         both = g.window(told, (2, 1), (2, 2), (6, 6))
         self.assertEqual(inner.layout, both.layout)
         self.assertEqual(inner.starts(outer.shifts), both.shifts)
+
+
+class Judging(unittest.TestCase):
+    def test_verdicts(self):
+        for text, verdict, marks in (
+            ("V,0,3,0,1\nV,0,3,0,0\n", "accepted", [1, 1, 1, 1, 1, 1]),
+            ("V,1,2,1,0\n", "short", [0, 1, 0, 0, 1, 0]),
+            ("V,0,3,0,0\nV,1,2,1,0\n", "double", [1, 1, 1, 0, 1, 0]),
+            ("V,0,3,0,0\nV,0,2,2,1\n", "outside", [0] * 6),
+            (b"", "short", [0] * 6),
+        ):
+            told = g.judge((3, 2), text)
+            self.assertEqual((told.verdict, list(told.marks)), (verdict, marks))
+        self.assertEqual(g.judge((3, 2), "V,1,2,0,0\nV,1,2,2,0\n").first_missing((3, 2)), (1, 0))
+        self.assertIsNone(g.judge((3,), "V,0,3,0\n").first_missing((3,)))
+        self.assertEqual(g.judge((3, 0), ""), ("accepted", b""))
+
+    def test_a_walk_of_our_own(self):
+        told = g.Layout((30, 20), (8, 8), ((1, 30), (20, 1)))
+        walk, visits = g.Walk(g.plan_layout(told)), []
+        while block := walk.step():
+            cells = ((block.counters[0] + k, *block.counters[1:]) for k in range(block.length))
+            visits += [g.Visit(0, 1, g.original_index(told, cell)) for cell in cells]
+        self.assertEqual(g.judge((30, 20), g.write_visits(visits)).verdict, "accepted")
+        self.assertEqual(g.judge((30, 20), g.write_visits(visits + visits[:1])).verdict, "double")
+        self.assertEqual(g.judge((30, 20), g.write_visits(visits[1:])).verdict, "short")
 
 
 class Machines(unittest.TestCase):

@@ -104,6 +104,17 @@ static void list(void)
 {
     answer = gougelily_walklist((const uint8_t *)text, strlen(text), (uint8_t *)room, sizeof room);
 }
+/* 64 axes, and a visit that names them all. */
+static void judged(void)
+{
+    static uint64_t ones[64];
+    static uint8_t mark[1];
+    static char visit[8 + 2 * 64] = "V,63,1";
+    for (int i = 0; i < 64; i++)
+        ones[i] = 1, memcpy(visit + 6 + 2 * i, ",0", 2);
+    visit[6 + 2 * 64] = '\n';
+    answer = gougelily_judge(ones, 64, (const uint8_t *)visit, 7 + 2 * 64, mark, 1);
+}
 static void many(void)
 {
     answer = gougelily_step_many(plan.rank, plan.operands, plan.extents, plan.blocks, plan.strides, &walk.ended,
@@ -182,6 +193,7 @@ int main(void)
         {"gougelily_step_many", many},
         {"gougelily_repeat_mark", mark},
         {"gougelily_walklist", list},
+        {"gougelily_judge", judged},
     };
     int status = 0;
 

@@ -173,6 +173,14 @@ mod library {
             strides: *const i64,
             stride_count: usize,
         ) -> i64;
+        pub fn gougelily_judge(
+            extents: *const u64,
+            rank: usize,
+            text: *const u8,
+            text_length: usize,
+            marks: *mut u8,
+            mark_count: usize,
+        ) -> i64;
     }
 }
 
@@ -345,6 +353,18 @@ faces! {
     /// The listing of a layout's text: its length.
     pub fn walklist(text: &[u8], room: &mut [u8]) -> i64 {
         library::gougelily_walklist(text.as_ptr(), text.len(), room.as_mut_ptr(), room.len())
+    }
+
+    /// The verdict on a list of visits: 0 accepted, 1 short, 2 double, 3 outside.
+    pub fn judge(extents: &[u64], text: &[u8], marks: &mut [u8]) -> i64 {
+        library::gougelily_judge(
+            extents.as_ptr(),
+            extents.len(),
+            text.as_ptr(),
+            text.len(),
+            marks.as_mut_ptr(),
+            marks.len(),
+        )
     }
 
     /// The repeat mark of an operand: 0 for no, 1 for yes, 2 for undecided.
