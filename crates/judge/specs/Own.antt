@@ -147,7 +147,7 @@ text-accepted es xs marks h r1 r2 t e j d =
 -- ---- the walk
 
 -- the original indices told at the places of a step, in order: none at a step that hands out no block
-abbrev toldBy : Outcome → List (List ℕ) → List (List ℕ)
+abbrev pub toldBy : Outcome → List (List ℕ) → List (List ℕ)
 toldBy Block l = l
 toldBy Ended l = []
 toldBy (Rejected r) l = []
@@ -169,7 +169,7 @@ module _ (es sizes : List ℕ) (ss : List ℤ) (u : Purpose) (p : Plan) (steps :
   told-block (Rejected r) l k x e = let z : _≡_ {A = ℕ} 0 1 = cc e in absurd (omega arith)
 
   -- an element of the first m is one of all, and its number is below m
-  taken : (l : List Stepped) (m i : ℕ) (s : Stepped) → nth (take m l) i ≡ some s → (i < m) × (nth l i ≡ some s)
+  pub taken : (l : List Stepped) (m i : ℕ) (s : Stepped) → nth (take m l) i ≡ some s → (i < m) × (nth l i ≡ some s)
   taken l zero i s e = let z : _≡_ {A = ℕ} 0 1 = cc e in absurd (omega arith)
   taken [] (suc m) i s e = let z : _≡_ {A = ℕ} 0 1 = cc e in absurd (omega arith)
   taken (a ∷ l) (suc m) zero s e = (omega arith, e)

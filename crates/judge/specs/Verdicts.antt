@@ -94,7 +94,7 @@ once-lies : (vs : List Visit) (x : List ℕ) → LiesOnce vs x → count x (met 
 once-lies vs x o =
     once-stands cells x vs (o .0) (o .1) (lies-stands vs (o .0) (o .1) x (o .2)) (λ j l s. o .3 j l (stands-lies vs j l x s))
 
-lies-once : (vs : List Visit) (x : List ℕ) → 0 < count x (met vs) → count x (met vs) ≤ 1 → LiesOnce vs x
+pub lies-once : (vs : List Visit) (x : List ℕ) → 0 < count x (met vs) → count x (met vs) ≤ 1 → LiesOnce vs x
 lies-once vs x h c =
     let w = counted-stands cells x vs h in
     (w .0, w .1, stands-lies vs (w .0) (w .1) x (w .2), λ j l s. stands-once cells x vs j l (w .0) (w .1) c (lies-stands vs j l x s) (w .2))
