@@ -47,6 +47,13 @@ pub fn number(refusal: Refusal) -> u64
         Refusal::TextTotal => 13,
         Refusal::Room => 14,
         Refusal::Window => 15,
+        Refusal::CopySizes => 16,
+        Refusal::Buffer => 17,
+        Refusal::Repeats => 18,
+        Refusal::ByteStrides => 19,
+        Refusal::Ninth => 20,
+        Refusal::Leaving => 21,
+        Refusal::Slice => 22,
         Refusal::Visits => 23,
         Refusal::Record => 24,
     }

@@ -12,7 +12,7 @@ use lib.ListN.{length, getD}
 use Rattle.strided.specs.declared.Machine.{Machine}
 use Rattle.strided.specs.declared.Purpose.{Purpose}
 use Rattle.strided.specs.declared.Refusal.{Refusal}
-use Rattle.strided.specs.declared.Refusal.the-variants.{Rank, Operands, StrideCount, Chosen, Total, Reach, StartCount, Offsets, State, Index, Form, TextTotal, Room, Window, Visits, Record}
+use Rattle.strided.specs.declared.Refusal.the-variants.{Rank, Operands, StrideCount, Chosen, Total, Reach, StartCount, Offsets, State, Index, Form, TextTotal, Room, Window, CopySizes, Buffer, Repeats, ByteStrides, Ninth, Leaving, Slice, Visits, Record}
 use Rattle.strided.specs.declared.Answer.{Answer}
 use Rattle.strided.specs.declared.Answer.the-variants.{Served, Refused}
 use Rattle.strided.specs.Base.{some-of}
@@ -35,6 +35,13 @@ number Form = 12
 number TextTotal = 13
 number Room = 14
 number Window = 15
+number CopySizes = 16
+number Buffer = 17
+number Repeats = 18
+number ByteStrides = 19
+number Ninth = 20
+number Leaving = 21
+number Slice = 22
 number Visits = 23
 number Record = 24
 

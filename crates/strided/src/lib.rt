@@ -22,7 +22,7 @@ pub struct Machine {
     pub live: u64,
 }
 
-// The rows of the refusal table, 1 to 15 in this order but for 7, which is given no longer, then 23 and 24. specs/Refusals has their numbers.
+// The rows of the refusal table, 1 to 24 in this order but for 7, which is given no longer. specs/Refusals has their numbers.
 pub enum Refusal {
     Rank,
     Operands,
@@ -38,6 +38,13 @@ pub enum Refusal {
     TextTotal,
     Room,
     Window,
+    CopySizes,
+    Buffer,
+    Repeats,
+    ByteStrides,
+    Ninth,
+    Leaving,
+    Slice,
     Visits,
     Record,
 }

@@ -17,7 +17,7 @@ use Rattle.strided.specs.Plan.{planFrom, noPlan, plannedOr, planned}
 use Rattle.strided.specs.declared.Machine.{Machine}
 use Rattle.strided.specs.declared.Purpose.{Purpose}
 use Rattle.strided.specs.declared.Refusal.{Refusal}
-use Rattle.strided.specs.declared.Refusal.the-variants.{Rank, Operands, StrideCount, Chosen, Total, Reach, StartCount, Offsets, State, Index, Form, TextTotal, Room, Window, Visits, Record}
+use Rattle.strided.specs.declared.Refusal.the-variants.{Rank, Operands, StrideCount, Chosen, Total, Reach, StartCount, Offsets, State, Index, Form, TextTotal, Room, Window, CopySizes, Buffer, Repeats, ByteStrides, Ninth, Leaving, Slice, Visits, Record}
 use Rattle.strided.specs.declared.Answer.{Answer}
 use Rattle.strided.specs.declared.Answer.the-variants.{Served, Refused}
 use Rattle.strided.specs.declared.Plan.{Plan}
@@ -69,6 +69,13 @@ no-seven Form h = absurd (omega arith)
 no-seven TextTotal h = absurd (omega arith)
 no-seven Room h = absurd (omega arith)
 no-seven Window h = absurd (omega arith)
+no-seven CopySizes h = absurd (omega arith)
+no-seven Buffer h = absurd (omega arith)
+no-seven Repeats h = absurd (omega arith)
+no-seven ByteStrides h = absurd (omega arith)
+no-seven Ninth h = absurd (omega arith)
+no-seven Leaving h = absurd (omega arith)
+no-seven Slice h = absurd (omega arith)
 no-seven Visits h = absurd (omega arith)
 no-seven Record h = absurd (omega arith)
 

@@ -14,7 +14,7 @@ use Rattle.strided.specs.Base.{first}
 use Rattle.strided.specs.Refusals.{Row, refusedBy, number, negated}
 use Rattle.strided.specs.Text.{Parsed, InForm, NotInForm, Listing, Lists, layoutRowsOf, printedOf, row13, row14, textRefused, listingOr, listed}
 use Rattle.strided.specs.declared.Refusal.{Refusal}
-use Rattle.strided.specs.declared.Refusal.the-variants.{Rank, Operands, StrideCount, Chosen, Total, Reach, StartCount, Offsets, State, Index, Form, TextTotal, Room, Window, Visits, Record}
+use Rattle.strided.specs.declared.Refusal.the-variants.{Rank, Operands, StrideCount, Chosen, Total, Reach, StartCount, Offsets, State, Index, Form, TextTotal, Room, Window, CopySizes, Buffer, Repeats, ByteStrides, Ninth, Leaving, Slice, Visits, Record}
 
 -- no refusal has the number 0
 pub number-above : (r : Refusal) → (k : ℕ) × (number r ≡ suc k)
@@ -32,6 +32,13 @@ number-above Form = (11, refl)
 number-above TextTotal = (12, refl)
 number-above Room = (13, refl)
 number-above Window = (14, refl)
+number-above CopySizes = (15, refl)
+number-above Buffer = (16, refl)
+number-above Repeats = (17, refl)
+number-above ByteStrides = (18, refl)
+number-above Ninth = (19, refl)
+number-above Leaving = (20, refl)
+number-above Slice = (21, refl)
 number-above Visits = (22, refl)
 number-above Record = (23, refl)
 
