@@ -3,3 +3,4 @@ pub mod Totals
 pub mod Caps
 pub mod Tests
 pub mod Table
+pub mod Nearness

@@ -3,8 +3,8 @@ use mathlib.Core.Path.{_≡_, refl, sym, ap, _∙_}
 use mathlib.Core.Bool.{Bool, true, false, not, _&&_, _||_}
 use mathlib.Core.List.{List, _∷_}
 use mathlib.Core.Option.{none}
-use Prim.Native.Nat.{ℕ, _*_, _%_}
-use native.Mathlib.Nat.{mul-comm}
+use Prim.Native.Nat.{ℕ, _*_, _%_, _≤_}
+use native.Mathlib.Nat.{mul-comm, mul-le-mul-right}
 use native.Mathlib.Omega.{arith}
 use lib.Dec.{leb, eqb}
 use lib.IntN.{ℤ}
@@ -19,7 +19,7 @@ use Rattle.strided.specs.declared.Refusal.the-variants.{Record}
 use Rattle.strided.specs.declared.Answer.{Answer}
 use Rattle.strided.specs.declared.Answer.the-variants.{Refused}
 use Rattle.laws.specs.Base.Refusals.{NoneApplies, none-applies}
-use Rattle.laws.specs.Refusals.Rows.{Past, rows-refuse, rows-pass, refused-some}
+use Rattle.laws.specs.Refusals.Rows.{Past, rows-refuse, rows-pass, refused-some, few-axes, few-operands}
 use Rattle.layout.specs.Laid.{Laid}
 
 -- the first n of rows 1 to 4 do not apply
@@ -37,6 +37,16 @@ rows-laid es operands ss is h =
 pub counts-laid : (es sizes : List ℕ) (ss : List ℤ) (u : Purpose) → refusedBy (countRows es sizes ss u) ≡ none → Laid es ss (length es) (length sizes)
 unfolding NoneApplies
 counts-laid es sizes ss u h = rows-laid es (length sizes) ss refl (none-applies (countRows es sizes ss u) h .1 .1 .0)
+
+pub counts-few : (es sizes : List ℕ) (ss : List ℤ) (u : Purpose) → refusedBy (countRows es sizes ss u) ≡ none → (length es ≤ 64) × (length ss ≤ 512)
+unfolding NoneApplies
+counts-few es sizes ss u h =
+    let n = none-applies (countRows es sizes ss u) h in
+    let a : length es ≤ 64 = few-axes (length es) refl (n .0) in
+    let b : length sizes ≤ 8 = few-operands (length sizes) refl (n .1 .0) in
+    let e : length ss ≡ length es * length sizes = eqb-true (length ss) (length es * length sizes) (not-false (eqb (length ss) (length es * length sizes)) (n .1 .1 .0)) in
+    let p : length es * length sizes ≤ 64 * length sizes = mul-le-mul-right (length sizes) a in
+    (a, omega arith)
 
 -- ---- row 24
 

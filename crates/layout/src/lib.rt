@@ -1,6 +1,7 @@
 // What a layout is refused for: rows 1 to 6 of the refusal table, with 24 among them where it is to be planned. Beside it what all later
 // crates read off a layout: the size of a stride, the total, the reach, the lead, the purpose, and the number of a refusal.
 ghost use mathlib.Core.Path.{_≡_};
+ghost use Prim.Native.Nat.{_≤_};
 ghost use Rattle.strided.specs.Layout.{lead};
 ghost use Rattle.strided.specs.Refusals.{number, negated, refusedBy, answered, countRows, spanRows, layoutRefused, planningRefused};
 ghost use Rattle.strided.specs.Memory.{purposeOf};
@@ -11,6 +12,7 @@ use strided::Machine;
 use strided::Purpose;
 use strided::Refusal;
 
+mod near;
 pub mod rows;
 pub mod sizes;
 
@@ -119,12 +121,16 @@ pub fn check_counts<'a>(
 // Rows 5 and 6. Row 6 reads the strides that row 3 counted.
 fn check_spans<'a>(extents: &'a [u64], sizes: &'a [u64], strides: &'a [i64]) -> Answer
     requires { ⌜ Laid (now extents) (now strides) (length (now extents)) (length (now sizes)) ⌝ }
+    requires { ⌜ (length (now extents) ≤ 64) × (length (now strides) ≤ 512) ⌝ }
     ensures { λ r. ⌜ r ≡ answered (refusedBy (spanRows (now (extents .entry)) (now (sizes .entry)) (now (strides .entry)))) ⌝ }
 {
     let rank = extents.len();
     let operands = sizes.len();
     if total_over(extents) {
         return Answer::Refused(Refusal::Total);
+    }
+    if near::small_layout(extents, strides) {
+        return Answer::Served;
     }
     if reach_over(extents, strides, rank, operands) {
         return Answer::Refused(Refusal::Reach);

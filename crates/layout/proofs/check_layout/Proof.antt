@@ -4,7 +4,7 @@ use mathlib.Core.Option.{none}
 use borrow.Author.Needs.{needs}
 use Rattle.strided.specs.Refusals.{refusedBy, countRows}
 use Rattle.laws.specs.Refusals.Rows.{served-none}
-use Rattle.layout.proofs.Table.{counts-laid, layout-spans, layout-counts-refuse}
+use Rattle.layout.proofs.Table.{counts-laid, counts-few, layout-spans, layout-counts-refuse}
 use Rattle.layout.proofs.check_layout.Statement.{statement}
 use Rattle.layout.proofs.check_layout.Tie as tie
 
@@ -21,7 +21,7 @@ passed c = served-none _ (sym (c .before .before .check-counts .ensures) ∙ c .
 check-spans-requires : tie.Need-check-spans-requires
 check-spans-requires c κs =
     let a = c .before .before .before .before .before .args in
-    counts-laid (a .extents .now) (a .sizes .now) (a .strides .now) (a .purpose) (passed c)
+    (counts-laid (a .extents .now) (a .sizes .now) (a .strides .now) (a .purpose) (passed c), counts-few (a .extents .now) (a .sizes .now) (a .strides .now) (a .purpose) (passed c))
 
 enum-known-counts : tie.Need-enum-known-counts
 enum-known-counts c = search needs

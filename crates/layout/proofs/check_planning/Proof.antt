@@ -4,7 +4,7 @@ use mathlib.Core.Option.{none}
 use borrow.Author.Needs.{needs}
 use Rattle.strided.specs.Refusals.{refusedBy, countRows}
 use Rattle.laws.specs.Refusals.Rows.{served-none}
-use Rattle.layout.proofs.Table.{counts-laid, planning-spans, planning-record, planning-counts-refuse}
+use Rattle.layout.proofs.Table.{counts-laid, counts-few, planning-spans, planning-record, planning-counts-refuse}
 use Rattle.layout.proofs.check_planning.Statement.{statement}
 use Rattle.layout.proofs.check_planning.Tie as tie
 
@@ -25,7 +25,7 @@ check-spans-requires : tie.Need-check-spans-requires
 check-spans-requires c κs =
     let t = c .before .before in
     let a = t .before .before .before .before .before .args in
-    counts-laid (a .extents .now) (a .sizes .now) (a .strides .now) (a .purpose) (passed t)
+    (counts-laid (a .extents .now) (a .sizes .now) (a .strides .now) (a .purpose) (passed t), counts-few (a .extents .now) (a .sizes .now) (a .strides .now) (a .purpose) (passed t))
 
 enum-known-counts : tie.Need-enum-known-counts
 enum-known-counts c = search needs
