@@ -1,0 +1,108 @@
+// Ranks of strides whose sizes rise, or fall, from axis to axis: gone through from the smallest up, a stride that is larger than all before
+// it has their count and 1 for its rank. Strides of 0 may stand anywhere; they are not counted, and their rank is 1.
+use layout::magnitude;
+use strided::MAX_RANK;
+ghost use mathlib.Core.Path.{_≡_};
+ghost use mathlib.Core.Bool.{cond};
+ghost use Prim.Native.Nat.{_-_, _≤_, _<_};
+ghost use lib.Dec.{ltb, eqb};
+ghost use lib.ListN.{length, replicate};
+ghost use Rattle.strided.specs.Base.{padded};
+ghost use Rattle.strided.specs.Ranks.{ranks};
+ghost use Rattle.auxiliary.specs.Gaps.{sizeAt};
+ghost use Rattle.auxiliary.specs.Climbs.{climbed, rankOn, turnsBack, placeOf};
+
+// How far the climb is: the largest size so far, its rank, and how many strides so far are not 0.
+struct Climb {
+    size: u64,
+    rank: u64,
+    count: u64,
+}
+
+// The climb with one more stride, of a size that is 0 or not below the largest.
+fn climb_on(top: Climb, size: u64) -> Climb
+    requires { ⌜ top .count < 64 ⌝ }
+    ensures { λ r. ⌜ r ≡ climbed top size ⌝ }
+{
+    if size == 0 {
+        return top;
+    }
+    let count = top.count + 1;
+    if top.size < size {
+        return Climb {
+            size,
+            rank: count,
+            count,
+        };
+    }
+    let rank = top.rank;
+    Climb { size, rank, count }
+}
+
+// The rank of the stride that the climb has just come to.
+fn rank_on(top: Climb, size: u64) -> u64
+    ensures { λ r. ⌜ r ≡ rankOn top size ⌝ }
+{
+    if size == 0 {
+        return 1;
+    }
+    top.rank
+}
+
+// Whether a stride is not 0 and smaller than one before it.
+fn turns_back(top: Climb, size: u64) -> bool
+    ensures { λ r. ⌜ r ≡ turnsBack top size ⌝ }
+{
+    if size == 0 {
+        return false;
+    }
+    size < top.size
+}
+
+// The axis that a climb comes to at a turn: from the first on, or from the last on.
+fn place(axes: usize, turn: usize, falling: bool) -> usize
+    requires { ⌜ turn < axes ⌝ }
+    ensures { λ r. ⌜ (r ≡ placeOf falling axes turn) × (r < axes) ⌝ }
+{
+    if falling { axes - 1 - turn } else { turn }
+}
+
+// Whether the first stride is larger than the last.
+pub fn falls(strides: &[i64]) -> bool
+    ensures { λ r. ⌜ r ≡ ltb (sizeAt (now (strides .entry)) (length (now (strides .entry)) - 1)) (sizeAt (now (strides .entry)) 0) ⌝ }
+{
+    let axes = strides.len();
+    if axes == 0 {
+        return false;
+    }
+    let first = magnitude(strides[0]);
+    let last = magnitude(strides[axes - 1]);
+    last < first
+}
+
+// The ranks of strides that rise, or fall, written into a row of zeros. Where they do neither it answers false, and the row is 0 again.
+pub fn climbing_into(strides: &[i64], falling: bool, order: &mut [u8; 64]) -> bool
+    requires { ⌜ length (now strides) ≤ 64 ⌝ }
+    requires { ⌜ now order ≡ replicate 64 0 ⌝ }
+    ensures { λ r. ⌜ now (order .exit) ≡ cond r (padded 64 0 (ranks (now (strides .entry)))) (replicate 64 0) ⌝ }
+{
+    let axes = strides.len();
+    let mut top = Climb {
+        size: 0,
+        rank: 1,
+        count: 0,
+    };
+    let mut turn: usize = 0;
+    while turn < axes {
+        let axis = place(axes, turn, falling);
+        let size = magnitude(strides[axis]);
+        if turns_back(top, size) {
+            *order = [0u8; MAX_RANK];
+            return false;
+        }
+        top = climb_on(top, size);
+        order[axis] = rank_on(top, size) as u8;
+        turn += 1;
+    }
+    true
+}
