@@ -1,4 +1,4 @@
 pub mod Fitting
 pub mod Gaps
 pub mod Climbs
-pub mod Rows
+pub mod Moving
