@@ -59,7 +59,8 @@ pub fn read_u64(s: &[u8], at: usize) -> Number
     Number::Bad
 }
 
-fn negative(n: u64) -> i64
+// The number below 0 of this size, and the one from 0 on.
+pub fn negative(n: u64) -> i64
     requires { ⌜ 0 < n ⌝ }
     requires { ⌜ n ≤ 2 ^ 63 ⌝ }
     ensures { λ r. ⌜ r ≡ negsuc (n - 1) ⌝ }
@@ -67,7 +68,7 @@ fn negative(n: u64) -> i64
     -1 - ((n - 1) as i64)
 }
 
-fn positive(n: u64) -> i64
+pub fn positive(n: u64) -> i64
     requires { ⌜ n < 2 ^ 63 ⌝ }
     ensures { λ r. ⌜ r ≡ pos n ⌝ }
 {

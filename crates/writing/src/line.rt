@@ -1,6 +1,7 @@
-// Lines of fields, measured and written: a letter, numbers, signed numbers, LF. The lines K, A, B, Z and R are such lines.
+// Lines of fields, measured and written: a letter, numbers, signed numbers, LF. The lines K, A, B, Z and R are such lines, and so are those of
+// other crates: N, S and T.
 ghost use mathlib.Core.Path.{_≡_};
-ghost use Prim.Native.Nat.{_+_, _≤_};
+ghost use Prim.Native.Nat.{_+_, _*_, _≤_};
 ghost use lib.ListN.{length};
 ghost use Rattle.strided.specs.Base.{over};
 ghost use Rattle.strided.specs.Text.{field, signedField, lineOf, rankLine, axisLine, blockLine};
@@ -13,9 +14,9 @@ use super::number::put_u64;
 use super::number::u64_len;
 
 // How many bytes a field for each number takes.
-fn numbers_len(numbers: &[u64]) -> usize
-    requires { ⌜ length (now numbers) ≤ 3 ⌝ }
-    ensures { λ r. ⌜ (r ≡ length (over (now (numbers .entry)) field)) × (r ≤ 63) ⌝ }
+pub fn numbers_len(numbers: &[u64]) -> usize
+    requires { ⌜ length (now numbers) ≤ 64 ⌝ }
+    ensures { λ r. ⌜ (r ≡ length (over (now (numbers .entry)) field)) × (r ≤ 21 * length (now (numbers .entry))) ⌝ }
 {
     let mut k: usize = 0;
     let mut i: usize = 0;
@@ -27,9 +28,9 @@ fn numbers_len(numbers: &[u64]) -> usize
 }
 
 // The same for signed numbers.
-fn signed_len(numbers: &[i64]) -> usize
-    requires { ⌜ length (now numbers) ≤ 8 ⌝ }
-    ensures { λ r. ⌜ (r ≡ length (over (now (numbers .entry)) signedField)) × (r ≤ 168) ⌝ }
+pub fn signed_len(numbers: &[i64]) -> usize
+    requires { ⌜ length (now numbers) ≤ 64 ⌝ }
+    ensures { λ r. ⌜ (r ≡ length (over (now (numbers .entry)) signedField)) × (r ≤ 21 * length (now (numbers .entry))) ⌝ }
 {
     let mut k: usize = 0;
     let mut i: usize = 0;
@@ -93,7 +94,7 @@ fn line_len<'a>(numbers: &'a [u64], signed: &'a [i64]) -> usize
 }
 
 // Writes the line.
-fn put_line<'a>(
+pub fn put_line<'a>(
     out: &mut [u8],
     at: usize,
     letter: u8,
