@@ -70,14 +70,16 @@ extern "C" {
 
 /*
  * Why a call is refused. Of several reasons the least number is answered, but
- * that of a text 12 comes first, and that 24 follows 4. Total is the product of
+ * that of a text 12 comes first, then 19, and that 24 follows 4. Total is the product of
  * the extents, reach the sum over the axes of (extent - 1) * size of the stride.
  * If an extent is 0, the rows 6 and 9 pass. 7 is given no longer. A window is
  * refused with 15 if a list has not one entry per axis, a step is 0, an index
  * lies outside its axis, a count is 0 and its first above the extent, or a new
  * stride is outside 64-bit signed. Judging gives 23 for a rank of 0, a line that
  * is not in the V form, a length of 0, an axis that is not there, or a mark
- * buffer of another length.
+ * buffer of another length. NumPy's descriptions give 19, after 12 and before
+ * all others, for a size of 0, a byte stride that is no multiple of the size, or
+ * a computed one outside 64-bit signed.
  *
  * The numbers here are positive, and a refused call answers them negated:
  * compare gougelily_refused(answer) with them, not the answer.
@@ -97,6 +99,7 @@ extern "C" {
     ROW(GOUGELILY_TEXT_TOTAL, 13, "more than 1,048,576 cells in a text, or 65,536 in judging")       \
     ROW(GOUGELILY_ROOM, 14, "the output is longer than the room lent for it")                        \
     ROW(GOUGELILY_WINDOW, 15, "a window's list, step, index or new stride is wrong")                 \
+    ROW(GOUGELILY_BYTE_STRIDES, 19, "size 0, or a byte stride that is no multiple of it or too large")\
     ROW(GOUGELILY_VISITS, 23, "visits not in the form, rank 0, or a mark buffer of another length")  \
     ROW(GOUGELILY_RECORD, 24, "the machine record is outside its bounds")
 
@@ -383,6 +386,33 @@ typedef enum gougelily_verdict_t {
  */
 int64_t gougelily_judge(const uint64_t *extents, size_t extent_count, const uint8_t *text, size_t text_len,
                         uint8_t *marks, size_t mark_count);
+
+/*
+ * What a description of an array says, in the words of the NumPy array interface
+ * (a.__array_interface__), as text: our extents and element strides.
+ *
+ * Takes the text, at most 16,384 bytes: a line N,size,rank with the size of an
+ * element in bytes, a line S,shape, and perhaps a line T,byte strides. At rank 0
+ * S and T stand alone on their lines. Without T the array is packed: an axis's
+ * byte stride is the size times the extents after it.
+ * Answers 0, the size, the rank, and extents and strides with the axes reversed:
+ * NumPy's last axis is our axis 0. The strides are in elements.
+ * Refuses 12, 19, 1, in this order; a text may tell a rank above 64.
+ */
+int64_t gougelily_from_numpy(const uint8_t *text, size_t text_len, uint64_t size[1], size_t rank[1],
+                             uint64_t extents[GOUGELILY_MAX_RANK], int64_t strides[GOUGELILY_MAX_RANK]);
+
+/*
+ * The description of one operand as text, always with its T line: the way back.
+ * What gougelily_from_numpy makes of a text with its T line gives that text
+ * again, and what it makes of this text are the numbers again.
+ *
+ * Answers the text's length. It stands at the front of the room, and bytes
+ * behind it are as they were. 2,720 bytes have room for any.
+ * Refuses 19, 1, 3, 14, in this order; 19 on every stride handed over.
+ */
+int64_t gougelily_to_numpy(uint64_t size, const uint64_t *extents, size_t extent_count, const int64_t *strides,
+                           size_t stride_count, uint8_t *room, size_t room_len);
 
 /* The version of the library that the program runs with, as GOUGELILY_VERSION has it: 1.2.3 is 1,002,003. */
 int64_t gougelily_version(void);

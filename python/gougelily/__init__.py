@@ -17,6 +17,7 @@ A,1,3,3,2,1
 and the sentence. `python3 -m gougelily` explains a layout's plan in the terminal.
 """
 
+from .descriptions import Described, describe, from_numpy, to_numpy
 from .judging import VERDICTS, Judgement, Visit, judge, write_visits
 from .layout import Layout, repeat_mark
 from .library import version
@@ -33,6 +34,7 @@ __all__ = [
     "REFUSALS",
     "VERDICTS",
     "Block",
+    "Described",
     "Judgement",
     "Layout",
     "Machine",
@@ -45,6 +47,8 @@ __all__ = [
     "Windowed",
     "__version__",
     "blocks",
+    "describe",
+    "from_numpy",
     "judge",
     "machine",
     "original_index",
@@ -54,6 +58,7 @@ __all__ = [
     "read_layout",
     "refusal_text",
     "repeat_mark",
+    "to_numpy",
     "version",
     "walklist",
     "window",

@@ -39,6 +39,8 @@ FUNCTIONS: dict[str, list[Any]] = {
     "gougelily_window": [*LAYOUT[:6], U64S, SIZE, U64S, SIZE, I64S, SIZE, U64S, I64S, I64S],
     "gougelily_repeat_mark": [U64S, SIZE, I64S, SIZE],
     "gougelily_walklist": [BYTES, SIZE, BYTES, SIZE],
+    "gougelily_from_numpy": [BYTES, SIZE, U64S, SIZES, U64S, I64S],
+    "gougelily_to_numpy": [U64, U64S, SIZE, I64S, SIZE, BYTES, SIZE],
     "gougelily_judge": [U64S, SIZE, BYTES, SIZE, BYTES, SIZE],
 }
 

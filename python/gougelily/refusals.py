@@ -27,6 +27,7 @@ REFUSALS = {
     13: Row("more than 1,048,576 cells in a text, or 65,536 in judging", "extent 1,048,577"),
     14: Row("the output is longer than the room lent for it", "8,000 blocks in the 65,536 bytes of walklist"),
     15: Row("a window's list, step, index or new stride is wrong", "a step of 0, index 5 on an axis of extent 5"),
+    19: Row("size 0, or a byte stride that is no multiple of it or too large", "size 8, byte stride 12"),
     23: Row("visits not in the form, rank 0, or a mark buffer of another length", "a length of 0, an axis that is not there"),
     24: Row("the machine record is outside its bounds", "a line of 48 bytes"),
 }
