@@ -8,6 +8,7 @@
  *   original index tells, and the index maps are inverse; many steps in one call
  *   hand out the blocks of single steps; windows have the offsets of their cells;
  * - lists of visits at random, judged;
+ * - descriptions of arrays at random, read and written again;
  * - plans and states at random, whatever they hold: a call ends with an answer.
  * After every call its inputs are as they were, after a refusal its outputs too.
  */
@@ -269,6 +270,42 @@ static int64_t judge_of(const uint64_t *extents, size_t rank, const char *text, 
     return answer;
 }
 
+/* What a description says: the memory handed out is `d`'s. */
+struct described {
+    uint64_t size[1], extents[64];
+    int64_t strides[64];
+    size_t rank[1];
+};
+
+static int64_t described_of(const char *text, struct described *d)
+{
+    const size_t length = strlen(text);
+    const uint8_t *t = lend(text, length);
+    uint64_t *size = lend(d->size, sizeof d->size), *extents = lend(d->extents, sizeof d->extents);
+    int64_t *strides = lend(d->strides, sizeof d->strides);
+    size_t *rank = lend(d->rank, sizeof d->rank);
+    const int64_t answer = gougelily_from_numpy(t, length, size, rank, extents, strides);
+    memcpy(d->size, size, sizeof d->size), memcpy(d->rank, rank, sizeof d->rank);
+    memcpy(d->extents, extents, sizeof d->extents), memcpy(d->strides, strides, sizeof d->strides);
+    CHECK(answer == 0 || answer == -1 || answer == -12 || answer == -19);
+    settle(1, answer >= 0);
+    return answer;
+}
+
+static int64_t description_of(uint64_t size, const uint64_t *extents, size_t rank, const int64_t *strides, size_t count,
+                              char *room, size_t length)
+{
+    const uint64_t *e = lend(extents, rank * 8);
+    const int64_t *s = lend(strides, count * 8);
+    uint8_t *r = lend(room, length);
+    const int64_t answer = gougelily_to_numpy(size, e, rank, s, count, r, length);
+    if (length > 0)
+        memcpy(room, r, length);
+    CHECK(answer <= (int64_t)length && (answer >= -1 || answer == -3 || answer == -14 || answer == -19));
+    settle(2, answer >= 0);
+    return answer;
+}
+
 /* ------------------------------------------------------------ known answers */
 
 static struct layout two(uint64_t e0, uint64_t e1, int64_t a0, int64_t a1, int64_t b0, int64_t b1, uint64_t purpose)
@@ -464,6 +501,39 @@ static void known_judging(void)
     CHECK(gougelily_judge(NULL, 0, NULL, 0, NULL, 0) == -GOUGELILY_VISITS);
 }
 
+static void known_descriptions(void)
+{
+    static const char text[] = "N,8,2\nS,3,4\nT,-32,8\n", behind[] = "N,8,2\nS,3,4\nT,-32,8\n......";
+    struct described d, same;
+    char room[27] = "..........................";
+    memset(&d, 7, sizeof d), memset(&same, 7, sizeof same);
+    CHECK(described_of("N,8,1\nS,3", &d) == -GOUGELILY_FORM);
+    CHECK(described_of("N,8,1\nS,3\nT,8\n\n", &d) == -GOUGELILY_FORM);
+    CHECK(described_of("N,8,1\nS,18446744073709551616\n", &d) == -GOUGELILY_FORM);
+    CHECK(described_of("N,0,0\nS\n", &d) == -GOUGELILY_BYTE_STRIDES);
+    CHECK(described_of("N,8,1\nS,3\nT,12\n", &d) == -GOUGELILY_BYTE_STRIDES);
+    CHECK(described_of("N,1,2\nS,1,9223372036854775808\n", &d) == -GOUGELILY_BYTE_STRIDES);
+    CHECK(memcmp(&d, &same, sizeof d) == 0);
+    CHECK(described_of(text, &d) == 0 && d.size[0] == 8 && d.rank[0] == 2);
+    CHECK(d.extents[0] == 4 && d.extents[1] == 3 && d.strides[0] == 1 && d.strides[1] == -4);
+    for (int i = 2; i < 64; i++)
+        CHECK(d.extents[i] == 0 && d.strides[i] == 0);
+    CHECK(described_of("N,8,2\nS,3,4\n", &d) == 0 && d.strides[0] == 1 && d.strides[1] == 4);
+    CHECK(described_of("N,16,0\nS\nT\n", &d) == 0 && d.rank[0] == 0 && d.extents[0] == 0);
+    const uint64_t extents[65] = {4, 3};
+    const int64_t strides[2] = {1, -4}, far[1] = {INT64_MIN};
+    for (size_t length = 0; length < sizeof text - 1; length++)
+        CHECK(description_of(8, extents, 2, strides, 2, room, length) == -GOUGELILY_ROOM && room[0] == '.');
+    CHECK(description_of(8, extents, 2, strides, 2, room, 26) == (int64_t)sizeof text - 1 && strcmp(room, behind) == 0);
+    CHECK(description_of(0, extents, 65, strides, 2, room, 0) == -GOUGELILY_BYTE_STRIDES);
+    CHECK(description_of(2, extents, 65, far, 1, room, 0) == -GOUGELILY_BYTE_STRIDES);
+    CHECK(description_of(1, extents, 65, far, 1, room, 0) == -GOUGELILY_RANK);
+    CHECK(description_of(1, extents, 2, far, 1, room, 0) == -GOUGELILY_STRIDE_COUNT);
+    CHECK(description_of(1, extents, 1, far, 1, room, 0) == -GOUGELILY_ROOM);
+    CHECK(gougelily_to_numpy(1, NULL, 0, NULL, 0, NULL, 0) == -GOUGELILY_ROOM);
+    CHECK(gougelily_from_numpy(NULL, 0, d.size, d.rank, d.extents, d.strides) == -GOUGELILY_FORM);
+}
+
 /* ------------------------------------------------------------ numbers at random */
 
 static uint64_t state = 1;
@@ -584,7 +654,7 @@ static int machine_allowed(gougelily_machine_t m)
            m.way % m.line == 0 && m.way >= m.line && m.way <= m.cache && m.live >= 1 && m.live <= 16;
 }
 
-static uint64_t cells_met, blocks_met, windows_met, lists_judged, refusals_met, records_refused;
+static uint64_t cells_met, blocks_met, windows_met, lists_judged, descriptions_met, refusals_met, records_refused;
 
 /* "array places behind the counts are 0" */
 static int blank(const void *array, size_t from, size_t to)
@@ -771,6 +841,33 @@ static void any_visits(void)
     lists_judged++;
 }
 
+/* Any numbers as a description, and what it says read again; then with a byte changed. */
+static void any_description(void)
+{
+    struct described d, again;
+    uint64_t sizes[1];
+    char room[2721] = "";
+    const size_t rank = below(8) ? below(5) : below(66), count = below(16) ? rank : below(66);
+    uint64_t extents[66];
+    int64_t strides[66];
+    make_wild(extents, 66), make_wild(strides, 66), make_wild(sizes, 1);
+    for (size_t i = 0; i < count; i++)
+        if (below(8))
+            strides[i] = (int64_t)below(100) - 50;
+    const uint64_t size = below(4) ? 1 + below(16) : sizes[0];
+    memset(&d, 9, sizeof d);
+    const int64_t answer = description_of(size, extents, rank, strides, count, room, below(8) ? sizeof room - 1 : below(40));
+    refusals_met += answer < 0;
+    if (answer < 0)
+        return;
+    room[answer] = '\0';
+    CHECK(described_of(room, &d) == 0 && d.size[0] == size && d.rank[0] == rank);
+    CHECK(memcmp(d.extents, extents, rank * 8) == 0 && memcmp(d.strides, strides, rank * 8) == 0);
+    room[below((uint64_t)answer)] = "NST,-0189\n"[below(10)];
+    refusals_met += described_of(room, &again) < 0;
+    descriptions_met++;
+}
+
 /* ------------------------------------------------------------ plans and states at random */
 
 /* A few steps, whatever plan and state are. */
@@ -865,6 +962,7 @@ int main(int argc, char **argv)
     known_windows();
     known_texts();
     known_judging();
+    known_descriptions();
     for (round_number = 1; round_number <= rounds; round_number++) {
         struct layout l = tame(), g = garbage();
         gougelily_plan_t p = {0};
@@ -874,6 +972,7 @@ int main(int argc, char **argv)
         cut_layout(&l);
         garbage_window(&g);
         any_visits();
+        any_description();
         one_number_changed(&l);
         garbage_plan();
         refusals_met += plan_of(&g, &p) < 0;
@@ -885,7 +984,7 @@ int main(int argc, char **argv)
             mark_of(&l, below(l.operands));
     }
     printf("%llu rounds: %" PRIu64 " blocks, %" PRIu64 " cells, %" PRIu64 " windows, %" PRIu64 " judged lists, %" PRIu64
-           " refusals, %" PRIu64 " of them of records\n",
-           rounds, blocks_met, cells_met, windows_met, lists_judged, refusals_met + records_refused, records_refused);
+           " descriptions, %" PRIu64 " refusals, %" PRIu64 " of them of records\n",
+           rounds, blocks_met, cells_met, windows_met, lists_judged, descriptions_met, refusals_met + records_refused, records_refused);
     return 0;
 }

@@ -128,6 +128,12 @@ class Refusals(unittest.TestCase):
             (23, g.judge, (), ""),
             (23, g.judge, (5,), "V,0,0,0\n"),
             (23, g.judge, (5,), "V,0,1,0"),
+            (12, g.from_numpy, "N,8,1\nS,3"),
+            (19, g.from_numpy, "N,8,1\nS,3\nT,12\n"),
+            (1, g.from_numpy, f"N,8,65\nS{',1' * 65}\n"),
+            (19, g.to_numpy, 2, (1,) * 65, (2**62,)),
+            (1, g.to_numpy, 2, (1,) * 65, (1,)),
+            (3, g.to_numpy, 2, (1,), ()),
             (24, g.plan_layout, one, g.Machine(48, 32_768, 4_080, 6)),
         ):
             with self.subTest(number=number, call=call.__name__):
@@ -211,6 +217,31 @@ class Windows(unittest.TestCase):
         both = g.window(told, (2, 1), (2, 2), (6, 6))
         self.assertEqual(inner.layout, both.layout)
         self.assertEqual(inner.starts(outer.shifts), both.shifts)
+
+
+class Descriptions(unittest.TestCase):
+    def test_both_ways(self):
+        for text, due in (
+            ("N,8,2\nS,3,4\nT,32,8\n", (8, (4, 3), (1, 4))),
+            ("N,4,3\nS,2,0,3\nT,0,-12,4\n", (4, (3, 0, 2), (1, -3, 0))),
+            ("N,16,0\nS\nT\n", (16, (), ())),
+            (f"N,{2**63},64\nS{f',{2**64 - 1}' * 64}\nT{f',-{2**63}' * 64}\n", (2**63, (2**64 - 1,) * 64, (-1,) * 64)),
+        ):
+            self.assertEqual(g.from_numpy(text), due)
+            self.assertEqual(g.to_numpy(*due), text)
+        self.assertEqual(g.from_numpy(b"N,4,3\nS,2,0,3\n"), (4, (3, 0, 2), (1, 3, 0)))
+        for given in ((2**64, (), ()), (-1, (), ()), (1, (-1,), (1,)), (1, (1,), (2**63,))):
+            with self.assertRaises(OverflowError):
+                g.to_numpy(*given)
+
+    def test_what_an_array_tells(self):
+        class Array:
+            def __init__(self, **told):
+                self.__array_interface__ = told
+
+        self.assertEqual(g.describe(Array(shape=(3, 4), typestr="<f8", strides=(-32, 8))), "N,8,2\nS,3,4\nT,-32,8\n")
+        self.assertEqual(g.describe(Array(shape=(3,), typestr="<U5")), "N,20,1\nS,3\n")
+        self.assertEqual(g.describe(Array(shape=(), typestr="|V12", strides=())), "N,12,0\nS\nT\n")
 
 
 class Judging(unittest.TestCase):

@@ -115,6 +115,28 @@ static void judged(void)
     visit[6 + 2 * 64] = '\n';
     answer = gougelily_judge(ones, 64, (const uint8_t *)visit, 7 + 2 * 64, mark, 1);
 }
+/* 64 axes, read and written again. */
+static void described(void)
+{
+    static char view[16 + 4 * 64] = "N,8,64\nS";
+    static uint64_t size[1], axes[64];
+    static int64_t steps[64];
+    static size_t count[1];
+    char *at = view + 8;
+    for (int i = 0; i < 64; i++, at += 2)
+        memcpy(at, ",1", 2);
+    memcpy(at, "\nT", 2), at += 2;
+    for (int i = 0; i < 64; i++, at += 2)
+        memcpy(at, ",8", 2);
+    *at++ = '\n';
+    answer = gougelily_from_numpy((const uint8_t *)view, (size_t)(at - view), size, count, axes, steps);
+}
+static void description(void)
+{
+    static uint64_t axes[64];
+    static int64_t steps[64];
+    answer = gougelily_to_numpy(8, axes, 64, steps, 64, (uint8_t *)room, sizeof room);
+}
 static void many(void)
 {
     answer = gougelily_step_many(plan.rank, plan.operands, plan.extents, plan.blocks, plan.strides, &walk.ended,
@@ -194,6 +216,8 @@ int main(void)
         {"gougelily_repeat_mark", mark},
         {"gougelily_walklist", list},
         {"gougelily_judge", judged},
+        {"gougelily_from_numpy", described},
+        {"gougelily_to_numpy", description},
     };
     int status = 0;
 
