@@ -1,12 +1,12 @@
 -- A loop that reads the numbers of a row one by one, over the kind of element, and keeps what it has made of them: `Reading` says of any row
 -- that stands there that the rest of it stands at p, and that P holds of those read.
 -- Assumes nothing.
-use mathlib.Core.Path.{_≡_, refl, sym, ap, _∙_, subst}
+use mathlib.Core.Path.{_≡_, sym, ap, _∙_, subst}
 use mathlib.Core.List.{List, [], _∷_, _++_}
-use Prim.Native.Nat.{ℕ, zero, suc, _+_, _≤_, _<_}
+use Prim.Native.Nat.{ℕ, _+_, _≤_, _<_}
 use native.Mathlib.Numerals.{add-one}
 use native.Mathlib.Omega.{arith}
-use lib.ListN.{length, getD, take, drop, length-drop}
+use lib.ListN.{length, getD, take, drop}
 use lib.Seq.{drop-cons, take-suc, take-all}
 use Rattle.strided.specs.Base.{over}
 use Rattle.laws.specs.Text.Once.{Once, celled, cell-once, row-stops, row-cons}

@@ -1,20 +1,19 @@
 -- The rows of both ways, taken apart as the code checks them, and the numbers that are told where none applies.
 -- Assumes nothing.
-use mathlib.Core.Path.{_≡_, refl, sym, ap, ap₂, _∙_}
+use mathlib.Core.Path.{_≡_, refl, sym, ap, _∙_}
 use mathlib.Core.Logic.{inl, inr}
 use mathlib.Core.Bool.{Bool, true, false, _||_}
-use mathlib.Core.List.{List, [], _∷_, _++_, map}
-use mathlib.Core.Option.{none, some}
-use Prim.Native.Nat.{ℕ, suc, _+_, _-_, _*_, _^_, _≤_, _<_}
-use native.Mathlib.Nat.{one-mul, mul-le-mul-right, mul-one}
+use mathlib.Core.List.{List, [], _∷_, map}
+use Prim.Native.Nat.{ℕ, suc, _-_, _*_, _^_, _≤_, _<_}
+use native.Mathlib.Nat.{mul-le-mul-right, mul-one}
 use native.Mathlib.Omega.{arith}
 use lib.Dec.{ltb, eqb}
 use lib.IntN.{ℤ, pos}
 use lib.ListN.{length, getD, take, replicate, length-map, length-replicate}
 use lib.Seq.{take-at, sets}
-use borrow.Author.Tests.{ltb-true, ltb-false, eqb-true, eqb-false, not-false}
+use borrow.Author.Tests.{ltb-true, eqb-true, eqb-false, not-false}
 use Rattle.strided.specs.Base.{padded}
-use Rattle.strided.specs.Layout.{total, inI64}
+use Rattle.strided.specs.Layout.{total}
 use Rattle.strided.specs.Refusals.{row1, row3, refusedBy}
 use Rattle.strided.specs.Text as T
 use Rattle.strided.specs.declared.Answer.the-variants.{Served}
@@ -23,11 +22,11 @@ use Rattle.laws.specs.Base.Filling.{padded-is}
 use Rattle.laws.specs.Base.Tests.{or-none}
 use Rattle.reading.specs.Laid.{take-laid}
 use Rattle.numpy.specs.Descriptions.{Description, InForm, NotInForm}
-use Rattle.numpy.specs.Numpy.{reversed, anyOf, afters, packed, elementStride, byteStride, extentsOf, stridesOf, noMultiple, tooFar, strideOut, row19, backRow19, refusing, telling, described, FromNumpy, toNumpy}
+use Rattle.numpy.specs.Numpy.{reversed, anyOf, afters, packed, byteStride, extentsOf, stridesOf, tooFar, row19, backRow19, refusing, telling, described, FromNumpy, toNumpy}
 use Rattle.numpy.specs.Once.{in-form-once}
-use Rattle.numpy.specs.Readers.{saying, spelled}
-use Rattle.numpy.specs.Reversing.{length-reversed, getD-reversed, reversed-map, any-at}
-use Rattle.numpy.specs.Units.{firsts, length-firsts, firsts-at, reversed-afters, packed-elements, Near}
+use Rattle.numpy.specs.Readers.{spelled}
+use Rattle.numpy.specs.Reversing.{length-reversed, getD-reversed, any-at}
+use Rattle.numpy.specs.Units.{firsts-at, reversed-afters, Near}
 use Rattle.numpy.specs.declared.Described.{Described}
 use Rattle.numpy.proofs.Fills.{map-at}
 

@@ -8,10 +8,10 @@ use native.Mathlib.Omega.{arith}
 use lib.IntN.{ℤ}
 use Rattle.strided.specs.Base.{over}
 use Rattle.strided.specs.Digits.{digitsOf, signedOf}
-use Rattle.strided.specs.Text.{field, signedField, lineOf}
+use Rattle.strided.specs.Text.{field, lineOf}
 use Rattle.laws.specs.Text.Numbers.{head, tail, digits-once, signed-once}
 use Rattle.laws.specs.Text.Once.{cell-once, row-once}
-use Rattle.numpy.specs.Descriptions.{Description, headLine, shapeLine, stridesLine, stridesPart, written, InForm}
+use Rattle.numpy.specs.Descriptions.{Description, headLine, shapeLine, stridesPart, written, InForm}
 
 -- ---- the lines, with what is behind them
 

@@ -1,10 +1,10 @@
 -- PACKED IS C ORDER: the last axis runs quickest, and the cells lie one behind the other, the size of an element apart. In our order the element
 -- strides are 1 on axis 0, and on each axis the product of the extents before it.
 -- Assumes nothing.
-use mathlib.Core.Path.{_≡_, refl, sym, ap, ap₂, _∙_}
+use mathlib.Core.Path.{_≡_, sym, ap, _∙_}
 use mathlib.Core.List.{List, [], _∷_, map}
 use mathlib.Core.Option.{none}
-use Prim.Native.Nat.{ℕ, zero, suc, _+_, _*_, _/_, _%_, _<_}
+use Prim.Native.Nat.{ℕ, _+_, _*_, _/_, _%_, _<_}
 use native.Mathlib.Nat.{mul-comm, mul-assoc, zero-mul, div-add-mod', mod-lt, one-le-mul}
 use native.Mathlib.Omega.{arith}
 use lib.IntN.{pos}

@@ -1,13 +1,13 @@
 -- Lists read from the last element on.
 -- Assumes nothing.
-use mathlib.Core.Path.{_≡_, refl, sym, ap, ap₂, _∙_}
+use mathlib.Core.Path.{_≡_, refl, sym, ap, _∙_}
 use mathlib.Core.Logic.{_⊎_, inl, inr}
 use mathlib.Core.Bool.{Bool, true, false, _||_}
 use mathlib.Core.List.{List, [], _∷_, _++_, map, append-assoc, append-nil}
-use Prim.Native.Nat.{ℕ, zero, suc, _+_, _-_, _*_, _≤_, _<_}
+use Prim.Native.Nat.{ℕ, zero, suc, _-_, _*_, _≤_, _<_}
 use native.Mathlib.Nat.{mul-one, one-mul, mul-assoc, eq-or-lt-of-le}
 use native.Mathlib.Omega.{arith}
-use lib.ListN.{length, getD, length-append, length-map, List·getD-append}
+use lib.ListN.{length, getD, length-append, List·getD-append}
 use lib.Seq.{getD-at}
 use Rattle.strided.specs.Layout.{total}
 use Rattle.strided.specs.Text.{Each}

@@ -1,22 +1,21 @@
 -- EACH WAY IS UNDONE BY THE OTHER: "For a description with its T line, each way followed by the other returns it." From a text to numbers and
 -- back only 14 can refuse, and the text is the one it was; from numbers to a text and back nothing refuses, and the numbers are those.
 -- Assumes nothing.
-use mathlib.Core.Path.{_≡_, refl, sym, ap, ap₂, _∙_, subst}
-use mathlib.Core.Bool.{Bool, true, false, not, _||_}
+use mathlib.Core.Path.{_≡_, refl, sym, ap, ap₂, _∙_}
+use mathlib.Core.Bool.{false, not}
 use mathlib.Core.List.{List, [], _∷_, _++_, map}
-use mathlib.Core.Option.{Option, none, some}
-use Prim.Native.Nat.{ℕ, suc, _+_, _*_, _^_, _≤_, _<_}
+use mathlib.Core.Option.{none, some}
+use Prim.Native.Nat.{ℕ, _*_, _^_, _≤_, _<_}
 use native.Mathlib.Nat.{mul-one}
 use native.Mathlib.Omega.{arith}
 use lib.Dec.{ltb, eqb}
 use lib.IntN.{ℤ, pos}
 use lib.ListN.{length, length-append, length-map}
 use lib.Signed.{mag}
-use borrow.Author.Tests.{ltb-true, ltb-false, lt-ltb, le-ltb, eq-eqb, ne-eqb, eqb-true, eqb-false, not-false}
+use borrow.Author.Tests.{ltb-true, ltb-false, lt-ltb, le-ltb, eq-eqb, eqb-true, eqb-false, not-false}
 use Rattle.strided.specs.Base.{over, padded}
-use Rattle.strided.specs.Digits.{digitsOf, signedOf}
 use Rattle.strided.specs.Layout.{inI64}
-use Rattle.strided.specs.Refusals.{refusedBy, row1, row3}
+use Rattle.strided.specs.Refusals.{refusedBy}
 use Rattle.strided.specs.Text.{field, signedField, Each, FitU, FitI, filling, row14, listingOr}
 use Rattle.strided.specs.declared.Answer.the-variants.{Served}
 use Rattle.laws.specs.Base.Refusals.{NoneApplies, none-applies}

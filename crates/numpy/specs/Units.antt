@@ -1,18 +1,18 @@
 -- Bytes and elements: a stride in one unit and back, and the strides of a packed array as our order has them.
 -- Assumes nothing.
 use mathlib.Core.Path.{_≡_, refl, sym, ap, ap₂, _∙_}
-use mathlib.Core.Bool.{Bool, true, false, not}
+use mathlib.Core.Bool.{false, not}
 use mathlib.Core.List.{List, [], _∷_, _++_, map}
-use Prim.Native.Nat.{ℕ, zero, suc, _+_, _*_, _/_, _%_, _^_, _≤_, _<_}
+use Prim.Native.Nat.{ℕ, zero, suc, _*_, _/_, _%_, _^_, _<_}
 use native.Mathlib.Nat.{mul-comm, mul-assoc, one-mul, mul-one, mul-div-cancel, mul-div-cancel-left, mul-mod-left, div-add-mod'}
 use native.Mathlib.Omega.{arith}
 use lib.Dec.{eqb}
 use lib.IntN.{ℤ, pos, negsuc, negℤ, natAbs}
-use lib.ListN.{length, getD, take, length-map}
+use lib.ListN.{length, getD, take}
 use borrow.Author.Tests.{eqb-true, eq-eqb, not-false}
 use Rattle.strided.specs.Layout.{total}
 use Rattle.laws.specs.Base.Integers.{natAbs-product}
-use Rattle.numpy.specs.Numpy.{reversed, afters, packed, elementStride, byteStride, noMultiple}
+use Rattle.numpy.specs.Numpy.{reversed, afters, elementStride, byteStride, noMultiple}
 use Rattle.numpy.specs.Reversing.{total-append}
 
 -- ---- one stride

@@ -1,6 +1,5 @@
 // The way back: row 19 on every stride handed over, and the text, measured and written.
 ghost use mathlib.Core.Path.{_≡_};
-ghost use mathlib.Core.Bool.{_||_};
 ghost use mathlib.Core.List.{[], _∷_};
 ghost use Prim.Native.Nat.{_≤_};
 ghost use lib.ListN.{length};

@@ -1,7 +1,6 @@
 // BYTE STRIDES FROM PYTHON TOOLS: a description of an array in the NumPy array interface's words, as text, becomes our extents and element
 // strides, and the reverse. NumPy's last axis is our axis 0. A text is read and judged before anything is handed out.
 ghost use mathlib.Core.Path.{_≡_};
-ghost use Prim.Native.Nat.{_≤_};
 ghost use lib.ListN.{length};
 ghost use Rattle.numpy.specs.Numpy.{FromNumpy, refusing, toNumpy};
 ghost use Rattle.numpy.specs.Readers.{ShapeAt, StridesAt, FromPacked, FromGiven};

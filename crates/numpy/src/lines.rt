@@ -1,5 +1,4 @@
 // The lines N, S and T. Shape and byte strides are laid into lent arrays as far as these have places; all of them are read for the form.
-ghost use Prim.Native.Nat.{_<_};
 ghost use Rattle.numpy.specs.Readers.{ReadsHead, TakesShape, TakesStrides, TakesLines, ReadsDescription};
 use reading::MAX_TEXT;
 use reading::byte::Place;

@@ -1,12 +1,11 @@
 // Bytes and elements: a stride in one and in the other, and the arrays that are handed out, with the axes reversed.
 ghost use mathlib.Core.Path.{_≡_};
-ghost use mathlib.Core.Bool.{true, false, not};
+ghost use mathlib.Core.Bool.{false};
 ghost use mathlib.Core.List.{map};
-ghost use Prim.Native.Nat.{_+_, _^_, _≤_, _<_};
+ghost use Prim.Native.Nat.{_≤_, _<_};
 ghost use lib.IntN.{pos};
 ghost use lib.ListN.{length};
 ghost use Rattle.strided.specs.Base.{padded};
-ghost use Rattle.strided.specs.Layout.{inI64};
 ghost use Rattle.numpy.specs.Numpy.{reversed, anyOf, noMultiple, elementStride, strideOut, byteStride};
 ghost use Rattle.numpy.specs.Units.{firsts, Near};
 use layout::magnitude;

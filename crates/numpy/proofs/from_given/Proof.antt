@@ -1,6 +1,6 @@
 -- `numpy::from_given` meets its contract: rows 19 and 1, then shape and byte strides reversed, these in elements.
 -- Assumes nothing.
-use mathlib.Core.Path.{_≡_, sym, ap, _∙_}
+use mathlib.Core.Path.{sym, ap, _∙_}
 use mathlib.Core.List.{List, [], map}
 use mathlib.Core.Option.{some}
 use Prim.Native.Nat.{ℕ, _≤_}

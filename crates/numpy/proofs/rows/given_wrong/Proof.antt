@@ -1,7 +1,6 @@
 -- `numpy::rows::given_wrong` meets its contract.
 -- Assumes nothing.
 use mathlib.Core.Path.{sym, _∙_}
-use native.Mathlib.Omega.{arith}
 use borrow.Author.Tests.{eq-eqb, ne-eqb}
 use borrow.Author.Needs.{needs}
 use Rattle.numpy.proofs.rows.given_wrong.Statement.{statement}

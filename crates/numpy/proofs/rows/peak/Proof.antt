@@ -1,6 +1,6 @@
 -- `numpy::rows::peak` meets its contract: the loop keeps `Reading` with the greatest packed byte stride of the axes read.
 -- Assumes nothing.
-use mathlib.Core.Path.{_≡_, refl}
+use mathlib.Core.Path.{refl}
 use Prim.Native.Nat.{_-_}
 use Rattle.strided.specs.Digits.{digitsOf}
 use Rattle.strided.specs.Text.{FitU}

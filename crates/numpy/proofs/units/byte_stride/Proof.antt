@@ -1,6 +1,6 @@
 -- `numpy::units::byte_stride` meets its contract: the size times the bytes of an element, with the sign it had.
 -- Assumes nothing.
-use mathlib.Core.Path.{_≡_, ap, sym, _∙_}
+use mathlib.Core.Path.{_≡_, ap, _∙_}
 use mathlib.Core.Bool.{true, false}
 use native.Mathlib.Omega.{arith}
 use Prim.Native.Nat.{ℕ, _*_, _^_, _<_}

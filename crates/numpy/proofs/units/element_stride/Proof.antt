@@ -1,6 +1,6 @@
 -- `numpy::units::element_stride` meets its contract: the size of a multiple, divided, with the sign it had.
 -- Assumes nothing.
-use mathlib.Core.Path.{_≡_, ap, sym, _∙_}
+use mathlib.Core.Path.{_≡_, ap, _∙_}
 use mathlib.Core.Bool.{true, false}
 use Prim.Native.Nat.{ℕ, _/_, _^_, _<_}
 use lib.IntN.{pos, natAbs}

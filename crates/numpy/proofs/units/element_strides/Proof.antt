@@ -1,7 +1,6 @@
 -- `numpy::units::element_strides` meets its contract: after i turns the array holds the last i strides, the last one first.
 -- Assumes nothing.
 use mathlib.Core.Path.{_≡_, ap, _∙_}
-use mathlib.Core.Bool.{false}
 use mathlib.Core.List.{map}
 use Prim.Native.Nat.{_+_, _-_, _≤_}
 use native.Mathlib.Omega.{arith}

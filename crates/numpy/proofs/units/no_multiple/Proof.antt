@@ -1,6 +1,6 @@
 -- `numpy::units::no_multiple` meets its contract.
 -- Assumes nothing.
-use mathlib.Core.Path.{_≡_, ap, _∙_}
+use mathlib.Core.Path.{_≡_, ap}
 use mathlib.Core.Bool.{not}
 use Prim.Native.Nat.{ℕ, _%_}
 use lib.Dec.{eqb}
