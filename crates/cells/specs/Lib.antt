@@ -8,5 +8,6 @@ pub mod Copy
 pub mod Meaning
 pub mod Patch
 pub mod Patches
+pub mod Reaching
 pub mod Indexed
 pub mod Offsets
