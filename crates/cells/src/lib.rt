@@ -26,14 +26,10 @@ pub struct Side {
     pub step1: i64,
 }
 
-// Whether four runs are better copied at once: runs are long, and the lines that a run touches share few sets of the cache, or hold few
-// cells.
-fn crowded(n0: u64, width: usize, to: Side, from: Side) -> bool {
+// Whether four runs are better copied at once: they are long, and the lines that a run touches share few sets of the cache.
+fn crowded(n0: u64, to: Side, from: Side) -> bool {
     if n0 < 16 {
         return false;
-    }
-    if width == 16 {
-        return true;
     }
     if magnitude(to.step0) % 512 == 0 {
         return true;
@@ -68,7 +64,7 @@ pub fn copy_patch(
         copy_packed(destination, source, n0, n1, width, to, from);
         return;
     }
-    if crowded(n0, width, to, from) {
+    if crowded(n0, to, from) {
         fours_by_width(destination, source, n0, n1, width, to, from);
         return;
     }
