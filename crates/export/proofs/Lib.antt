@@ -1,0 +1,5 @@
+-- Laws that belong to no one function.
+pub mod Bytes
+pub mod Copies
+pub mod Tests
+pub mod Ways
