@@ -79,7 +79,8 @@ extern "C" {
  * is not in the V form, a length of 0, an axis that is not there, or a mark
  * buffer of another length. NumPy's descriptions give 19, after 12 and before
  * all others, for a size of 0, a byte stride that is no multiple of the size, or
- * a computed one outside 64-bit signed.
+ * a computed one outside 64-bit signed. 16, 17 and 18 are told of a copy alone;
+ * with a zero extent 17 and 18 pass.
  *
  * The numbers here are positive, and a refused call answers them negated:
  * compare gougelily_refused(answer) with them, not the answer.
@@ -99,6 +100,9 @@ extern "C" {
     ROW(GOUGELILY_TEXT_TOTAL, 13, "more than 1,048,576 cells in a text, or 65,536 in judging")       \
     ROW(GOUGELILY_ROOM, 14, "the output is longer than the room lent for it")                        \
     ROW(GOUGELILY_WINDOW, 15, "a window's list, step, index or new stride is wrong")                 \
+    ROW(GOUGELILY_COPY_SIZES, 16, "a copy has two operands of one size, of 1 to 16 bytes")           \
+    ROW(GOUGELILY_BUFFER, 17, "some cell lies outside its buffer")                                   \
+    ROW(GOUGELILY_REPEATS, 18, "the destination's mark is not no: two indices may share a cell")     \
     ROW(GOUGELILY_BYTE_STRIDES, 19, "size 0, or a byte stride that is no multiple of it or too large")\
     ROW(GOUGELILY_VISITS, 23, "visits not in the form, rank 0, or a mark buffer of another length")  \
     ROW(GOUGELILY_RECORD, 24, "the machine record is outside its bounds")
@@ -323,6 +327,23 @@ static inline int64_t gougelily_step_walk(const gougelily_plan_t *plan, gougelil
 static inline int64_t gougelily_step_walk_many(const gougelily_plan_t *plan, gougelily_walk_t *walk, uint64_t *lengths,
                                                size_t length_count, int64_t *offsets, size_t offset_count);
 
+/*
+ * The copy of the cells of operand 1, the source, to those of operand 0, the
+ * destination, each in a buffer of bytes of its own. Purpose and chosen operand
+ * are not looked at: the copy follows the plan for writing operand 0.
+ *
+ * Takes a layout of two operands of one size, 1 to 16 bytes; a start for each,
+ * as a walk's beginning has them: a cell's bytes start at offset * size in its
+ * buffer; and the buffers with their lengths, which share no byte.
+ * Answers 0. Each cell of the destination then holds the source cell of its
+ * index, and every byte outside the destination's cells is as it was. With a
+ * zero extent nothing is copied.
+ * Refuses 1, 2, 3, 24, 5, 6, 8, 9, 16, 17, 18, in this order.
+ */
+static inline int64_t gougelily_copy_cells(const gougelily_layout_t *layout, const gougelily_machine_t *machine,
+                                           const int64_t *starts, size_t start_count, uint8_t *destination,
+                                           size_t destination_len, const uint8_t *source, size_t source_len);
+
 /* ------------------------------------------------------------ functions on texts and one operand */
 
 /* Whether two indices of an operand share an offset. */
@@ -446,6 +467,12 @@ int64_t gougelily_window(const uint64_t *extents, size_t extent_count, const uin
                          int64_t window_strides[GOUGELILY_MAX_OPERANDS * GOUGELILY_MAX_RANK],
                          int64_t shifts[GOUGELILY_MAX_OPERANDS]);
 
+/* gougelily_copy_cells */
+int64_t gougelily_copy(const uint64_t *extents, size_t extent_count, const uint64_t *sizes, size_t size_count,
+                       const int64_t *strides, size_t stride_count, uint64_t line, uint64_t cache, uint64_t way,
+                       uint64_t live, const int64_t *starts, size_t start_count, uint8_t *destination,
+                       size_t destination_len, const uint8_t *source, size_t source_len);
+
 /* gougelily_original_index_of */
 int64_t gougelily_original_index(const uint64_t *extents, size_t extent_count, const uint64_t *sizes,
                                  size_t size_count, const int64_t *strides, size_t stride_count, uint64_t purpose,
@@ -527,6 +554,15 @@ static inline int64_t gougelily_window_layout(const gougelily_layout_t *layout, 
     return gougelily_window(layout->extents, layout->rank, layout->sizes, layout->operands, layout->strides,
                             layout->stride_count, window->firsts, window->rank, window->counts, window->rank,
                             window->steps, window->rank, windowed->extents, windowed->strides, windowed->shifts);
+}
+
+static inline int64_t gougelily_copy_cells(const gougelily_layout_t *layout, const gougelily_machine_t *machine,
+                                           const int64_t *starts, size_t start_count, uint8_t *destination,
+                                           size_t destination_len, const uint8_t *source, size_t source_len)
+{
+    return gougelily_copy(layout->extents, layout->rank, layout->sizes, layout->operands, layout->strides,
+                          layout->stride_count, machine->line, machine->cache, machine->way, machine->live, starts,
+                          start_count, destination, destination_len, source, source_len);
 }
 
 static inline gougelily_layout_t gougelily_windowed_layout(const gougelily_layout_t *layout,

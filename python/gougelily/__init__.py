@@ -17,6 +17,7 @@ A,1,3,3,2,1
 and the sentence. `python3 -m gougelily` explains a layout's plan in the terminal.
 """
 
+from .copying import copy, copy_layout
 from .descriptions import Described, describe, from_numpy, to_numpy
 from .judging import VERDICTS, Judgement, Visit, judge, write_visits
 from .layout import Layout, repeat_mark
@@ -30,23 +31,25 @@ from .walking import Block, Run, Walk, blocks
 from .windows import Windowed, window
 
 __all__ = [
-    "FIXED",
-    "REFUSALS",
-    "VERDICTS",
     "Block",
     "Described",
+    "FIXED",
     "Judgement",
     "Layout",
     "Machine",
     "NotInForm",
     "Plan",
+    "REFUSALS",
     "Refused",
     "Run",
+    "VERDICTS",
     "Visit",
     "Walk",
     "Windowed",
     "__version__",
     "blocks",
+    "copy",
+    "copy_layout",
     "describe",
     "from_numpy",
     "judge",

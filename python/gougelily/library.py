@@ -37,6 +37,7 @@ FUNCTIONS: dict[str, list[Any]] = {
     "gougelily_step": [*PLAN, *WALK, U64S, U64S, I64S, I64S],
     "gougelily_step_many": [*PLAN, *WALK, U64S, SIZE, I64S, SIZE],
     "gougelily_window": [*LAYOUT[:6], U64S, SIZE, U64S, SIZE, I64S, SIZE, U64S, I64S, I64S],
+    "gougelily_copy": [*LAYOUT[:6], U64, U64, U64, U64, I64S, SIZE, ctypes.c_void_p, SIZE, ctypes.c_void_p, SIZE],
     "gougelily_repeat_mark": [U64S, SIZE, I64S, SIZE],
     "gougelily_walklist": [BYTES, SIZE, BYTES, SIZE],
     "gougelily_from_numpy": [BYTES, SIZE, U64S, SIZES, U64S, I64S],

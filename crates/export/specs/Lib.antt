@@ -4,6 +4,7 @@
 --   a zero extent copies nothing, and rows 17 and 18 are not due        Zeros    zero-copies
 --   the blocks of the plan, from the starts, give the same bytes        Walks    walk-exported
 pub mod Export
+pub mod Memory
 pub mod Indices
 pub mod Asked
 pub mod Rows
