@@ -9,6 +9,8 @@
  *   hand out the blocks of single steps; windows have the offsets of their cells;
  * - lists of visits at random, judged;
  * - descriptions of arrays at random, read and written again;
+ * - layouts at random, copied: the destination's cells are the source's, and
+ *   every other byte is as it was;
  * - plans and states at random, whatever they hold: a call ends with an answer.
  * After every call its inputs are as they were, after a refusal its outputs too.
  */
@@ -306,6 +308,23 @@ static int64_t description_of(uint64_t size, const uint64_t *extents, size_t ran
     return answer;
 }
 
+static int64_t copy_of(const struct layout *l, gougelily_machine_t m, const int64_t *starts, size_t count, uint8_t *to,
+                       size_t to_len, const uint8_t *from, size_t from_len)
+{
+    const uint64_t *e = lend(l->extents, l->rank * 8), *z = lend(l->sizes, l->operands * 8);
+    const int64_t *s = lend(l->strides, l->stride_count * 8), *o = lend(starts, count * 8);
+    const uint8_t *f = lend(from, from_len);
+    uint8_t *t = lend(to, to_len);
+    int64_t answer = gougelily_copy(e, l->rank, z, l->operands, s, l->stride_count, m.line, m.cache, m.way, m.live, o,
+                                    count, t, to_len, f, from_len);
+    if (to_len > 0)
+        memcpy(to, t, to_len);
+    CHECK(answer == 0 || answer == -24 || (answer <= -16 && answer >= -18) ||
+          (answer < 0 && answer >= -9 && answer != -4 && answer != -7));
+    settle(5, answer == 0);
+    return answer;
+}
+
 /* ------------------------------------------------------------ known answers */
 
 static struct layout two(uint64_t e0, uint64_t e1, int64_t a0, int64_t a1, int64_t b0, int64_t b1, uint64_t purpose)
@@ -534,6 +553,42 @@ static void known_descriptions(void)
     CHECK(gougelily_from_numpy(NULL, 0, d.size, d.rank, d.extents, d.strides) == -GOUGELILY_FORM);
 }
 
+static void known_copies(void)
+{
+    static const int64_t starts[3] = {0, 0, 0}, back[2] = {5, 0}, before[2] = {-1, 0};
+    static const uint8_t from[12] = "aabbccddeeff";
+    struct layout l = two(2, 3, 1, 2, 3, 1, GOUGELILY_POINTWISE);
+    uint8_t to[14];
+    l.sizes[0] = l.sizes[1] = 2;
+    memset(to, '-', sizeof to);
+    CHECK(copy_of(&l, fixed, starts, 2, to, 14, from, 12) == 0 && memcmp(to, "aaddbbeeccff--", 14) == 0);
+    l.strides[0] = -1, l.strides[1] = -2;
+    memset(to, '-', sizeof to);
+    CHECK(copy_of(&l, fixed, back, 2, to, 12, from, 12) == 0 && memcmp(to, "ffcceebbddaa--", 14) == 0);
+    l.strides[0] = 1, l.strides[1] = 2;
+    memset(to, '-', sizeof to);
+    CHECK(copy_of(&l, fixed, starts, 2, to, 11, from, 12) == -GOUGELILY_BUFFER);
+    CHECK(copy_of(&l, fixed, starts, 2, to, 12, from, 11) == -GOUGELILY_BUFFER);
+    CHECK(copy_of(&l, fixed, before, 2, to, 12, from, 12) == -GOUGELILY_BUFFER);
+    CHECK(copy_of(&l, fixed, starts, 1, to, 12, from, 12) == -GOUGELILY_START_COUNT);
+    CHECK(copy_of(&l, fixed, starts, 3, to, 12, from, 12) == -GOUGELILY_START_COUNT);
+    l.strides[1] = 1;
+    CHECK(copy_of(&l, fixed, starts, 2, to, 12, from, 12) == -GOUGELILY_REPEATS);
+    CHECK(copy_of(&l, fixed, starts, 2, to, 1, from, 12) == -GOUGELILY_BUFFER);
+    l.sizes[1] = 1;
+    CHECK(copy_of(&l, fixed, starts, 2, to, 1, from, 12) == -GOUGELILY_COPY_SIZES);
+    l.sizes[0] = l.sizes[1] = 17;
+    CHECK(copy_of(&l, fixed, starts, 2, to, 12, from, 12) == -GOUGELILY_COPY_SIZES);
+    l.sizes[0] = l.sizes[1] = 0;
+    CHECK(copy_of(&l, fixed, starts, 2, to, 12, from, 12) == -GOUGELILY_COPY_SIZES);
+    l.extents[0] = 0;
+    CHECK(copy_of(&l, fixed, starts, 2, to, 12, from, 12) == -GOUGELILY_COPY_SIZES);
+    l.sizes[0] = l.sizes[1] = 16;
+    CHECK(copy_of(&l, fixed, before, 2, to, 12, from, 12) == 0);
+    CHECK(memcmp(to, "--------------", 14) == 0);
+    CHECK(gougelily_copy(l.extents, 2, l.sizes, 2, l.strides, 4, 64, 32768, 4096, 6, starts, 2, NULL, 0, NULL, 0) == 0);
+}
+
 /* ------------------------------------------------------------ numbers at random */
 
 static uint64_t state = 1;
@@ -654,7 +709,7 @@ static int machine_allowed(gougelily_machine_t m)
            m.way % m.line == 0 && m.way >= m.line && m.way <= m.cache && m.live >= 1 && m.live <= 16;
 }
 
-static uint64_t cells_met, blocks_met, windows_met, lists_judged, descriptions_met, refusals_met, records_refused;
+static uint64_t cells_met, blocks_met, windows_met, lists_judged, descriptions_met, copies_made, refusals_met, records_refused;
 
 /* "array places behind the counts are 0" */
 static int blank(const void *array, size_t from, size_t to)
@@ -868,6 +923,76 @@ static void any_description(void)
     descriptions_met++;
 }
 
+/* The next index, axis 0 quickest; 0 behind the last. */
+static int next_index(const struct layout *l, uint64_t *x)
+{
+    for (size_t i = 0; i < l->rank; x[i++] = 0)
+        if (++x[i] < l->extents[i])
+            return 1;
+    return 0;
+}
+
+/* Operands 0 and 1 of a layout, copied between buffers that are as long as their cells ask, or a little shorter or longer. */
+static void copy_layout(struct layout l)
+{
+    static uint8_t to[ROOM], due[ROOM], from[ROOM];
+    int64_t starts[2], length[2];
+    int zero = 0;
+    if (l.operands < 2)
+        return;
+    l.operands = 2, l.stride_count = 2 * l.rank;
+    l.sizes[0] = l.sizes[1] = 1 + below(16);
+    for (size_t k = 0; k < 2; k++) {
+        int64_t low = 0, high = 0;
+        for (size_t i = 0; i < l.rank; i++) {
+            const int64_t way = ((int64_t)l.extents[i] - 1) * l.strides[k * l.rank + i];
+            zero |= l.extents[i] == 0;
+            low += way < 0 ? way : 0, high += way > 0 ? way : 0;
+        }
+        starts[k] = -low + (int64_t)below(2);
+        length[k] = (starts[k] + high + 1) * (int64_t)l.sizes[k] + (below(4) == 0 ? (int64_t)below(5) - 2 : 0);
+        if (length[k] < 0 || length[k] > ROOM)
+            return;
+    }
+    for (size_t i = 0; i < ROOM; i++)
+        to[i] = due[i] = (uint8_t)random64(), from[i] = (uint8_t)random64();
+    const gougelily_machine_t m = below(4) == 0 ? any_machine() : fixed;
+    const int64_t answer = copy_of(&l, m, starts, 2, to, (size_t)length[0], from, (size_t)length[1]);
+    uint64_t x[70] = {0};
+    int outside = 0;
+    if (!zero)
+        do {
+            int64_t at[2] = {starts[0], starts[1]};
+            for (size_t k = 0; k < 2; k++) {
+                for (size_t i = 0; i < l.rank; i++)
+                    at[k] += (int64_t)x[i] * l.strides[k * l.rank + i];
+                outside |= (at[k] + 1) * (int64_t)l.sizes[k] > length[k];
+            }
+            if (answer == 0 && !outside)
+                memcpy(due + at[0] * (int64_t)l.sizes[0], from + at[1] * (int64_t)l.sizes[1], l.sizes[0]);
+        } while (next_index(&l, x));
+    CHECK(memcmp(to, due, ROOM) == 0);
+    if (!machine_allowed(m))
+        CHECK(answer == -GOUGELILY_RECORD);
+    else if (zero)
+        CHECK(answer == 0);
+    else if (outside)
+        CHECK(answer == -GOUGELILY_BUFFER);
+    else
+        CHECK(answer == (mark_of(&l, 0) == GOUGELILY_MARK_NO ? 0 : -GOUGELILY_REPEATS));
+    copies_made += answer == 0;
+    refusals_met += answer < 0;
+}
+
+static void garbage_copy(const struct layout *l)
+{
+    uint8_t to[64] = {0}, from[64] = {0};
+    int64_t starts[10];
+    make_wild(starts, 10);
+    const size_t count = below(4) == 0 ? below(10) : l->operands;
+    refusals_met += copy_of(l, any_machine(), starts, count, to, below(65), from, below(65)) < 0;
+}
+
 /* ------------------------------------------------------------ plans and states at random */
 
 /* A few steps, whatever plan and state are. */
@@ -963,6 +1088,7 @@ int main(int argc, char **argv)
     known_texts();
     known_judging();
     known_descriptions();
+    known_copies();
     for (round_number = 1; round_number <= rounds; round_number++) {
         struct layout l = tame(), g = garbage();
         gougelily_plan_t p = {0};
@@ -973,6 +1099,8 @@ int main(int argc, char **argv)
         garbage_window(&g);
         any_visits();
         any_description();
+        copy_layout(l);
+        garbage_copy(&g);
         one_number_changed(&l);
         garbage_plan();
         refusals_met += plan_of(&g, &p) < 0;
@@ -983,8 +1111,22 @@ int main(int argc, char **argv)
         if (l.rank > 0)
             mark_of(&l, below(l.operands));
     }
-    printf("%llu rounds: %" PRIu64 " blocks, %" PRIu64 " cells, %" PRIu64 " windows, %" PRIu64 " judged lists, %" PRIu64
-           " descriptions, %" PRIu64 " refusals, %" PRIu64 " of them of records\n",
-           rounds, blocks_met, cells_met, windows_met, lists_judged, descriptions_met, refusals_met + records_refused, records_refused);
+    const struct {
+        const char *what;
+        uint64_t count;
+    } met[] = {
+        {"blocks", blocks_met},
+        {"cells", cells_met},
+        {"windows", windows_met},
+        {"judged lists", lists_judged},
+        {"descriptions", descriptions_met},
+        {"copies", copies_made},
+        {"refusals", refusals_met + records_refused},
+        {"of them of records", records_refused},
+    };
+    printf("%llu rounds", rounds);
+    for (size_t i = 0; i < sizeof met / sizeof *met; i++)
+        printf(", %" PRIu64 " %s", met[i].count, met[i].what);
+    printf("\n");
     return 0;
 }

@@ -135,6 +135,13 @@ class Refusals(unittest.TestCase):
             (1, g.to_numpy, 2, (1,) * 65, (1,)),
             (3, g.to_numpy, 2, (1,), ()),
             (24, g.plan_layout, one, g.Machine(48, 32_768, 4_080, 6)),
+            (24, g.copy, bytearray(2), bytes(2), g.Machine(48, 32_768, 4_080, 6)),
+            (16, g.copy, memoryview(bytearray(8)).cast("Q"), bytes(1)),
+            (16, g.copy_layout, g.Layout((2,), (17, 17), ((1,), (1,))), (0, 0), bytearray(34), bytes(34)),
+            (8, g.copy_layout, g.Layout((2,), (1, 1), ((1,), (1,))), (0,), bytearray(2), bytes(2)),
+            (9, g.copy_layout, g.Layout((2,), (1, 1), ((1,), (1,))), (0, 2**63 - 1), bytearray(2), bytes(2)),
+            (17, g.copy_layout, g.Layout((2,), (1, 1), ((1,), (1,))), (0, 0), bytearray(1), bytes(2)),
+            (18, g.copy_layout, g.Layout((2,), (1, 1), ((0,), (1,))), (0, 0), bytearray(2), bytes(2)),
         ):
             with self.subTest(number=number, call=call.__name__):
                 refused(self, number, call, *arguments)
@@ -268,6 +275,34 @@ class Judging(unittest.TestCase):
         self.assertEqual(g.judge((30, 20), g.write_visits(visits)).verdict, "accepted")
         self.assertEqual(g.judge((30, 20), g.write_visits(visits + visits[:1])).verdict, "double")
         self.assertEqual(g.judge((30, 20), g.write_visits(visits[1:])).verdict, "short")
+
+
+class Copies(unittest.TestCase):
+    def test_views(self):
+        room = bytearray(b"-" * 8)
+        g.copy(memoryview(room)[7:1:-2], b"abc")
+        self.assertEqual(room, b"---c-b-a")
+        g.copy(memoryview(bytearray()), b"")
+
+    def test_what_is_turned_down(self):
+        held = bytearray(b"abcdef")
+        for wrong, destination, source in (
+            (ValueError, memoryview(held)[:3], memoryview(held)[2:5]),
+            (ValueError, bytearray(2), b"abc"),
+            (BufferError, b"abc", b"abc"),
+            (TypeError, [1, 2], b"ab"),
+        ):
+            with self.subTest(wrong=wrong), self.assertRaises(wrong):
+                g.copy(destination, source)
+        self.assertEqual(held, b"abcdef")
+
+    def test_layouts(self):
+        turned, room = g.Layout((4, 3), (2, 2), ((3, 1), (1, 4))), bytearray(24)
+        g.copy_layout(turned, (0, 0), room, b"a1b1c1d1a2b2c2d2a3b3c3d3")
+        self.assertEqual(room, b"a1a2a3b1b2b3c1c2c3d1d2d3")
+        with self.assertRaises(g.Refused):
+            g.copy_layout(turned, (0, 1), room, bytes(24))
+        self.assertEqual(room, b"a1a2a3b1b2b3c1c2c3d1d2d3")
 
 
 class Machines(unittest.TestCase):

@@ -43,6 +43,10 @@ class Views(unittest.TestCase):
                 met += length
             self.assertEqual(met, made.view.size)
             self.assertEqual(target.tobytes(), made.view.tobytes(), made.how)
+            if 1 <= made.view.itemsize <= 16:
+                again = np.empty_like(target)
+                g.copy(again, made.view)
+                self.assertEqual(again.tobytes(), made.view.tobytes(), made.how)
 
     def test_numbers_of_numpy(self):
         told = g.Layout(np.array([2, 3]), np.array([8]), np.array([[1, 2]]))

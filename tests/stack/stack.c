@@ -137,6 +137,30 @@ static void description(void)
     static int64_t steps[64];
     answer = gougelily_to_numpy(8, axes, 64, steps, 64, (uint8_t *)room, sizeof room);
 }
+
+/* A transpose whose mark is told by the exact test, with its two lists. */
+static void copied(void)
+{
+    static const uint64_t extents[2] = {64, 64}, wide[2] = {16, 16};
+    static const int64_t turned[4] = {65, 64, 64, 1};
+    static uint8_t to[8192 * 16], from[4096 * 16];
+    answer = gougelily_copy(extents, 2, wide, 2, turned, 4, fixed.line, fixed.cache, fixed.way, fixed.live, starts, 2, to,
+                            sizeof to, from, sizeof from);
+}
+/* 64 axes, 20 of them with two indices, which the source has in the other order. */
+static void copied_deep(void)
+{
+    static const uint64_t one[2] = {1, 1};
+    static uint64_t extents[64];
+    static int64_t turned[128];
+    static uint8_t to[1 << 20], from[1 << 20];
+    for (int i = 0; i < 64; i++)
+        extents[i] = i < 20 ? 2 : 1;
+    for (int i = 0; i < 20; i++)
+        turned[i] = 1 << i, turned[64 + i] = 1 << (19 - i);
+    answer = gougelily_copy(extents, 64, one, 2, turned, 128, fixed.line, fixed.cache, fixed.way, fixed.live, starts, 2,
+                            to, sizeof to, from, sizeof from);
+}
 static void many(void)
 {
     answer = gougelily_step_many(plan.rank, plan.operands, plan.extents, plan.blocks, plan.strides, &walk.ended,
@@ -218,6 +242,8 @@ int main(void)
         {"gougelily_judge", judged},
         {"gougelily_from_numpy", described},
         {"gougelily_to_numpy", description},
+        {"gougelily_copy, 64 by 64 cells, the exact mark", copied},
+        {"gougelily_copy, 64 axes", copied_deep},
     };
     int status = 0;
 
