@@ -38,8 +38,9 @@
  *
  * Threads. Every function is reentrant: it keeps nothing between calls, takes no
  * lock and allocates nothing. Planning takes 7 to 13 KB of stack, and up to 125
- * where some 50 axes are kept whole one after another; walklist some 30, up to
- * 55; the repeat mark some 65, a copy some 75; the others less than 12.
+ * where some 50 axes are kept whole one after another; a summary some 9 more
+ * than that; walklist some 30, up to 55; the repeat mark some 65, a copy some 75;
+ * the others less than 12.
  *
  * First come the structs and the functions on them, which are what a C program
  * uses. Behind them stand the raw functions, which take a bare array for each
@@ -104,6 +105,7 @@ extern "C" {
     ROW(GOUGELILY_BUFFER, 17, "some cell lies outside its buffer")                                   \
     ROW(GOUGELILY_REPEATS, 18, "the destination's mark is not no: two indices may share a cell")     \
     ROW(GOUGELILY_BYTE_STRIDES, 19, "size 0, or a byte stride that is no multiple of it or too large")\
+    ROW(GOUGELILY_SLICE, 22, "a cell lies outside the slice of cells that is lent")                  \
     ROW(GOUGELILY_VISITS, 23, "visits not in the form, rank 0, or a mark buffer of another length")  \
     ROW(GOUGELILY_RECORD, 24, "the machine record is outside its bounds")
 
@@ -435,6 +437,42 @@ int64_t gougelily_from_numpy(const uint8_t *text, size_t text_len, uint64_t size
 int64_t gougelily_to_numpy(uint64_t size, const uint64_t *extents, size_t extent_count, const int64_t *strides,
                            size_t stride_count, uint8_t *room, size_t room_len);
 
+/*
+ * A summary of cells: `count` cells, of which `nans` are not a number. With
+ * `extremes` 1 there is a cell that is a number, and least and greatest are the
+ * extremes; with 0 there is none, and both are +0.0.
+ */
+typedef struct gougelily_summary_t {
+    double sum;
+    double least;
+    double greatest;
+    uint64_t count;
+    uint64_t nans;
+    uint64_t extremes;
+} gougelily_summary_t;
+
+/*
+ * The summary of an operand's cells, in the order of its plan: that of the
+ * layout with this operand alone, of size 8, for a fold that it orders. So layout
+ * and machine record alone fix the bits of the sum, on whatever processor it is
+ * made.
+ *
+ * Takes the extents and the strides of the one operand, the machine, and the
+ * cells: the cell with index 0 on every axis is cells[start].
+ * Answers 0, and the summary. The sum starts at +0.0 and each cell is added with
+ * one rounding; a cell that several indices name is added and counted at each.
+ * Cells that are not a number enter the sum, and neither extreme. The first other
+ * cell sets both extremes, later only a strictly smaller one replaces the least
+ * and a strictly greater one the greatest. Of a sum that is not a number the bits
+ * are left open. With a zero extent nothing is met: the count is 0. If all cells
+ * are whole numbers whose sizes, added at each visit, total at most 2^53, the sum
+ * is exact.
+ * Refuses 1, 3, 24, 5, 6, 9, 22, in this order.
+ */
+static inline int64_t gougelily_summarize(const uint64_t *extents, size_t rank, const int64_t *strides,
+                                          size_t stride_count, const gougelily_machine_t *machine, int64_t start,
+                                          const double *cells, size_t cell_count, gougelily_summary_t *summary);
+
 /* The version of the library that the program runs with, as GOUGELILY_VERSION has it: 1.2.3 is 1,002,003. */
 int64_t gougelily_version(void);
 
@@ -505,6 +543,12 @@ int64_t gougelily_step_many(size_t rank, size_t operands, const uint64_t extents
                             uint64_t ended[1], uint64_t counters[GOUGELILY_MAX_RANK],
                             int64_t offsets[GOUGELILY_MAX_OPERANDS], uint64_t *block_lengths, size_t length_count,
                             int64_t *block_offsets, size_t offset_count);
+
+/* gougelily_summarize */
+int64_t gougelily_summary(const uint64_t *extents, size_t extent_count, const int64_t *strides, size_t stride_count,
+                          uint64_t line, uint64_t cache, uint64_t way, uint64_t live, int64_t start,
+                          const double *cells, size_t cell_count, double sum[1], double least[1], double greatest[1],
+                          uint64_t count[1], uint64_t nans[1], uint64_t extremes[1]);
 
 /* ------------------------------------------------------------ older names */
 
@@ -610,6 +654,15 @@ static inline int64_t gougelily_step_walk_many(const gougelily_plan_t *plan, gou
 {
     return gougelily_step_many(plan->rank, plan->operands, plan->extents, plan->blocks, plan->strides, &walk->ended,
                                walk->counters, walk->offsets, lengths, length_count, offsets, offset_count);
+}
+
+static inline int64_t gougelily_summarize(const uint64_t *extents, size_t rank, const int64_t *strides,
+                                          size_t stride_count, const gougelily_machine_t *machine, int64_t start,
+                                          const double *cells, size_t cell_count, gougelily_summary_t *summary)
+{
+    return gougelily_summary(extents, rank, strides, stride_count, machine->line, machine->cache, machine->way,
+                             machine->live, start, cells, cell_count, &summary->sum, &summary->least,
+                             &summary->greatest, &summary->count, &summary->nans, &summary->extremes);
 }
 
 #ifdef __cplusplus

@@ -25,6 +25,7 @@ from .library import version
 from .machine import FIXED, Machine, machine
 from .planning import Plan, original_index, plan, plan_index, plan_layout
 from .refusals import REFUSALS, Refused, refusal_text
+from .summaries import Summary, summary, summary_of
 from .texts import NotInForm, read_layout, walklist, write_layout
 from .version import VERSION as __version__
 from .walking import Block, Run, Walk, blocks
@@ -42,6 +43,7 @@ __all__ = [
     "REFUSALS",
     "Refused",
     "Run",
+    "Summary",
     "VERDICTS",
     "Visit",
     "Walk",
@@ -61,6 +63,8 @@ __all__ = [
     "read_layout",
     "refusal_text",
     "repeat_mark",
+    "summary",
+    "summary_of",
     "to_numpy",
     "version",
     "walklist",

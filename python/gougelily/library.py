@@ -22,6 +22,8 @@ MAX_OPERANDS = 8
 
 U64, I64, SIZE = ctypes.c_uint64, ctypes.c_int64, ctypes.c_size_t
 U64S, I64S, SIZES, BYTES = (ctypes.POINTER(kind) for kind in (U64, I64, SIZE, ctypes.c_uint8))
+F64 = ctypes.c_double
+F64S = ctypes.POINTER(F64)
 
 LAYOUT = [U64S, SIZE, U64S, SIZE, I64S, SIZE, U64, U64]
 PLAN = [SIZE, SIZE, U64S, U64S, I64S]
@@ -43,6 +45,7 @@ FUNCTIONS: dict[str, list[Any]] = {
     "gougelily_from_numpy": [BYTES, SIZE, U64S, SIZES, U64S, I64S],
     "gougelily_to_numpy": [U64, U64S, SIZE, I64S, SIZE, BYTES, SIZE],
     "gougelily_judge": [U64S, SIZE, BYTES, SIZE, BYTES, SIZE],
+    "gougelily_summary": [U64S, SIZE, I64S, SIZE, U64, U64, U64, U64, I64, F64S, SIZE, F64S, F64S, F64S, U64S, U64S, U64S],
 }
 
 
