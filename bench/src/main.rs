@@ -9,6 +9,7 @@ mod layouts;
 mod marks;
 mod parts;
 mod planning;
+mod summing;
 mod texts;
 mod timing;
 mod walking;
@@ -23,7 +24,7 @@ const HELP: &str = "\
 bench: times the port and the original, and prints the ratios as tables
 
   --only WHAT      only this table: planning, windows, walking, finding, marks, texts,
-                   judging or parts; may be repeated
+                   judging, summing or parts; may be repeated
   --runs N         short runs of each side, of which the best counts (2000)
   --seed S         the seed of the layouts for parts (0)
   --instructions   count instructions of planning too, with valgrind
@@ -184,6 +185,21 @@ fn judging_table(asked: &Asked, out: &mut impl Write) -> Result<(), String> {
     put(out, &text)
 }
 
+fn summing_table(asked: &Asked, out: &mut impl Write) -> Result<(), String> {
+    let mut text = String::from(
+        "## Summaries\n\n| cells | number | Rust ns a cell | port ns a cell | ratio | a bare sum ns a cell |\n|---|---|---|---|---|---|\n",
+    );
+    for row in summing::times(asked.runs) {
+        let ratio = shown(row.port / row.plain);
+        text += &format!(
+            "| {} | {} | {:.2} | {:.2} | {ratio} | {:.2} |\n",
+            row.name, row.cells, row.plain, row.port, row.alone
+        );
+    }
+    text.push('\n');
+    put(out, &text)
+}
+
 fn parts_table(asked: &Asked, out: &mut impl Write) -> Result<(), String> {
     let mut text = String::from(
         "## Parts\n\n| function | rank | operands | Rust ns | port ns | ratio |\n|---|---|---|---|---|---|\n",
@@ -228,7 +244,7 @@ fn run() -> Result<(), String> {
         }
     }
     if [
-        "planning", "windows", "walking", "finding", "marks", "texts", "judging",
+        "planning", "windows", "walking", "finding", "marks", "texts", "judging", "summing",
     ]
     .iter()
     .any(|what| asked.wants(what))
@@ -258,6 +274,9 @@ fn run() -> Result<(), String> {
     }
     if asked.wants("judging") {
         judging_table(&asked, &mut out)?;
+    }
+    if asked.wants("summing") {
+        summing_table(&asked, &mut out)?;
     }
     if asked.wants("parts") {
         parts_table(&asked, &mut out)?;

@@ -11,6 +11,7 @@
  * - descriptions of arrays at random, read and written again;
  * - layouts at random, copied: the destination's cells are the source's, and
  *   every other byte is as it was;
+ * - cells at random, summed again in the order of the walk's blocks, bit by bit;
  * - plans and states at random, whatever they hold: a call ends with an answer.
  * After every call its inputs are as they were, after a refusal its outputs too.
  */
@@ -325,6 +326,24 @@ static int64_t copy_of(const struct layout *l, gougelily_machine_t m, const int6
     return answer;
 }
 
+static int64_t summary_of(const struct layout *l, gougelily_machine_t m, int64_t start, const double *cells, size_t count,
+                          gougelily_summary_t *y)
+{
+    const uint64_t *e = lend(l->extents, l->rank * 8);
+    const int64_t *s = lend(l->strides, l->stride_count * 8);
+    const double *c = lend(cells, count * 8);
+    double *sum = LEND(y->sum), *least = LEND(y->least), *greatest = LEND(y->greatest);
+    uint64_t *n = LEND(y->count), *nans = LEND(y->nans), *extremes = LEND(y->extremes);
+    int64_t answer = gougelily_summary(e, l->rank, s, l->stride_count, m.line, m.cache, m.way, m.live, start, c, count,
+                                       sum, least, greatest, n, nans, extremes);
+    TAKE(y->sum, sum), TAKE(y->least, least), TAKE(y->greatest, greatest);
+    TAKE(y->count, n), TAKE(y->nans, nans), TAKE(y->extremes, extremes);
+    CHECK(answer == 0 || answer == -1 || answer == -3 || answer == -24 || answer == -5 || answer == -6 || answer == -9 ||
+          answer == -22);
+    settle(3, answer == 0);
+    return answer;
+}
+
 /* ------------------------------------------------------------ known answers */
 
 static struct layout two(uint64_t e0, uint64_t e1, int64_t a0, int64_t a1, int64_t b0, int64_t b1, uint64_t purpose)
@@ -589,6 +608,60 @@ static void known_copies(void)
     CHECK(gougelily_copy(l.extents, 2, l.sizes, 2, l.strides, 4, 64, 32768, 4096, 6, starts, 2, NULL, 0, NULL, 0) == 0);
 }
 
+/* The bits of two doubles; of two that are not a number any. */
+static int same_double(double a, double b)
+{
+    return (a != a && b != b) || memcmp(&a, &b, sizeof a) == 0;
+}
+
+static int summary_is(const gougelily_summary_t *y, double sum, double least, double greatest, uint64_t count,
+                      uint64_t nans, uint64_t extremes)
+{
+    return same_double(y->sum, sum) && same_double(y->least, least) && same_double(y->greatest, greatest) &&
+           y->count == count && y->nans == nans && y->extremes == extremes;
+}
+
+static void known_summaries(void)
+{
+    const double nan = strtod("nan", NULL), far = strtod("inf", NULL);
+    const double cells[6] = {1.5, -2.0, 4.0, -0.0, nan, far};
+    gougelily_summary_t y;
+    memset(&y, 7, sizeof y);
+    const gougelily_summary_t old = y;
+    struct layout l = two(3, 2, 1, 0, 0, 0, GOUGELILY_FOLD);
+    l.operands = 1, l.stride_count = 2;
+    CHECK(summary_of(&l, fixed, 0, cells, 6, &y) == 0 && summary_is(&y, 7.0, -2.0, 4.0, 6, 0, 1));
+    CHECK(summary_of(&l, fixed, 2, cells, 6, &y) == 0 && summary_is(&y, nan, -0.0, 4.0, 6, 2, 1));
+    l.strides[0] = -1;
+    CHECK(summary_of(&l, fixed, 2, cells, 3, &y) == 0 && summary_is(&y, 7.0, -2.0, 4.0, 6, 0, 1));
+    l.strides[0] = 0;
+    CHECK(summary_of(&l, fixed, 3, cells, 6, &y) == 0 && summary_is(&y, 0.0, -0.0, -0.0, 6, 0, 1));
+    CHECK(summary_of(&l, fixed, 4, cells, 6, &y) == 0 && summary_is(&y, nan, 0.0, 0.0, 6, 6, 0));
+    CHECK(summary_of(&l, fixed, 5, cells, 6, &y) == 0 && summary_is(&y, far, far, far, 6, 0, 1));
+    l.extents[1] = 0;
+    CHECK(summary_of(&l, fixed, -9, cells, 0, &y) == 0 && summary_is(&y, 0.0, 0.0, 0.0, 0, 0, 0));
+    y = old;
+    gougelily_machine_t m = fixed;
+    m.live = 0;
+    CHECK(summary_of(&l, m, 0, cells, 6, &y) == -GOUGELILY_RECORD);
+    l.extents[1] = 2, l.strides[0] = 1;
+    CHECK(summary_of(&l, fixed, 4, cells, 6, &y) == -GOUGELILY_SLICE);
+    CHECK(summary_of(&l, fixed, -1, cells, 6, &y) == -GOUGELILY_SLICE);
+    CHECK(summary_of(&l, fixed, INT64_MAX - 1, cells, 6, &y) == -GOUGELILY_OFFSETS);
+    CHECK(summary_of(&l, fixed, INT64_MAX - 2, cells, 6, &y) == -GOUGELILY_SLICE);
+    l.strides[0] = INT64_MIN;
+    CHECK(summary_of(&l, fixed, 0, cells, 6, &y) == -GOUGELILY_REACH);
+    l.extents[0] = UINT64_MAX;
+    CHECK(summary_of(&l, fixed, 0, cells, 6, &y) == -GOUGELILY_TOTAL);
+    l.stride_count = 3;
+    CHECK(summary_of(&l, fixed, 0, cells, 6, &y) == -GOUGELILY_STRIDE_COUNT);
+    l.rank = 65;
+    CHECK(summary_of(&l, fixed, 0, cells, 6, &y) == -GOUGELILY_RANK);
+    CHECK(memcmp(&y, &old, sizeof y) == 0);
+    CHECK(gougelily_summarize(NULL, 0, NULL, 0, &fixed, 0, cells, 1, &y) == 0 && summary_is(&y, 1.5, 1.5, 1.5, 1, 0, 1));
+    CHECK(gougelily_summarize(NULL, 0, NULL, 0, &fixed, 0, NULL, 0, &y) == -GOUGELILY_SLICE);
+}
+
 /* ------------------------------------------------------------ numbers at random */
 
 static uint64_t state = 1;
@@ -709,7 +782,7 @@ static int machine_allowed(gougelily_machine_t m)
            m.way % m.line == 0 && m.way >= m.line && m.way <= m.cache && m.live >= 1 && m.live <= 16;
 }
 
-static uint64_t cells_met, blocks_met, windows_met, lists_judged, descriptions_met, copies_made, refusals_met, records_refused;
+static uint64_t cells_met, blocks_met, windows_met, lists_judged, descriptions_met, copies_made, cells_summed, refusals_met, records_refused;
 
 /* "array places behind the counts are 0" */
 static int blank(const void *array, size_t from, size_t to)
@@ -993,6 +1066,64 @@ static void garbage_copy(const struct layout *l)
     refusals_met += copy_of(l, any_machine(), starts, count, to, below(65), from, below(65)) < 0;
 }
 
+/* Cells at random under the first operand of a layout: the summary is what the blocks of its walk give, cell by cell. */
+static void any_summary(const struct layout *from)
+{
+    enum { MOST = 512 };
+    static const double odd[8] = {0.0, -0.0, 1.0, -1.0, 5e-324, 1e308, -1e308, 0.1};
+    double cells[MOST];
+    struct layout l = *from;
+    int64_t low = 0, high = 0;
+    l.operands = 1, l.sizes[0] = 8, l.stride_count = l.rank, l.purpose = GOUGELILY_FOLD, l.chosen = 0;
+    uint64_t total = 1;
+    for (size_t i = 0; i < l.rank; i++) {
+        total *= l.extents[i];
+        if (l.strides[i] < -MOST || l.strides[i] > MOST || l.extents[i] > MOST)
+            return;
+        const int64_t way = l.strides[i] * (l.extents[i] > 0 ? (int64_t)l.extents[i] - 1 : 0);
+        *(way < 0 ? &low : &high) += way;
+    }
+    if (total == 0)
+        low = high = 0;
+    if (high - low >= MOST || total > 4 * MOST)
+        return;
+    const size_t count = (size_t)(high - low) + 1;
+    for (size_t i = 0; i < count; i++)
+        cells[i] = below(3) ? (double)(int64_t)below(1000) / 7.0 - 60.0 : odd[below(8)];
+    if (below(8) == 0)
+        cells[below(count)] = strtod("nan", NULL);
+    if (below(8) == 0)
+        cells[below(count)] = strtod("-inf", NULL);
+    const gougelily_machine_t m = below(2) ? fixed : (gougelily_machine_t){32, 4096, 4096, 1};
+    gougelily_summary_t y = {9, 9, 9, 9, 9, 9}, due = {0, 0, 0, 0, 0, 0};
+    gougelily_plan_t p = {0};
+    gougelily_walk_t w;
+    gougelily_block_t b;
+    const int64_t start = -low;
+    CHECK(plan_on(&l, m, &p) == 0 && gougelily_begin_walk(&p, &start, 1, &w) == 0);
+    while (gougelily_step_walk(&p, &w, &b) == 1)
+        for (uint64_t k = 0; k < b.length; k++) {
+            const double x = cells[b.offsets[0] + (int64_t)k * b.strides[0]];
+            due.sum += x, due.count++;
+            if (x != x) {
+                due.nans++;
+                continue;
+            }
+            if (!due.extremes || x < due.least)
+                due.least = x;
+            if (!due.extremes || x > due.greatest)
+                due.greatest = x;
+            due.extremes = 1;
+        }
+    CHECK(summary_of(&l, m, start, cells, count, &y) == 0);
+    CHECK(summary_is(&y, due.sum, due.least, due.greatest, due.count, due.nans, due.extremes) && y.count == total);
+    if (total > 0) {
+        CHECK(summary_of(&l, m, start - 1, cells, count, &y) == -GOUGELILY_SLICE);
+        CHECK(summary_of(&l, m, start, cells, count - 1, &y) == -GOUGELILY_SLICE);
+    }
+    cells_summed += due.count;
+}
+
 /* ------------------------------------------------------------ plans and states at random */
 
 /* A few steps, whatever plan and state are. */
@@ -1089,6 +1220,7 @@ int main(int argc, char **argv)
     known_judging();
     known_descriptions();
     known_copies();
+    known_summaries();
     for (round_number = 1; round_number <= rounds; round_number++) {
         struct layout l = tame(), g = garbage();
         gougelily_plan_t p = {0};
@@ -1101,6 +1233,7 @@ int main(int argc, char **argv)
         any_description();
         copy_layout(l);
         garbage_copy(&g);
+        any_summary(&l);
         one_number_changed(&l);
         garbage_plan();
         refusals_met += plan_of(&g, &p) < 0;
@@ -1121,6 +1254,7 @@ int main(int argc, char **argv)
         {"judged lists", lists_judged},
         {"descriptions", descriptions_met},
         {"copies", copies_made},
+        {"cells summed", cells_summed},
         {"refusals", refusals_met + records_refused},
         {"of them of records", records_refused},
     };

@@ -12,6 +12,7 @@ import subprocess
 import sys
 import tempfile
 import unittest
+from array import array
 from pathlib import Path
 
 from seeded import LAYOUTS, MACHINES, ROOT, layout
@@ -122,6 +123,14 @@ class Refusals(unittest.TestCase):
             (15, g.window, one, (0, 0), (1,), (1,)),
             (15, g.window, one, (0,), (1,), (0,)),
             (15, g.window, one, (4,), (3,), (-3,)),
+            (1, g.summary_of, (1,) * 65, (0,) * 65, [1.0]),
+            (3, g.summary_of, (2, 2), (1,), [1.0]),
+            (24, g.summary_of, (0,), (1,), [], 0, g.Machine(48, 32768, 4096, 6)),
+            (5, g.summary_of, (2**32, 2**32), (0, 0), [1.0]),
+            (6, g.summary_of, (3,), (2**62,), [1.0]),
+            (9, g.summary_of, (2,), (1,), [1.0], 2**63 - 1),
+            (22, g.summary_of, (2,), (1,), [1.0]),
+            (22, g.summary_of, (), (), []),
             (1, g.judge, (1,) * 65, ""),
             (5, g.judge, (2**32, 2**32), ""),
             (13, g.judge, (65_537,), "x"),
@@ -303,6 +312,32 @@ class Copies(unittest.TestCase):
         with self.assertRaises(g.Refused):
             g.copy_layout(turned, (0, 1), room, bytes(24))
         self.assertEqual(room, b"a1a2a3b1b2b3c1c2c3d1d2d3")
+
+
+class Summaries(unittest.TestCase):
+    def test_views_of_doubles(self):
+        held = array("d", [0.5, -1.0, 2.0, 4.0, float("nan"), 8.0])
+        whole = memoryview(held)
+        self.assertEqual(g.summary(whole[:4]), g.Summary(5.5, -1.0, 4.0, 4, 0, True))
+        self.assertEqual(g.summary(whole[3::-2]), g.Summary(3.0, -1.0, 4.0, 2, 0, True))
+        self.assertEqual(g.summary(whole[:0]), g.Summary(0.0, 0.0, 0.0, 0, 0, False))
+        self.assertEqual(g.summary(whole[4:5])[1:], (0.0, 0.0, 1, 1, False))
+        self.assertEqual(g.summary(whole[5:].cast("B").cast("d", ())).sum, 8.0)
+        self.assertEqual(g.summary(whole.toreadonly()[:2]).sum, -0.5)
+        # released: the array may grow again
+        whole.release()
+        held.append(1.0)
+
+    def test_what_is_no_double(self):
+        for cells in (array("f", [1.0]), array("q", [1]), b"12345678"):
+            with self.assertRaises(ValueError):
+                g.summary(memoryview(cells))
+        with self.assertRaises(ValueError):
+            g.summary(memoryview(bytearray(17))[1:].cast("d"))
+
+    def test_each_visit_counts(self):
+        self.assertEqual(g.summary_of((3, 4), (1, 0), [1.0, 2.0, 3.0]), g.Summary(24.0, 1.0, 3.0, 12, 0, True))
+        self.assertEqual(g.summary_of((3,), (-1,), [9.0, 1.0, 2.0, 3.0], 3), g.Summary(6.0, 1.0, 3.0, 3, 0, True))
 
 
 class Machines(unittest.TestCase):

@@ -19,7 +19,7 @@ from views import case  # noqa: E402
 
 class Pages(unittest.TestCase):
     def test_the_pages(self):
-        for page, least in (("docs/NUMPY.md", 20), ("README.md", 4)):
+        for page, least in (("docs/NUMPY.md", 20), ("docs/TOUR.md", 5), ("README.md", 4)):
             outcome = doctest.testfile(str(ROOT / page), module_relative=False)
             self.assertEqual(outcome.failed, 0)
             self.assertGreaterEqual(outcome.attempted, least)
@@ -47,6 +47,31 @@ class Views(unittest.TestCase):
                 again = np.empty_like(target)
                 g.copy(again, made.view)
                 self.assertEqual(again.tobytes(), made.view.tobytes(), made.how)
+
+    def test_sums_of_random_views(self):
+        rng = np.random.default_rng(5)
+        for _ in range(150):
+            view = case(rng).view
+            cells = rng.standard_normal(view.shape) * 1000
+            # the view's own strides, over doubles
+            step = view.dtype.itemsize
+            if all(stride % step == 0 for stride in view.strides):
+                below = sum((n - 1) * -s // step for n, s in zip(view.shape, view.strides) if s < 0 and n)
+                above = sum((n - 1) * s // step for n, s in zip(view.shape, view.strides) if s > 0 and n)
+                memory = rng.standard_normal(below + above + 1) * 1000
+                cells = np.lib.stride_tricks.as_strided(memory[below:], view.shape, [s // step * 8 for s in view.strides])
+            told, plan = g.summary(cells), g.plan(cells, purpose="F", chosen=0)
+            stride = plan.steps[0]
+            at = cells.__array_interface__["data"][0] // 8
+            base = cells if cells.base is None else memory
+            start = at - base.__array_interface__["data"][0] // 8
+            total = 0.0
+            for length, (offset,) in g.blocks(plan, (start,)):
+                for cell in base.reshape(-1)[offset + np.arange(length) * stride]:
+                    total += float(cell)
+            self.assertEqual((told.sum, told.count), (total, cells.size))
+            if cells.size:
+                self.assertEqual((told.least, told.greatest), (cells.min(), cells.max()))
 
     def test_numbers_of_numpy(self):
         told = g.Layout(np.array([2, 3]), np.array([8]), np.array([[1, 2]]))

@@ -161,6 +161,16 @@ static void copied_deep(void)
     answer = gougelily_copy(extents, 64, one, 2, turned, 128, fixed.line, fixed.cache, fixed.way, fixed.live, starts, 2,
                             to, sizeof to, from, sizeof from);
 }
+
+/* 16 axes of one operand, cut as deep as so few cells let it. */
+static void summarized(void)
+{
+    enum { AXES = 16 };
+    static gougelily_summary_t summary;
+    static double cells[512 * (64 + AXES) + 1];
+    answer = gougelily_summarize(deep.extents + 58 - AXES, AXES, deep.strides, AXES, &fixed, 0, cells,
+                                 sizeof cells / sizeof cells[0], &summary);
+}
 static void many(void)
 {
     answer = gougelily_step_many(plan.rank, plan.operands, plan.extents, plan.blocks, plan.strides, &walk.ended,
@@ -244,6 +254,7 @@ int main(void)
         {"gougelily_to_numpy", description},
         {"gougelily_copy, 64 by 64 cells, the exact mark", copied},
         {"gougelily_copy, 64 axes", copied_deep},
+        {"gougelily_summary", summarized},
     };
     int status = 0;
 

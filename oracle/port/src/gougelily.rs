@@ -54,6 +54,17 @@ pub fn linked() -> Result<(), String> {
     Err(crate::missing("GOUGELILY_LIB", "libgougelily.a"))
 }
 
+/// gougelily_summary_t
+#[derive(Clone, Copy, Debug, Default, PartialEq)]
+pub struct Summary {
+    pub sum: f64,
+    pub least: f64,
+    pub greatest: f64,
+    pub count: u64,
+    pub nans: u64,
+    pub extremes: u64,
+}
+
 #[cfg(gougelily_linked)]
 mod library {
     extern "C" {
@@ -180,6 +191,25 @@ mod library {
             text_length: usize,
             marks: *mut u8,
             mark_count: usize,
+        ) -> i64;
+        pub fn gougelily_summary(
+            extents: *const u64,
+            rank: usize,
+            strides: *const i64,
+            stride_count: usize,
+            line: u64,
+            cache: u64,
+            way: u64,
+            live: u64,
+            start: i64,
+            cells: *const f64,
+            cell_count: usize,
+            sum: *mut f64,
+            least: *mut f64,
+            greatest: *mut f64,
+            count: *mut u64,
+            nans: *mut u64,
+            extremes: *mut u64,
         ) -> i64;
     }
 }
@@ -364,6 +394,36 @@ faces! {
             text.len(),
             marks.as_mut_ptr(),
             marks.len(),
+        )
+    }
+
+    /// The summary of an operand's cells.
+    pub fn summary(
+        extents: &[u64],
+        strides: &[i64],
+        start: i64,
+        cells: &[f64],
+        summary: &mut Summary,
+    ) -> i64 {
+        library::gougelily_summary(
+            extents.as_ptr(),
+            extents.len(),
+            strides.as_ptr(),
+            strides.len(),
+            // the Rust's own four numbers
+            64,
+            32768,
+            4096,
+            6,
+            start,
+            cells.as_ptr(),
+            cells.len(),
+            &mut summary.sum,
+            &mut summary.least,
+            &mut summary.greatest,
+            &mut summary.count,
+            &mut summary.nans,
+            &mut summary.extremes,
         )
     }
 
