@@ -1,3 +1,4 @@
 pub mod Checks
+pub mod Lightness
 pub mod Trying
 pub mod Inserting
