@@ -63,7 +63,7 @@ axes-many zero e b ws h f = refl
 axes-many (suc n) e b ws h f =
     ap₂ (λ (w : ℕ) (r : List CutAxis). ax (getD e 0 0) w ∷ r) (f 0 (omega arith) ∙ rw h) (axes-rest (suc n) e b ws h n 1 (omega arith) (λ j l. f j (omega arith)))
 
-axes-are : (rank : ℕ) (e b ws : List ℕ) → rank ≤ length e → rank ≤ length b → ((j : ℕ) → j < rank → getD ws j 0 ≡ widthAt rank e b j)
+pub axes-are : (rank : ℕ) (e b ws : List ℕ) → rank ≤ length e → rank ≤ length b → ((j : ℕ) → j < rank → getD ws j 0 ≡ widthAt rank e b j)
     → axesAt e ws 0 rank ≡ cutAxes (take rank e) (take rank b)
 axes-are rank e b ws he hb f = go (leb rank 8) refl
   where

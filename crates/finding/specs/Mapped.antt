@@ -85,11 +85,14 @@ pub record Usable (es : List ℕ) (map : Map) : Type 0 where
   pub arrays : Sound es (map .order) (map .fused)
   pub rank-is : map .rank ≡ length (keptExtents (take (length es) (map .fused)))
 
+-- what index finding tells of a layout that is not refused
+abbrev pub foundOriginal : List ℕ → ℕ → List ℤ → Purpose → List ℕ → Told
+foundOriginal es m ss u cs = toldOr (refusedBy (row11 (extents (planAxes es m ss u)) cs ∷ [])) (originalIndex es m ss u cs)
+
 -- the index that is told is index finding's, of whatever layout it is the map
 abbrev pub TellsOriginal : List ℕ → Map → List ℕ → List ℕ → List ℕ → List ℕ → List ℕ → Answer → Type 0
 TellsOriginal es map cs c x c′ x′ r =
-    (m : ℕ) (ss : List ℤ) (u : Purpose) → Mapped es m ss u map
-    → Leaves (toldOr (refusedBy (row11 (extents (planAxes es m ss u)) cs ∷ [])) (originalIndex es m ss u cs)) c x c′ x′ r
+    (m : ℕ) (ss : List ℤ) (u : Purpose) → Mapped es m ss u map → Leaves (foundOriginal es m ss u cs) c x c′ x′ r
 
 abbrev pub TellsPlan : List ℕ → Map → List ℕ → List ℕ → List ℕ → List ℕ → List ℕ → Answer → Type 0
 TellsPlan es map is c x c′ x′ r =

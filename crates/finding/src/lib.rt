@@ -6,7 +6,7 @@ ghost use lib.ListN.{length, take, replicate};
 ghost use Rattle.strided.specs.Layout.{total};
 ghost use Rattle.strided.specs.Index.{toldOriginal, toldPlan};
 ghost use Rattle.auxiliary.specs.Fitting.{Fitting};
-ghost use Rattle.finding.specs.Mapped.{Fused, Mapped, Sound, Usable, keptExtents, unraveledBy, raveledBy, TellsOriginal, TellsPlan};
+ghost use Rattle.finding.specs.Mapped.{Fused, Mapped, Sound, Usable, keptExtents, unraveledBy, raveledBy, foundOriginal, TellsOriginal, TellsPlan};
 ghost use Rattle.finding.specs.Memory.{Leaves};
 use layout::check_layout;
 use strided::Answer;
@@ -147,6 +147,27 @@ pub fn in_plan(
 
 // ---- the entries
 
+// The original index of a plan index, for whoever has checked the layout: row 11 alone is judged.
+pub fn original_of(
+    extents: &[u64],
+    strides: &[i64],
+    operands: usize,
+    purpose: Purpose,
+    counters: &[u64],
+    count: &mut [usize; 1],
+    index: &mut [u64; 64],
+) -> Answer
+    requires layout { ⌜ Fitting (now strides) (length (now extents)) operands ⌝ }
+    requires total { ⌜ total (now extents) < 2 ^ 64 ⌝ }
+    ensures { λ r. ⌜ Leaves (foundOriginal (now (extents .entry)) operands (now (strides .entry)) purpose (now (counters .entry)))
+        (now (count .entry)) (now (index .entry)) (now (count .exit)) (now (index .exit)) r ⌝ }
+{
+    let mut order = [0usize; 64];
+    let mut fused = [0u64; 64];
+    map_into(extents, strides, operands, purpose, &mut order, &mut fused);
+    original_by(extents, &order, &fused, counters, count, index)
+}
+
 // The original index of a plan index in lent memory: rows 1 to 6, then 11.
 pub fn original_index_into<'a>(
     extents: &'a [u64],
@@ -163,19 +184,15 @@ pub fn original_index_into<'a>(
     let answer = check_layout(extents, sizes, strides, purpose);
     match answer {
         Answer::Refused(refusal) => answer,
-        Answer::Served => {
-            let mut order = [0usize; 64];
-            let mut fused = [0u64; 64];
-            map_into(
-                extents,
-                strides,
-                sizes.len(),
-                purpose,
-                &mut order,
-                &mut fused,
-            );
-            original_by(extents, &order, &fused, counters, count, index)
-        }
+        Answer::Served => original_of(
+            extents,
+            strides,
+            sizes.len(),
+            purpose,
+            counters,
+            count,
+            index,
+        ),
     }
 }
 

@@ -7,6 +7,7 @@ pub mod Bits
 pub mod Signs
 pub mod Ranges
 pub mod Sums
+pub mod Positions
 pub mod Counting
 pub mod Trace
 pub mod Arrays

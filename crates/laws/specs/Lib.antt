@@ -19,6 +19,7 @@
 --   a number of 32 bits stands for a byte stride of any size           Cut/Image          cutting-exact, fitted-exact
 --   cover: each index is a cell of the blocks exactly once             Walk/Cover         met-once, met-within
 --   the Z figures: number of blocks, sum of their lengths              Walk/Totals        blocks-number, blocks-total, cells-total, plan-cells
+--   the number of a block from its counters: its place, and its bounds Walk/Counted, Walk/Number  number-nth, counters-once, number-after; number-fits
 --   chain: the successor hands out the blocks in order                 Walk/Chain         chain
 --   reach: the counters that a walk comes to                           Walk/Reach         reach, state-nth
 --   row 9 applies exactly if some offset leaves 64-bit signed          Walk/Row9          row9-leaves; of one operand row9-exact

@@ -13,3 +13,5 @@ pub mod Row9
 pub mod Row10
 pub mod Bulk
 pub mod Placed
+pub mod Number
+pub mod Counted

@@ -249,6 +249,9 @@ module _ (p : Plan) (w : Walk) (k : Taken p w) where
     pub block-here : stepped p w .answer ≡ Block
     block-here = ap (λ (s : Stepped). s .answer) step-here
 
+    pub counters-here : stepped p w .counters ≡ w .counters
+    counters-here = ap (λ (s : Stepped). s .counters) step-here ∙ ap (λ (v : Walk). v .counters) (sym (q .here))
+
     pub offsets-here : stepped p w .offsets ≡ w .offsets
     offsets-here = ap (λ (s : Stepped). s .offsets) step-here ∙ ap (λ (v : Walk). v .offsets) (sym (q .here))
 

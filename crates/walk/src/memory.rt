@@ -45,7 +45,7 @@ pub fn plan_of<'a>(
 }
 
 // The block at the counters, and the state at the next one, in the lent arrays. It checks nothing.
-fn block_into<'a>(
+pub fn block_into<'a>(
     rank: usize,
     operands: usize,
     extents: &'a [u64; 64],

@@ -26,7 +26,7 @@ trace-run (suc (suc n)) s end m h k e =
     let q : suc s < end = omega arith in
     (e, trace-run (suc n) (suc s) end (nextIn end s) (omega arith) (omega arith) (rw (lt-ltb (suc s) end q)))
 
-starts-none : (f e w s : ℕ) → e ≤ s → startsFrom f e w s ≡ []
+pub starts-none : (f e w s : ℕ) → e ≤ s → startsFrom f e w s ≡ []
 starts-none zero e w s h = refl
 starts-none (suc f) e w s h = rw (le-ltb s e h)
 

@@ -136,7 +136,7 @@ module _ (p : Plan) (zs : List ℤ) (r : Ready p zs) where
   pub step-at : (n : ℕ) (m : Option (List ℕ)) → stateAfter (planCutAxes p) n ≡ m → stepped p (packed (at m)) ≡ handedOut (raw m)
   step-at n m e = step-packed (at m) (counters-many n m e) (offsets-many n m e) ∙ ap handedOut (step-raw n m e)
 
-  raw-walk : (m : Option (List ℕ)) → handedOut (raw m) .walk ≡ packed (at (andThen (next (planCutAxes p)) m))
+  pub raw-walk : (m : Option (List ℕ)) → handedOut (raw m) .walk ≡ packed (at (andThen (next (planCutAxes p)) m))
   raw-walk none = refl
   raw-walk (some c) = refl
 

@@ -34,14 +34,14 @@ blockCount [] = 1
 blockCount (ax e w ∷ axs) = length (startsOf e w) * cellCount axs
 
 -- the tiles of one axis are as long together as the axis
-lens : (e w : ℕ) → 0 < w → sum (startsOf e w) (λ s. lenAt e w s) ≡ e
+pub lens : (e w : ℕ) → 0 < w → sum (startsOf e w) (λ s. lenAt e w s) ≡ e
 lens e w hw =
     sum-cong (startsOf e w) (λ s. lenAt e w s) (λ s. sum (run s (lenAt e w s)) (λ k. 1)) (λ s. sym (sum-ones (run s (lenAt e w s)) ∙ length-run s (lenAt e w s)))
     ∙ sym (sum-over (startsOf e w) (λ s. run s (lenAt e w s)) (λ k. 1))
     ∙ ap (λ l. sum l (λ k. 1)) (tiles-run e e w 0 hw (omega arith))
     ∙ sum-ones (run 0 (e - 0)) ∙ length-run 0 (e - 0) ∙ sub-zero e
 
-inner-size : (e w : ℕ) (axs : List CutAxis) (s : ℕ) (t : List ℕ)
+pub inner-size : (e w : ℕ) (axs : List CutAxis) (s : ℕ) (t : List ℕ)
     → sum (inner (ax e w ∷ axs) (s ∷ t)) (λ v. 1) ≡ lenAt e w s * sum (inner axs t) (λ v. 1)
 inner-size e w axs s t =
     sum-over (inner axs t) (λ v. map (λ k. k ∷ v) (run s (lenAt e w s))) (λ v. 1)

@@ -1,0 +1,71 @@
+// The number of a block, told from a walk's counters: one pass over the axes, the outermost first.
+ghost use mathlib.Core.Path.{_≡_};
+ghost use Prim.Native.Nat.{min};
+ghost use lib.ListN.{take};
+ghost use Rattle.strided.specs.Walk.{cutAxes};
+ghost use Rattle.views.specs.Number.{blockNumber};
+ghost use Rattle.views.specs.Tally.{tallied, numbered, Room, First, Countable};
+use advance::width_of;
+
+// Of the axes from some axis on: how many indices the tiles before have, how many this tile has, and the place among these.
+pub struct Tally {
+    pub before: u64,
+    pub size: u64,
+    pub place: u64,
+}
+
+fn least(a: u64, b: u64) -> u64
+    ensures { λ r. ⌜ r ≡ min a b ⌝ }
+{
+    if a < b { a } else { b }
+}
+
+// The same with one axis more, inside those.
+fn tally_axis(extent: u64, width: u64, at: u64, t: Tally) -> Tally
+    requires { ⌜ Room extent width at t ⌝ }
+    ensures { λ r. ⌜ r ≡ tallied extent width at t ⌝ }
+{
+    let start = at / width * width;
+    let len = least(width, extent - start);
+    let before = extent * t.before + start * t.size;
+    let size = len * t.size;
+    let place = len * t.place + (at - start);
+    Tally {
+        before: before,
+        size: size,
+        place: place,
+    }
+}
+
+// Axis 0 counts by whole tiles.
+fn number_first(extent: u64, width: u64, at: u64, t: Tally) -> u64
+    requires { ⌜ First extent width at t ⌝ }
+    ensures { λ r. ⌜ r ≡ numbered extent width at t ⌝ }
+{
+    let tiles = (extent - 1) / width + 1;
+    tiles * t.before + at / width * t.size + t.place
+}
+
+// How many blocks come before the one at the counters `c`, on the extents and block sizes of a plan.
+pub fn number_of<'a>(rank: usize, e: &'a [u64; 64], b: &'a [u64; 64], c: &'a [u64; 64]) -> u64
+    requires { ⌜ Countable rank (now e) (now b) (now c) ⌝ }
+    ensures { λ r. ⌜ r ≡ blockNumber (cutAxes (take rank (now (e .entry))) (take rank (now (b .entry)))) (take rank (now (c .entry))) ⌝ }
+{
+    if rank == 0 {
+        return 0;
+    }
+    let mut t = Tally {
+        before: 0,
+        size: 1,
+        place: 0,
+    };
+    let mut i = rank;
+    while 1 < i {
+        i -= 1;
+        let width = width_of(rank, i, e[i], b[i]);
+        let more = tally_axis(e[i], width, c[i], t);
+        t = more;
+    }
+    let width = width_of(rank, 0, e[0], b[0]);
+    number_first(e[0], width, c[0], t)
+}
