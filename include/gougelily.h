@@ -225,6 +225,23 @@ typedef struct gougelily_windowed_t {
     int64_t shifts[GOUGELILY_MAX_OPERANDS];
 } gougelily_windowed_t;
 
+/*
+ * The record of a visit, from which both views are taken: the block's number,
+ * the block, and the original index of its first cell.
+ */
+typedef struct gougelily_visit_t {
+    uint64_t number;
+    gougelily_block_t block;
+    gougelily_index_t first;
+} gougelily_visit_t;
+
+/* What a student sees of a visit. There is no offset, no stride and no counter in it. */
+typedef struct gougelily_student_t {
+    uint64_t number;
+    uint64_t length;
+    gougelily_index_t first;
+} gougelily_student_t;
+
 /* ------------------------------------------------------------ functions on the structs */
 
 /*
@@ -345,6 +362,36 @@ static inline int64_t gougelily_step_walk_many(const gougelily_plan_t *plan, gou
 static inline int64_t gougelily_copy_cells(const gougelily_layout_t *layout, const gougelily_machine_t *machine,
                                            const int64_t *starts, size_t start_count, uint8_t *destination,
                                            size_t destination_len, const uint8_t *source, size_t source_len);
+
+/*
+ * A visit: one step of a walk, with its record.
+ *
+ * Takes the layout with its purpose, a plan of it, and the walk, which the call
+ * moves on. The plan's block sizes may be any.
+ * Answers 1, the record and the walk's state after the block. The number is that
+ * of a B line: how many blocks come before this one. It is worked out from the
+ * walk's counters, so steps and visits may be mixed.
+ * Answers 0 after the last block, as often as it is asked: then walk and record
+ * are as they were.
+ * Refuses 1, 2, 3, 4, 5, 6, 10, 11. Rows 1 and 2 are judged on the layout and on
+ * the plan. 11 says that the block's first cell is no cell of the layout's plan,
+ * which happens only with a plan that is not the layout's.
+ */
+static inline int64_t gougelily_next_visit(const gougelily_layout_t *layout, const gougelily_plan_t *plan,
+                                           gougelily_walk_t *walk, gougelily_visit_t *visit);
+
+/* What an engineer sees of a visit: the block, as gougelily_step_walk hands it out. Answers 0. */
+static inline int64_t gougelily_engineer_view(const gougelily_visit_t *visit, gougelily_block_t *block);
+
+/*
+ * What a student sees of a visit: its number, its length and the original index
+ * of its first cell. Walks of one plan from other starts show the student the
+ * same. By the layout's strides the index gives the engineer's offsets, less the
+ * starts, of the block of that number.
+ *
+ * Answers 0, whatever the record holds: a count above 64 is read as 64.
+ */
+static inline int64_t gougelily_student_view(const gougelily_visit_t *visit, gougelily_student_t *student);
 
 /* ------------------------------------------------------------ functions on texts and one operand */
 
@@ -550,6 +597,32 @@ int64_t gougelily_summary(const uint64_t *extents, size_t extent_count, const in
                           const double *cells, size_t cell_count, double sum[1], double least[1], double greatest[1],
                           uint64_t count[1], uint64_t nans[1], uint64_t extremes[1]);
 
+/* gougelily_next_visit */
+int64_t gougelily_visit(const uint64_t *extents, size_t extent_count, const uint64_t *sizes, size_t size_count,
+                        const int64_t *strides, size_t stride_count, uint64_t purpose, uint64_t chosen, size_t rank,
+                        size_t operands, const uint64_t plan_extents[GOUGELILY_MAX_RANK],
+                        const uint64_t blocks[GOUGELILY_MAX_RANK], const int64_t plan_strides[GOUGELILY_PLAN_STRIDES],
+                        uint64_t ended[1], uint64_t counters[GOUGELILY_MAX_RANK],
+                        int64_t offsets[GOUGELILY_MAX_OPERANDS], uint64_t number[1],
+                        uint64_t block_counters[GOUGELILY_MAX_RANK], uint64_t length[1],
+                        int64_t block_offsets[GOUGELILY_MAX_OPERANDS], int64_t block_strides[GOUGELILY_MAX_OPERANDS],
+                        size_t count[1], uint64_t index[GOUGELILY_MAX_RANK]);
+
+/* gougelily_engineer_view */
+int64_t gougelily_engineer(uint64_t number, const uint64_t counters[GOUGELILY_MAX_RANK], uint64_t length,
+                           const int64_t offsets[GOUGELILY_MAX_OPERANDS], const int64_t strides[GOUGELILY_MAX_OPERANDS],
+                           size_t count, const uint64_t index[GOUGELILY_MAX_RANK],
+                           uint64_t engineer_counters[GOUGELILY_MAX_RANK], uint64_t engineer_length[1],
+                           int64_t engineer_offsets[GOUGELILY_MAX_OPERANDS],
+                           int64_t engineer_strides[GOUGELILY_MAX_OPERANDS]);
+
+/* gougelily_student_view */
+int64_t gougelily_student(uint64_t number, const uint64_t counters[GOUGELILY_MAX_RANK], uint64_t length,
+                          const int64_t offsets[GOUGELILY_MAX_OPERANDS], const int64_t strides[GOUGELILY_MAX_OPERANDS],
+                          size_t count, const uint64_t index[GOUGELILY_MAX_RANK], uint64_t student_number[1],
+                          uint64_t student_length[1], size_t student_count[1],
+                          uint64_t student_index[GOUGELILY_MAX_RANK]);
+
 /* ------------------------------------------------------------ older names */
 
 /* They stay; new programs take the names on the right, which are those of the raw functions. */
@@ -663,6 +736,30 @@ static inline int64_t gougelily_summarize(const uint64_t *extents, size_t rank, 
     return gougelily_summary(extents, rank, strides, stride_count, machine->line, machine->cache, machine->way,
                              machine->live, start, cells, cell_count, &summary->sum, &summary->least,
                              &summary->greatest, &summary->count, &summary->nans, &summary->extremes);
+}
+
+static inline int64_t gougelily_next_visit(const gougelily_layout_t *layout, const gougelily_plan_t *plan,
+                                           gougelily_walk_t *walk, gougelily_visit_t *visit)
+{
+    return gougelily_visit(layout->extents, layout->rank, layout->sizes, layout->operands, layout->strides,
+                           layout->stride_count, layout->purpose, layout->chosen, plan->rank, plan->operands,
+                           plan->extents, plan->blocks, plan->strides, &walk->ended, walk->counters, walk->offsets,
+                           &visit->number, visit->block.counters, &visit->block.length, visit->block.offsets,
+                           visit->block.strides, &visit->first.count, visit->first.places);
+}
+
+static inline int64_t gougelily_engineer_view(const gougelily_visit_t *visit, gougelily_block_t *block)
+{
+    return gougelily_engineer(visit->number, visit->block.counters, visit->block.length, visit->block.offsets,
+                              visit->block.strides, visit->first.count, visit->first.places, block->counters,
+                              &block->length, block->offsets, block->strides);
+}
+
+static inline int64_t gougelily_student_view(const gougelily_visit_t *visit, gougelily_student_t *student)
+{
+    return gougelily_student(visit->number, visit->block.counters, visit->block.length, visit->block.offsets,
+                             visit->block.strides, visit->first.count, visit->first.places, &student->number,
+                             &student->length, &student->first.count, student->first.places);
 }
 
 #ifdef __cplusplus

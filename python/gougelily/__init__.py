@@ -24,6 +24,7 @@ from .layout import Layout, repeat_mark
 from .library import version
 from .machine import FIXED, Machine, machine
 from .planning import Plan, original_index, plan, plan_index, plan_layout
+from .readers import Student, Views, visits
 from .refusals import REFUSALS, Refused, refusal_text
 from .summaries import Summary, summary, summary_of
 from .texts import NotInForm, read_layout, walklist, write_layout
@@ -43,8 +44,10 @@ __all__ = [
     "REFUSALS",
     "Refused",
     "Run",
+    "Student",
     "Summary",
     "VERDICTS",
+    "Views",
     "Visit",
     "Walk",
     "Windowed",
@@ -67,6 +70,7 @@ __all__ = [
     "summary_of",
     "to_numpy",
     "version",
+    "visits",
     "walklist",
     "window",
     "write_layout",

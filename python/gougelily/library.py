@@ -28,6 +28,8 @@ F64S = ctypes.POINTER(F64)
 LAYOUT = [U64S, SIZE, U64S, SIZE, I64S, SIZE, U64, U64]
 PLAN = [SIZE, SIZE, U64S, U64S, I64S]
 WALK = [U64S, U64S, I64S]
+BLOCK = [U64S, U64S, I64S, I64S]
+RECORD = [U64, U64S, U64, I64S, I64S, SIZE, U64S]
 
 FUNCTIONS: dict[str, list[Any]] = {
     "gougelily_version": [],
@@ -38,6 +40,9 @@ FUNCTIONS: dict[str, list[Any]] = {
     "gougelily_begin": [*PLAN, I64S, SIZE, *WALK],
     "gougelily_step": [*PLAN, *WALK, U64S, U64S, I64S, I64S],
     "gougelily_step_many": [*PLAN, *WALK, U64S, SIZE, I64S, SIZE],
+    "gougelily_visit": [*LAYOUT, *PLAN, *WALK, U64S, *BLOCK, SIZES, U64S],
+    "gougelily_engineer": [*RECORD, *BLOCK],
+    "gougelily_student": [*RECORD, U64S, U64S, SIZES, U64S],
     "gougelily_window": [*LAYOUT[:6], U64S, SIZE, U64S, SIZE, I64S, SIZE, U64S, I64S, I64S],
     "gougelily_copy": [*LAYOUT[:6], U64, U64, U64, U64, I64S, SIZE, ctypes.c_void_p, SIZE, ctypes.c_void_p, SIZE],
     "gougelily_repeat_mark": [U64S, SIZE, I64S, SIZE],
@@ -71,6 +76,18 @@ class BlockMemory(ctypes.Structure):
     """gougelily_block_t, with `length` as an array of one place"""
 
     _fields_ = [("counters", U64 * MAX_RANK), ("length", U64 * 1), ("offsets", I64 * MAX_OPERANDS), ("strides", I64 * MAX_OPERANDS)]
+
+
+class IndexMemory(ctypes.Structure):
+    """gougelily_index_t, with `count` as an array of one place"""
+
+    _fields_ = [("count", SIZE * 1), ("places", U64 * MAX_RANK)]
+
+
+class VisitMemory(ctypes.Structure):
+    """gougelily_visit_t, with `number` as an array of one place"""
+
+    _fields_ = [("number", U64 * 1), ("block", BlockMemory), ("first", IndexMemory)]
 
 
 def sought(name: str) -> Iterable[str]:

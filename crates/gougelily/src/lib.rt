@@ -13,5 +13,6 @@ pub mod plans;
 pub mod summaries;
 pub mod texts;
 pub mod versions;
+pub mod visits;
 pub mod walks;
 pub mod windows;
