@@ -23,9 +23,9 @@ pub struct Row {
 }
 
 /// Steps from a walk's beginning, so that one walk is long enough.
-const STEPS: usize = 64;
+pub const STEPS: usize = 64;
 
-fn begun(plan: &Plan) -> State {
+pub fn begun(plan: &Plan) -> State {
     let mut state = State {
         ended: [0],
         counters: [0; 64],

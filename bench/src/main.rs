@@ -12,6 +12,7 @@ mod planning;
 mod summing;
 mod texts;
 mod timing;
+mod visits;
 mod walking;
 mod windows;
 
@@ -23,8 +24,8 @@ use tools::options::{end, unknown, Options};
 const HELP: &str = "\
 bench: times the port and the original, and prints the ratios as tables
 
-  --only WHAT      only this table: planning, windows, walking, finding, marks, texts,
-                   judging, summing or parts; may be repeated
+  --only WHAT      only this table: planning, windows, walking, finding, visits, marks,
+                   texts, judging, summing or parts; may be repeated
   --runs N         short runs of each side, of which the best counts (2000)
   --seed S         the seed of the layouts for parts (0)
   --instructions   count instructions of planning too, with valgrind
@@ -131,6 +132,25 @@ fn finding_table(asked: &Asked, out: &mut impl Write) -> Result<(), String> {
         text += &format!(
             "| {} | {} | {} | {:.0} | {:.0} | {:.0} | {:.0} |\n",
             row.name, row.operands, row.rank, row.original, row.in_plan, row.step, row.plan
+        );
+    }
+    text.push('\n');
+    put(out, &text)
+}
+
+fn visits_table(asked: &Asked, out: &mut impl Write) -> Result<(), String> {
+    let head =
+        "| layout | operands | axes of the plan | step and original index ns | visit ns | ratio |";
+    let mut text = format!("## Visits\n\n{head}\n|---|---|---|---|---|---|\n");
+    for row in visits::times(asked.runs) {
+        text += &format!(
+            "| {} | {} | {} | {:.0} | {:.0} | {} |\n",
+            row.name,
+            row.operands,
+            row.rank,
+            row.apart,
+            row.visit,
+            shown(row.visit / row.apart)
         );
     }
     text.push('\n');
@@ -244,7 +264,7 @@ fn run() -> Result<(), String> {
         }
     }
     if [
-        "planning", "windows", "walking", "finding", "marks", "texts", "judging", "summing",
+        "planning", "windows", "walking", "finding", "visits", "marks", "texts", "judging", "summing",
     ]
     .iter()
     .any(|what| asked.wants(what))
@@ -265,6 +285,9 @@ fn run() -> Result<(), String> {
     }
     if asked.wants("finding") {
         finding_table(&asked, &mut out)?;
+    }
+    if asked.wants("visits") {
+        visits_table(&asked, &mut out)?;
     }
     if asked.wants("marks") {
         marks_table(&asked, &mut out)?;

@@ -12,6 +12,8 @@
  * - layouts at random, copied: the destination's cells are the source's, and
  *   every other byte is as it was;
  * - cells at random, summed again in the order of the walk's blocks, bit by bit;
+ * - visits: each is the step, with its number and the index of its first cell,
+ *   and both views say what the record says;
  * - plans and states at random, whatever they hold: a call ends with an answer.
  * After every call its inputs are as they were, after a refusal its outputs too.
  */
@@ -37,7 +39,7 @@ static void fail(const char *what)
 
 /* ------------------------------------------------------------ lent memory */
 
-enum { ROOM = 8192, GUARD = 0xa5, MOST_AREAS = 12 };
+enum { ROOM = 8192, GUARD = 0xa5, MOST_AREAS = 16 };
 
 static struct area {
     unsigned char *bytes; /* ROOM bytes between two pages that cannot be touched */
@@ -208,6 +210,43 @@ static int64_t step_of(const gougelily_plan_t *p, gougelily_walk_t *w, gougelily
     CHECK(answer == 1 || answer == 0 || answer == -1 || answer == -2 || answer == -10);
     settle(3, answer == 1);
     return answer;
+}
+
+static int64_t visit_of(const struct layout *l, const gougelily_plan_t *p, gougelily_walk_t *w, gougelily_visit_t *v)
+{
+    const uint64_t *x = lend(l->extents, l->rank * 8), *z = lend(l->sizes, l->operands * 8);
+    const int64_t *d = lend(l->strides, l->stride_count * 8);
+    const uint64_t *e = LEND(p->extents), *b = LEND(p->blocks);
+    const int64_t *s = LEND(p->strides);
+    uint64_t *ended = LEND(w->ended), *counters = LEND(w->counters);
+    int64_t *offsets = LEND(w->offsets);
+    uint64_t *number = LEND(v->number), *block_counters = LEND(v->block.counters), *length = LEND(v->block.length);
+    int64_t *block_offsets = LEND(v->block.offsets), *block_strides = LEND(v->block.strides);
+    size_t *count = LEND(v->first.count);
+    uint64_t *places = LEND(v->first.places);
+    int64_t answer = gougelily_visit(x, l->rank, z, l->operands, d, l->stride_count, l->purpose, l->chosen, p->rank,
+                                     p->operands, e, b, s, ended, counters, offsets, number, block_counters, length,
+                                     block_offsets, block_strides, count, places);
+    TAKE(w->ended, ended), TAKE(w->counters, counters), TAKE(w->offsets, offsets);
+    TAKE(v->number, number), TAKE(v->block.counters, block_counters), TAKE(v->block.length, length);
+    TAKE(v->block.offsets, block_offsets), TAKE(v->block.strides, block_strides);
+    TAKE(v->first.count, count), TAKE(v->first.places, places);
+    CHECK(answer == 1 || answer == 0 || (answer < 0 && answer >= -6) || answer == -10 || answer == -11);
+    settle(6, answer == 1);
+    return answer;
+}
+
+/* Both views are what the record says, over memory that held anything. */
+static void see(const gougelily_visit_t *v, gougelily_student_t *student)
+{
+    gougelily_block_t block;
+    const size_t count = v->first.count < 64 ? v->first.count : 64;
+    memset(&block, 0x77, sizeof block), memset(student, 0x77, sizeof *student);
+    CHECK(gougelily_engineer_view(v, &block) == 0 && memcmp(&block, &v->block, sizeof block) == 0);
+    CHECK(gougelily_student_view(v, student) == 0 && student->number == v->number && student->length == v->block.length);
+    CHECK(student->first.count == count && memcmp(student->first.places, v->first.places, 8 * count) == 0);
+    for (size_t i = count; i < GOUGELILY_MAX_RANK; i++)
+        CHECK(student->first.places[i] == 0);
 }
 
 /* Room for some blocks, whatever the number of operands. */
@@ -662,6 +701,41 @@ static void known_summaries(void)
     CHECK(gougelily_summarize(NULL, 0, NULL, 0, &fixed, 0, NULL, 0, &y) == -GOUGELILY_SLICE);
 }
 
+static void known_visits(void)
+{
+    const struct layout l = two(3, 3, 1, 10, 1, 10, GOUGELILY_POINTWISE), other = two(3, 2, 1, 10, 1, 10, GOUGELILY_POINTWISE);
+    static const uint64_t firsts[6][3] = {{2, 0, 0}, {2, 0, 1}, {1, 2, 0}, {1, 2, 1}, {2, 0, 2}, {1, 2, 2}};
+    const int64_t starts[2] = {5, INT64_C(1) << 50};
+    gougelily_plan_t p = {0};
+    gougelily_walk_t w = {0}, held;
+    gougelily_visit_t v, kept;
+    gougelily_student_t s;
+    CHECK(plan_of(&l, &p) == 0 && p.rank == 2);
+    p.blocks[0] = p.blocks[1] = 2;
+    CHECK(begin_of(&p, starts, 2, &w) == 0);
+    for (uint64_t n = 0; n < 6; n++) {
+        memset(&v, 0x33, sizeof v);
+        CHECK(visit_of(&l, &p, &w, &v) == 1);
+        see(&v, &s);
+        CHECK(s.number == n && s.length == firsts[n][0] && s.first.count == 2);
+        CHECK(s.first.places[0] == firsts[n][1] && s.first.places[1] == firsts[n][2]);
+        CHECK(v.block.offsets[1] == starts[1] + (int64_t)(firsts[n][1] + 10 * firsts[n][2]));
+    }
+    kept = v, held = w;
+    CHECK(visit_of(&l, &p, &w, &v) == 0 && visit_of(&l, &p, &w, &v) == 0);
+    CHECK(memcmp(&kept, &v, sizeof v) == 0 && memcmp(&held, &w, sizeof w) == 0);
+    /* 11 on a layout that has no such row, 10 before it, 1 and 2 of the plan before the layout's rows */
+    CHECK(begin_of(&p, starts, 2, &w) == 0);
+    w.counters[1] = 2, w.offsets[0] += 20, w.offsets[1] += 20;
+    CHECK(visit_of(&other, &p, &w, &v) == -GOUGELILY_INDEX);
+    w.counters[0] = 1;
+    CHECK(visit_of(&other, &p, &w, &v) == -GOUGELILY_STATE);
+    p.operands = 9;
+    CHECK(visit_of(&other, &p, &w, &v) == -GOUGELILY_OPERANDS);
+    p.rank = 65;
+    CHECK(visit_of(&other, &p, &w, &v) == -GOUGELILY_RANK);
+}
+
 /* ------------------------------------------------------------ numbers at random */
 
 static uint64_t state = 1;
@@ -880,7 +954,20 @@ static void walk_layout(const struct layout *l)
     for (uint64_t calls = 0; calls < 20 && !w.ended; calls++)
         call_many(&p, &w);
     CHECK(begin_of(&p, starts, p.operands, &w) == 0);
-    while (step_of(&p, &w, &b) == 1) {
+    gougelily_walk_t visited = w;
+    for (uint64_t number = 0; step_of(&p, &w, &b) == 1; number++) {
+        gougelily_visit_t seen_now;
+        gougelily_student_t student;
+        make_wild(&seen_now, sizeof seen_now / 8);
+        CHECK(visit_of(l, &p, &visited, &seen_now) == 1 && memcmp(&visited, &w, sizeof w) == 0);
+        CHECK(seen_now.number == number && memcmp(&seen_now.block, &b, sizeof b) == 0 && seen_now.first.count == l->rank);
+        see(&seen_now, &student);
+        for (size_t k = 0; k < l->operands; k++) {
+            int64_t offset = starts[k];
+            for (size_t i = 0; i < l->rank; i++)
+                offset += (int64_t)student.first.places[i] * l->strides[k * l->rank + i];
+            CHECK(offset == b.offsets[k]);
+        }
         CHECK(b.length > 0 && (p.rank == 0 ? b.length == 1 : b.counters[0] + b.length <= p.extents[0]));
         CHECK(blank(b.counters, p.rank, 64) && blank(b.offsets, p.operands, 8) && blank(b.strides, p.operands, 8));
         for (uint64_t cell = 0; cell < b.length; cell++)
@@ -1126,6 +1213,24 @@ static void any_summary(const struct layout *from)
 
 /* ------------------------------------------------------------ plans and states at random */
 
+/* A visit, whatever layout, plan and state are: a step that is refused is refused so, and a record that is handed out is the step's. */
+static void any_visit(const struct layout *l, const gougelily_plan_t *p, gougelily_walk_t w)
+{
+    gougelily_walk_t same = w;
+    gougelily_block_t b = {0};
+    gougelily_visit_t v;
+    gougelily_student_t s;
+    make_wild(&v, sizeof v / 8);
+    see(&v, &s);
+    const int64_t answer = visit_of(l, p, &w, &v), step = step_of(p, &same, &b), checked = check_of(l);
+    CHECK(checked == 0 ? answer == step || (step == 1 && answer == -GOUGELILY_INDEX) : answer < 0 && answer >= checked);
+    if (answer == 1) {
+        CHECK(memcmp(&v.block, &b, sizeof b) == 0 && memcmp(&w, &same, sizeof w) == 0 && v.first.count == l->rank);
+        see(&v, &s);
+    }
+    refusals_met += answer < 0;
+}
+
 /* A few steps, whatever plan and state are. */
 static void steps(const gougelily_plan_t *p, gougelily_walk_t *w)
 {
@@ -1144,7 +1249,7 @@ static void steps(const gougelily_plan_t *p, gougelily_walk_t *w)
     }
 }
 
-static void garbage_plan(void)
+static void garbage_plan(const struct layout *l)
 {
     gougelily_plan_t p = {0};
     gougelily_walk_t w = {0};
@@ -1170,6 +1275,7 @@ static void garbage_plan(void)
     make_wild(&w.ended, 1);
     make_wild(w.counters, below(2) || p.rank > 64 ? GOUGELILY_MAX_RANK : p.rank);
     make_wild(w.offsets, below(2) || p.operands > 8 ? GOUGELILY_MAX_OPERANDS : p.operands);
+    any_visit(l, &p, w);
     steps(&p, &w);
 }
 
@@ -1204,6 +1310,7 @@ static void one_number_changed(const struct layout *l)
     default:
         w.ended = z;
     }
+    any_visit(l, &p, w);
     steps(&p, &w);
 }
 
@@ -1221,6 +1328,7 @@ int main(int argc, char **argv)
     known_descriptions();
     known_copies();
     known_summaries();
+    known_visits();
     for (round_number = 1; round_number <= rounds; round_number++) {
         struct layout l = tame(), g = garbage();
         gougelily_plan_t p = {0};
@@ -1235,7 +1343,7 @@ int main(int argc, char **argv)
         garbage_copy(&g);
         any_summary(&l);
         one_number_changed(&l);
-        garbage_plan();
+        garbage_plan(below(2) ? &l : &g);
         refusals_met += plan_of(&g, &p) < 0;
         refusals_met += plan_on(&g, any_machine(), &p) < 0;
         make_wild(counters, 4);

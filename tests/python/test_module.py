@@ -340,6 +340,38 @@ class Summaries(unittest.TestCase):
         self.assertEqual(g.summary_of((3,), (-1,), [9.0, 1.0, 2.0, 3.0], 3), g.Summary(6.0, 1.0, 3.0, 3, 0, True))
 
 
+class Readers(unittest.TestCase):
+    def test_two_laboratories(self):
+        layout = g.Layout((4, 3), (8, 8), ((1, 4), (3, 1)), "P", 0)
+        plan = g.Plan((4, 3), (2, 2), ((1, 4), (3, 1)))
+        here, there = (list(g.visits(layout, plan, starts)) for starts in ((0, 0), (5000, 900)))
+        self.assertEqual([views.student for views in here], [views.student for views in there])
+        self.assertEqual(here[2].student, (2, 2, (2, 0)))
+        self.assertEqual(there[2].engineer.offsets, (5002, 906))
+        walk = g.Walk(plan, (5000, 900))
+        self.assertEqual([views.engineer for views in there], [walk.step() for _ in there])
+        self.assertEqual([views.student.number for views in here], list(range(6)))
+
+    def test_numbers_are_those_of_b_lines(self):
+        told = g.read_layout("L,P,2,2,0\nE,40,40\nO,8,1,40\nO,8,40,1\n")
+        lines = [line.split(",")[1:3] for line in g.walklist(g.write_layout(told)).splitlines() if line.startswith("B")]
+        seen = [[str(student.number), str(student.length)] for _, student in g.visits(told, g.plan_layout(told))]
+        self.assertEqual(seen, lines)
+
+    def test_fused_and_none(self):
+        layout = g.Layout((2, 3, 4), (8,), ((1, 2, 6),))
+        self.assertEqual([views.student for views in g.visits(layout, g.Plan((24,), (10,), ((1,),)))], [(0, 10, (0, 0, 0)), (1, 10, (0, 2, 1)), (2, 4, (0, 1, 3))])
+        self.assertEqual(list(g.visits(g.Layout((), (8,), ((),)), g.Plan((), (), ((),)))), [(((), 1, (0,), (0,)), (0, 1, ()))])
+        self.assertEqual(list(g.visits(g.Layout((0, 2), (8,), ((1, 1),)), g.Plan((0, 2), (1, 1), ((1, 1),)))), [])
+
+    def test_another_layouts_plan(self):
+        walk = g.visits(g.Layout((3, 2), (8,), ((1, 10),)), g.Plan((3, 3), (3, 3), ((1, 10),)))
+        self.assertEqual([next(walk).student.first for _ in range(2)], [(0, 0), (0, 1)])
+        with self.assertRaises(g.Refused) as told:
+            next(walk)
+        self.assertEqual(told.exception.number, 11)
+
+
 class Machines(unittest.TestCase):
     def record(self, **files):
         with tempfile.TemporaryDirectory() as name:

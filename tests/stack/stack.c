@@ -74,6 +74,8 @@ static gougelily_walk_t walk;
 static gougelily_block_t block;
 static gougelily_index_t told;
 static gougelily_windowed_t cut;
+static gougelily_visit_t seen;
+static gougelily_student_t shown;
 static int64_t answer;
 static uint64_t lengths[64];
 static int64_t offsets[512];
@@ -171,6 +173,9 @@ static void summarized(void)
     answer = gougelily_summarize(deep.extents + 58 - AXES, AXES, deep.strides, AXES, &fixed, 0, cells,
                                  sizeof cells / sizeof cells[0], &summary);
 }
+static void visit(void) { answer = gougelily_next_visit(&wide, &plan, &walk, &seen); }
+static void engineer(void) { answer = gougelily_engineer_view(&seen, &block); }
+static void student(void) { answer = gougelily_student_view(&seen, &shown); }
 static void many(void)
 {
     answer = gougelily_step_many(plan.rank, plan.operands, plan.extents, plan.blocks, plan.strides, &walk.ended,
@@ -244,6 +249,9 @@ int main(void)
         {"gougelily_plan_index", find_back},
         {"gougelily_begin", begin},
         {"gougelily_step", step},
+        {"gougelily_visit", visit},
+        {"gougelily_engineer", engineer},
+        {"gougelily_student", student},
         {"step by value", step_value},
         {"step_lent", step_lent},
         {"gougelily_step_many", many},

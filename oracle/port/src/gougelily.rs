@@ -158,6 +158,31 @@ mod library {
             block_offsets: *mut [i64; 8],
             block_strides: *mut [i64; 8],
         ) -> i64;
+        pub fn gougelily_visit(
+            extents: *const u64,
+            layout_rank: usize,
+            sizes: *const u64,
+            layout_operands: usize,
+            strides: *const i64,
+            stride_count: usize,
+            kind: u64,
+            chosen: u64,
+            rank: usize,
+            operands: usize,
+            plan_extents: *const [u64; 64],
+            blocks: *const [u64; 64],
+            plan_strides: *const [i64; 512],
+            ended: *mut [u64; 1],
+            counters: *mut [u64; 64],
+            offsets: *mut [i64; 8],
+            number: *mut [u64; 1],
+            block_counters: *mut [u64; 64],
+            length: *mut [u64; 1],
+            block_offsets: *mut [i64; 8],
+            block_strides: *mut [i64; 8],
+            count: *mut [usize; 1],
+            index: *mut [u64; 64],
+        ) -> i64;
         pub fn gougelily_step_many(
             rank: usize,
             operands: usize,
@@ -353,6 +378,43 @@ faces! {
             &mut block.length,
             &mut block.offsets,
             &mut block.strides,
+        )
+    }
+
+    /// A visit of a lent walk: a step, with the block's number and the original
+    /// index of its first cell.
+    pub fn visit(
+        flat: &Flat,
+        plan: &Plan,
+        state: &mut State,
+        number: &mut [u64; 1],
+        block: &mut Block,
+        told: &mut Told,
+    ) -> i64 {
+        library::gougelily_visit(
+            flat.extents.as_ptr(),
+            flat.extents.len(),
+            flat.sizes.as_ptr(),
+            flat.sizes.len(),
+            flat.strides.as_ptr(),
+            flat.strides.len(),
+            flat.kind,
+            flat.chosen,
+            plan.rank[0],
+            plan.operands[0],
+            &plan.extents,
+            &plan.blocks,
+            &plan.strides,
+            &mut state.ended,
+            &mut state.counters,
+            &mut state.offsets,
+            number,
+            &mut block.counters,
+            &mut block.length,
+            &mut block.offsets,
+            &mut block.strides,
+            &mut told.count,
+            &mut told.index,
         )
     }
 
