@@ -1,6 +1,7 @@
 -- A DESCRIPTION SAYS ONE THING AT MOST: the lines are told from the bytes in one way alone, and so is whether there is a T line.
 -- Assumes nothing.
 use mathlib.Core.Path.{_≡_, refl, sym, ap, _∙_}
+use mathlib.Core.Logic.{⊎-elim}
 use mathlib.Core.List.{List, [], _∷_, _++_, append-assoc}
 use mathlib.Core.Option.{Option, none, some}
 use Prim.Native.Nat.{ℕ}
@@ -12,6 +13,8 @@ use Rattle.strided.specs.Text.{field, lineOf}
 use Rattle.laws.specs.Text.Numbers.{head, tail, digits-once, signed-once}
 use Rattle.laws.specs.Text.Once.{cell-once, row-once}
 use Rattle.numpy.specs.Descriptions.{Description, headLine, shapeLine, stridesPart, written, InForm}
+use Rattle.numpy.specs.Numpy.{FromNumpy}
+use Rattle.numpy.specs.declared.Described.{Described}
 
 -- ---- the lines, with what is behind them
 
@@ -51,3 +54,7 @@ written-once d e q =
 
 pub in-form-once : {text : List ℕ} (d e : Description) → InForm text d → InForm text e → d ≡ e
 in-form-once d e f g = written-once d e (sym (f .form) ∙ g .form)
+
+-- so it is answered in one way
+pub from-once : {text : List ℕ} {q r : Described} → FromNumpy text q → FromNumpy text r → q ≡ r
+from-once f g = ⊎-elim (λ w. f .formed (w .0) (w .1) ∙ sym (g .formed (w .0) (w .1))) (λ n. f .unformed n ∙ sym (g .unformed n)) (f .either)

@@ -61,6 +61,16 @@ module _ (size : ℕ) where
       let p = or-none (strideOut size s) (anyOf (strideOut size) ss) h in
       (ltb-true (mag (byteStride size s)) (2 ^ 63) (not-false (ltb (mag (byteStride size s)) (2 ^ 63)) (p .0)), bytes-fit ss (p .1))
 
+-- ---- the way back, where only 14 could refuse and does not
+
+pub goes-back : (size : ℕ) (es : List ℕ) (ss : List ℤ) (room : List ℕ) → refusedBy (numberRows size es ss) ≡ none → length (textOf size es ss) ≤ length room
+    → toNumpy size es ss room ≡ filling (textOf size es ss) room
+unfolding toNumpy
+goes-back size es ss room n h =
+    let t : List ℕ = textOf size es ss in
+    let q : refusedBy (row14 t (length room) ∷ []) ≡ none = rw (le-ltb (length room) (length t) h) in
+    ap (λ o. listingOr o t room) (rows-pass (numberRows size es ss) (row14 t (length room) ∷ []) n ∙ q)
+
 -- ---- text, numbers, text
 
 module _ (text : List ℕ) (size rank : ℕ) (es : List ℕ) (ts : List ℤ) (f : InForm text (saying size rank es (some ts))) (n : refusedBy (fromRows (saying size rank es (some ts))) ≡ none) where
@@ -98,11 +108,8 @@ module _ (text : List ℕ) (size rank : ℕ) (es : List ℕ) (ts : List ℤ) (f 
 
   -- THE TEXT AGAIN, wherever it has room
   pub text-again : (room : List ℕ) → length text ≤ length room → toNumpy size (extentsOf d) (stridesOf d) room ≡ filling text room
-  unfolding toNumpy
   text-again room h =
-      let t : List ℕ = textOf size (extentsOf d) (stridesOf d) in
-      let q : refusedBy (row14 t (length room) ∷ []) ≡ none = rw (le-ltb (length room) (length t) (omega (arith, h, ap length same-text))) in
-      ap (λ o. listingOr o t room) (rows-pass (numberRows size (extentsOf d) (stridesOf d)) (row14 t (length room) ∷ []) not-refused ∙ q) ∙ ap (λ (u : List ℕ). filling u room) same-text
+      goes-back size (extentsOf d) (stridesOf d) room not-refused (omega (arith, h, ap length same-text)) ∙ ap (λ (u : List ℕ). filling u room) same-text
 
 -- ---- numbers, text, numbers
 

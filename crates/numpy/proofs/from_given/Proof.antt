@@ -58,8 +58,9 @@ reversed-requires c κs =
 
 slice-aggregate-element-strides : tie.Need-slice-aggregate-element-strides
 slice-aggregate-element-strides c =
-    let s = c .before .before .before .before .before .before .before .before .before in
-    omega (arith, few (c .before .before .before), s .pre .1, length-take (s .args .rank) (s .args .bytes .now))
+    let e = c .before .before .before in
+    let s = e .before .before .before .before .before .before in
+    omega (arith, few e, s .pre .1, length-take (s .args .rank) (s .args .bytes .now))
 
 element-strides-requires : tie.Need-element-strides-requires
 element-strides-requires c κs =

@@ -91,8 +91,9 @@ array-share-prefix-extents c = omega (arith, places c, few (c .before .before))
 
 slice-aggregate-packed-strides : tie.Need-slice-aggregate-packed-strides
 slice-aggregate-packed-strides c =
-    let s = c .before .before .before .before .before .before .before .before .before in
-    omega (arith, places (c .before), few (c .before .before .before), length-take (s .args .rank) (c .before .reversed .result))
+    let e = c .before .before .before in
+    let s = e .before .before .before .before .before .before in
+    omega (arith, places (c .before), few e, length-take (s .args .rank) (c .before .reversed .result))
 
 packed-strides-requires : tie.Need-packed-strides-requires
 packed-strides-requires c κs =

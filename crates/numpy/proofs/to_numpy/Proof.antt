@@ -83,20 +83,24 @@ byte-strides-requires c κs =
     let y = some-size (a .size) _ (sym (o .strides-out .ensures) ∙ e .before .before .before .before .if1 .left) in
     (omega (arith, f .0, f .1), y .0, y .1)
 
+-- where the call began
+abbrev begun : tie.Else3 → tie.Start
+begun e = e .before .before .before .before .before .before .before .before
+
 -- the arrays that were made
-shape-is : (c : tie.After-reversed) → let a = c .before .before .before .before .before .before .before .before .before .args in
+shape-is : (c : tie.After-reversed) → let a = begun (c .before) .args in
     take (length (a .extents .now)) (c .reversed .result) ≡ reversed (a .extents .now)
 shape-is c =
     let e = c .before in
-    let a = e .before .before .before .before .before .before .before .before .args in
+    let a = begun e .args in
     let es = a .extents .now in
     ap (take (length es)) (c .reversed .ensures) ∙ take-padded 0 (reversed es) (length es) (length-reversed es) (few e .0)
 
-bytes-is : (c : tie.After-byte-strides) → let a = c .before .before .before .before .before .before .before .before .before .before .args in
+bytes-is : (c : tie.After-byte-strides) → let a = begun (c .before .before) .args in
     take (length (a .extents .now)) (c .byte-strides .result) ≡ reversed (map (byteStride (a .size)) (a .strides .now))
 bytes-is c =
     let e = c .before .before in
-    let a = e .before .before .before .before .before .before .before .before .args in
+    let a = begun e .args in
     let es = a .extents .now in
     let ss = a .strides .now in
     ap (take (length es)) (c .byte-strides .ensures)
@@ -104,12 +108,12 @@ bytes-is c =
 
 shape-places : (c : tie.After-reversed) → length (c .reversed .result) ≡ 64
 shape-places c =
-    let a = c .before .before .before .before .before .before .before .before .before .args in
+    let a = begun (c .before) .args in
     ap length (c .reversed .ensures) ∙ length-padded {A = ℕ} 0 64 (reversed (a .extents .now))
 
 bytes-places : (c : tie.After-byte-strides) → length (c .byte-strides .result) ≡ 64
 bytes-places c =
-    let a = c .before .before .before .before .before .before .before .before .before .before .args in
+    let a = begun (c .before .before) .args in
     ap length (c .byte-strides .ensures) ∙ length-padded (pos 0) 64 (reversed (map (byteStride (a .size)) (a .strides .now)))
 
 array-share-prefix-shape : tie.Need-array-share-prefix-shape
@@ -118,7 +122,7 @@ array-share-prefix-shape c = omega (arith, shape-places (c .before), few (c .bef
 slice-aggregate-list : tie.Need-slice-aggregate-list
 slice-aggregate-list c =
     let v = c .before .before in
-    let es = v .before .before .before .before .before .before .before .before .before .args .extents .now in
+    let es = begun (v .before) .args .extents .now in
     omega (arith, shape-places v, few (v .before) .0, length-take (length es) (v .reversed .result))
 
 array-share-prefix-bytes : tie.Need-array-share-prefix-bytes
@@ -128,7 +132,7 @@ slice-aggregate-list-2 : tie.Need-slice-aggregate-list-2
 slice-aggregate-list-2 c =
     let v = c .before .before in
     let e = v .before .before in
-    let es = e .before .before .before .before .before .before .before .before .args .extents .now in
+    let es = begun e .args .extents .now in
     omega (arith, bytes-places v, few e .0, length-take (length es) (v .byte-strides .result))
 
 list-requires : tie.Need-list-requires
@@ -136,7 +140,7 @@ list-requires c κs =
     let b = c .before .before .before in
     let v = b .before in
     let e = v .before in
-    let es = e .before .before .before .before .before .before .before .before .args .extents .now in
+    let es = begun e .args .extents .now in
     (omega (arith, few e .0, length-take (length es) (v .reversed .result)), omega (arith, few e .0, length-take (length es) (b .byte-strides .result)))
 
 same-length : tie.Need-same-length

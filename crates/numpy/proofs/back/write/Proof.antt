@@ -24,7 +24,8 @@ slice-aggregate-put-line-3 c = search needs
 
 put-line-requires-2 : tie.Need-put-line-requires-2
 put-line-requires-2 c κs =
-    let a = c .before .before .before .before .before .before .before .before .before .before .args in
+    let first = c .before .before .before .before in
+    let a = first .before .before .before .before .before .before .args in
     let l = spelled-length (a .size) (a .shape .now) (a .bytes .now) in
     omega (arith, l)
 
@@ -33,7 +34,9 @@ slice-aggregate-put-line-4 c = search needs
 
 put-line-requires-3 : tie.Need-put-line-requires-3
 put-line-requires-3 c κs =
-    let a = c .before .before .before .before .before .before .before .before .before .before .before .before .before .before .before .args in
+    let second = c .before .before .before .before in
+    let first = second .before .before .before .before .before in
+    let a = first .before .before .before .before .before .before .args in
     let l = spelled-length (a .size) (a .shape .now) (a .bytes .now) in
     omega (arith, l)
 
