@@ -46,7 +46,7 @@ def from_numpy(text: str | bytes) -> Described:
     Described(size=8, extents=(4, 3), strides=(1, 4))
     >>> from_numpy("N,8,1\\nS,3\\nT,12\\n")
     Traceback (most recent call last):
-    gougelily.refusals.Refused: refused with 19: size 0, or a byte stride that is no multiple of it or too large
+    gougelily.refusals.Refused: refused with 19: size 0, or a byte stride that is no multiple of it or too big
     """
     given = text.encode() if isinstance(text, str) else bytes(text)
     said = ctypes.create_string_buffer(given, len(given) + 1)

@@ -30,7 +30,7 @@ REFUSALS = {
     16: Row("a copy has two operands of one size, of 1 to 16 bytes", "sizes 8 and 4, or 3 operands"),
     17: Row("some cell lies outside its buffer", "100 cells of 8 bytes in 799 bytes"),
     18: Row("the destination's mark is not no: two indices may share a cell", "a destination with stride 0 on an axis of extent 2"),
-    19: Row("size 0, or a byte stride that is no multiple of it or too large", "size 8, byte stride 12"),
+    19: Row("size 0, or a byte stride that is no multiple of it or too big", "size 8, byte stride 12"),
     22: Row("a cell lies outside the slice of cells that is lent", "extent 5, stride 1, start 0, 4 cells"),
     23: Row("visits not in the form, rank 0, or a mark buffer of another length", "a length of 0, an axis that is not there"),
     24: Row("the machine record is outside its bounds", "a line of 48 bytes"),
