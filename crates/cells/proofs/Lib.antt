@@ -5,3 +5,4 @@ pub mod Crossing
 pub mod Patching
 pub mod Packing
 pub mod Lying
+pub mod Turning

@@ -15,7 +15,7 @@ use Rattle.cells.specs.Reaching.{runSpot, Reaches, CellIn, PatchIn}
 use Rattle.cells.proofs.Running.{none-copied}
 use Rattle.cells.proofs.Patching.{patch-start}
 
-still : (z t : ℤ) → z +ℤ pos 0 *ℤ t ≡ z
+pub still : (z t : ℤ) → z +ℤ pos 0 *ℤ t ≡ z
 still z t = ap (λ (x : ℤ). z +ℤ x) (zero-*ℤ t) ∙ +ℤ-idr z
 
 pub lies-in : (w len n0 n1 : ℕ) (o : Side) → Lies w len n0 n1 o → len < 2 ^ 63 → n0 < 2 ^ 63 → n1 < 2 ^ 63 → PatchIn w len n0 n1 o

@@ -2,7 +2,7 @@
 -- wherever a patch lies in a buffer, since no buffer has 2^63 bytes.
 -- Assumes nothing.
 use mathlib.Core.List.{List, map}
-use Prim.Native.Nat.{ℕ, _+_, _^_, _≤_, _<_}
+use Prim.Native.Nat.{ℕ, _+_, _-_, _^_, _≤_, _<_}
 use lib.Dec.{T}
 use lib.IntN.{ℤ, pos, natAbs, _+ℤ_, _*ℤ_}
 use lib.Signed.{nonNeg}
@@ -52,3 +52,7 @@ across j count to from i = map (λ k. cellAt to from k i) (run j count)
 
 unfoldable pub crossing : ℕ → ℕ → ℕ → Side → Side → List Pair
 crossing n0 j count to from = over (run 0 n0) (across j count to from)
+
+-- a side whose runs go down by cells of w bytes, gone along from the last cell of each run on, upwards
+abbrev pub turned : ℕ → ℕ → Side → Side
+turned n0 w o = record { first = place o (n0 - 1) 0; step0 = pos w; step1 = o .step1 }

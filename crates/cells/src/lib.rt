@@ -6,7 +6,9 @@ ghost use lib.ListN.{length};
 ghost use Rattle.cells.specs.Copy.{copied, Apart};
 ghost use Rattle.cells.specs.Patch.{patchCells, Lies};
 use layout::magnitude;
+use packed::both_down;
 use packed::both_step;
+use packed::copy_down;
 use packed::copy_packed;
 use widths::fours_by_width;
 use widths::runs_by_width;
@@ -62,6 +64,10 @@ pub fn copy_patch(
     }
     if both_step(width, to.step0, from.step0) {
         copy_packed(destination, source, n0, n1, width, to, from);
+        return;
+    }
+    if both_down(width, to.step0, from.step0) {
+        copy_down(destination, source, n0, n1, width, to, from);
         return;
     }
     if crowded(n0, to, from) {

@@ -2,12 +2,12 @@
 // each other too.
 ghost use mathlib.Core.Path.{_≡_};
 ghost use mathlib.Core.Bool.{true};
-ghost use Prim.Native.Nat.{_≤_, _<_, _^_};
-ghost use lib.IntN.{pos};
+ghost use Prim.Native.Nat.{_-_, _≤_, _<_, _^_};
+ghost use lib.IntN.{pos, negℤ};
 ghost use lib.ListN.{length};
-ghost use Rattle.cells.specs.Copy.{copied};
-ghost use Rattle.cells.specs.Patch.{patchCells};
-ghost use Rattle.cells.specs.Reaching.{PatchIn};
+ghost use Rattle.cells.specs.Copy.{copied, Apart};
+ghost use Rattle.cells.specs.Patch.{patchCells, Lies};
+ghost use Rattle.cells.specs.Reaching.{PatchIn, Reaches, turned};
 use super::Side;
 use super::bytes::move_pieces;
 use super::runs::place_of;
@@ -73,4 +73,51 @@ pub fn copy_packed(
         return;
     }
     move_runs(destination, source, n0, n1, width, to, from);
+}
+
+// Whether two steps are both of so many bytes downwards.
+pub fn both_down(bytes: usize, a: i64, b: i64) -> bool
+    requires { ⌜ bytes < 2 ^ 63 ⌝ }
+    ensures { λ r. ⌜ (r ≡ true → (a ≡ negℤ (pos bytes)) × (b ≡ negℤ (pos bytes))) ⌝ }
+{
+    let n = bytes as i64;
+    let down = 0 - n;
+    if a == down { b == down } else { false }
+}
+
+// A side whose runs go down, taken from the last cell of each run on.
+fn upwards(o: Side, n0: u64, width: usize) -> Side
+    requires { ⌜ (0 < n0) × (width < 2 ^ 63) ⌝ }
+    requires { ⌜ Reaches o (n0 - 1) 0 ⌝ }
+    ensures { λ r. ⌜ r ≡ turned n0 width o ⌝ }
+{
+    let first = place_of(o, n0 - 1, 0);
+    let step0 = width as i64;
+    Side {
+        first: first,
+        step0: step0,
+        step1: o.step1,
+    }
+}
+
+// A patch whose runs have no gaps and go down on both sides.
+pub fn copy_down(
+    destination: &mut [u8],
+    source: &[u8],
+    n0: u64,
+    n1: u64,
+    width: usize,
+    to: Side,
+    from: Side,
+)
+    requires { ⌜ (0 < n0) × (0 < n1) × (to .step0 ≡ negℤ (pos width)) × (from .step0 ≡ negℤ (pos width)) ⌝ }
+    requires { ⌜ (width ≤ 16) × (n0 < 2 ^ 63) × (n1 < 2 ^ 63) ⌝ }
+    requires { ⌜ Lies width (length (now destination)) n0 n1 to ⌝ }
+    requires { ⌜ Lies width (length (now source)) n0 n1 from ⌝ }
+    requires { ⌜ Apart width (patchCells n0 n1 to from) ⌝ }
+    ensures { λ _. ⌜ now (destination .exit) ≡ copied width (patchCells n0 n1 to from) (now (destination .entry)) (now (source .entry)) ⌝ }
+{
+    let up = upwards(to, n0, width);
+    let back = upwards(from, n0, width);
+    copy_packed(destination, source, n0, n1, width, up, back);
 }

@@ -2,7 +2,7 @@
 use mathlib.Core.Path.{_≡_, sym, ap, _∙_}
 use Prim.Native.Nat.{ℕ, _^_, _≤_, _<_}
 use native.Mathlib.Omega.{arith}
-use lib.IntN.{ℤ, pos}
+use lib.IntN.{ℤ, pos, negℤ}
 use lib.ListN.{length}
 use mir.Syntax.{w64}
 use mir.Val.{SFits, toZ, ofZ}
@@ -35,9 +35,12 @@ from-in s =
     let g = s .good .1 .0 .1 in
     lies-in (a .width) (length (a .source .now)) (a .n0) (a .n1) (a .from) (s .pre .1 .1 .1 .0) (omega (arith, g)) (s .pre .1 .0 .0) (s .pre .1 .0 .1)
 
--- past the two tests for a patch of no cells
+-- past the two tests for a patch of no cells, and past those for runs without gaps
 abbrev begun : tie.Else2 → tie.Start
 begun c = c .before .before .before .before
+
+abbrev gapped : tie.Else4 → tie.Start
+gapped c = begun (c .before .before .before .before .before .before .before .before)
 
 copy-packed-requires : tie.Need-copy-packed-requires
 copy-packed-requires c κs =
@@ -57,14 +60,22 @@ same-length c = search needs
 returns-3 : tie.Need-returns-3
 returns-3 c = search needs
 
-crowded-requires : tie.Need-crowded-requires
-crowded-requires c κs = search needs
+both-down-requires : tie.Need-both-down-requires
+both-down-requires c κs = search needs
 
-fours-by-width-requires : tie.Need-fours-by-width-requires
-fours-by-width-requires c κs =
-    let e : tie.Else2 = c .before .before .before .before .before .before .before in
-    let s = begun e in
-    (s .pre .0 .1, (to-in s, (from-in s, s .pre .1 .1 .1 .1)))
+copy-down-requires : tie.Need-copy-down-requires
+copy-down-requires c κs =
+    let t = c .before in
+    let g3 : tie.Else3 = t .before .before .before .before in
+    let s = begun (g3 .before .before .before .before) in
+    let a = s .args in
+    let f : SFits w64 (a .to .step0) = search needs in
+    let g : SFits w64 (a .from .step0) = search needs in
+    let p : toZ w64 (ofZ w64 (a .to .step0)) ≡ negℤ (pos (a .width)) = t .before .both-down .ensures (t .if4 .taken) .0 in
+    let q : toZ w64 (ofZ w64 (a .from .step0)) ≡ negℤ (pos (a .width)) = t .before .both-down .ensures (t .if4 .taken) .1 in (
+      (omega arith, omega arith, sym (toZ-ofZ f) ∙ p, sym (toZ-ofZ g) ∙ q),
+      ((s .pre .0 .1, s .pre .1 .0 .0, s .pre .1 .0 .1), (s .pre .1 .1 .0, (s .pre .1 .1 .1 .0, s .pre .1 .1 .1 .1))),
+    )
 
 same-length-2 : tie.Need-same-length-2
 same-length-2 c = search needs
@@ -72,17 +83,32 @@ same-length-2 c = search needs
 returns-4 : tie.Need-returns-4
 returns-4 c = search needs
 
-runs-by-width-requires : tie.Need-runs-by-width-requires
-runs-by-width-requires c κs =
-    let e : tie.Else2 = c .before .before .before .before .before .before .before in
-    let s = begun e in
-    (s .pre .0 .1, (to-in s, from-in s))
+crowded-requires : tie.Need-crowded-requires
+crowded-requires c κs = search needs
+
+fours-by-width-requires : tie.Need-fours-by-width-requires
+fours-by-width-requires c κs =
+    let e : tie.Else4 = c .before .before .before in
+    let s = gapped e in
+    (s .pre .0 .1, (to-in s, (from-in s, s .pre .1 .1 .1 .1)))
 
 same-length-3 : tie.Need-same-length-3
 same-length-3 c = search needs
 
 returns-5 : tie.Need-returns-5
 returns-5 c = search needs
+
+runs-by-width-requires : tie.Need-runs-by-width-requires
+runs-by-width-requires c κs =
+    let e : tie.Else4 = c .before .before .before in
+    let s = gapped e in
+    (s .pre .0 .1, (to-in s, from-in s))
+
+same-length-4 : tie.Need-same-length-4
+same-length-4 c = search needs
+
+returns-6 : tie.Need-returns-6
+returns-6 c = search needs
 
 pub copy-patch-spec : {M : Type 1} → statement M
 copy-patch-spec =
@@ -94,10 +120,14 @@ copy-patch-spec =
     copy-packed-requires
     same-length
     returns-3
-    crowded-requires
-    fours-by-width-requires
+    both-down-requires
+    copy-down-requires
     same-length-2
     returns-4
-    runs-by-width-requires
+    crowded-requires
+    fours-by-width-requires
     same-length-3
-    returns-5)
+    returns-5
+    runs-by-width-requires
+    same-length-4
+    returns-6)
