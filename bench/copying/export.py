@@ -181,12 +181,13 @@ def measured(case, record, seconds):
         calls[name] = max(1, int(0.001 / max(run(1), 1e-9)))
     best = dict.fromkeys(made, float("inf"))
     end = time.perf_counter() + seconds
-    while time.perf_counter() < end:
+    while True:
         for name, run in made.items():
             run(calls[name])
             for _ in range(3):
                 best[name] = min(best[name], run(calls[name]) / calls[name])
-    return best, plan
+        if time.perf_counter() > end:
+            return best, plan
 
 
 def main():
