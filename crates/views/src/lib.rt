@@ -10,6 +10,8 @@ use layout::check_layout;
 use layout::operands_wrong;
 use layout::rank_over;
 use number::number_of;
+pub use readers::engineer_view;
+pub use readers::student_view;
 use strided::Answer;
 use strided::Outcome;
 use strided::Plan;
