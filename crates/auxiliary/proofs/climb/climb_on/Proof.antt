@@ -1,6 +1,6 @@
 -- `auxiliary::climb::climb_on` meets its contract. Assumes nothing.
 use mathlib.Core.Path.{_≡_, _∙_, ap, ap₂}
-use Prim.Native.Nat.{ℕ, _+_, _≤_, min}
+use Prim.Native.Nat.{ℕ, _+_, min}
 use native.Mathlib.Omega.{arith}
 use borrow.Author.Needs.{needs}
 use Rattle.strided.specs.Ranks.{contributes}

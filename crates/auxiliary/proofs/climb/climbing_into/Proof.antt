@@ -1,8 +1,7 @@
 -- `auxiliary::climb::climbing_into` meets its contract. The invariant: as long as no stride turned back, the ranks of the axes come to so far
 -- are right among these. Assumes nothing.
-use mathlib.Core.Path.{_≡_, refl, sym, _∙_, ap}
-use mathlib.Core.Bool.{false}
-use Prim.Native.Nat.{_+_, _-_, _^_, _≤_, _<_}
+use mathlib.Core.Path.{_≡_, refl, _∙_, ap}
+use Prim.Native.Nat.{_+_, _-_, _^_, _≤_}
 use native.Mathlib.Omega.{arith}
 use lib.IntN.{pos, natAbs}
 use lib.ListN.{length, getD, set, length-set}
