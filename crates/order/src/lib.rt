@@ -32,7 +32,7 @@ pub fn compute_order_into(
 }
 
 // The axes as they are given, written into an array of zeros.
-fn as_given(rank: usize, out: &mut [usize; 64])
+pub fn as_given(rank: usize, out: &mut [usize; 64])
     requires { ⌜ rank ≤ 64 ⌝ }
     requires { ⌜ now out ≡ replicate 64 0 ⌝ }
     ensures { λ _. ⌜ now (out .exit) ≡ padded 64 0 (run 0 rank) ⌝ }
