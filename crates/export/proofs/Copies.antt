@@ -1,11 +1,10 @@
 -- A plan's walk while its stretches are copied: what is left of the cells, and what a stretch asks.
 -- Assumes nothing.
-use mathlib.Core.Path.{_≡_, refl, sym, ap, ap₂, _∙_, subst}
+use mathlib.Core.Path.{_≡_, refl, sym, ap, _∙_, subst}
 use mathlib.Core.Bool.{Bool, true, false}
 use mathlib.Core.List.{List, [], _∷_, _++_, map}
 use mathlib.Core.Logic.{inr}
-use mathlib.Core.Option.{none}
-use Prim.Native.Nat.{ℕ, zero, suc, _+_, _-_, _*_, _/_, _^_, _≤_, _<_}
+use Prim.Native.Nat.{ℕ, zero, suc, _+_, _-_, _/_, _^_, _≤_, _<_}
 use native.Mathlib.Omega.{arith}
 use lib.IntN.{ℤ, pos, _+ℤ_, _*ℤ_}
 use lib.ListN.{length, getD, take, drop, length-map, length-take}
@@ -15,7 +14,6 @@ use Rattle.strided.specs.Layout.{total, maxU}
 use Rattle.strided.specs.Walk.{counters, lengthAt, blockAt}
 use Rattle.strided.specs.Begin.{planExtents, beginRows, beginRefused, begunAt}
 use Rattle.strided.specs.Step.{planCutAxes}
-use Rattle.strided.specs.Text.{planWalk}
 use Rattle.strided.specs.Memory.{walkOf}
 use Rattle.strided.specs.declared.Plan.{Plan}
 use Rattle.strided.specs.declared.Walk.{Walk}
@@ -37,12 +35,12 @@ use Rattle.walker.specs.Stretch.{Stretch, movedOn, blockIn, laid, told}
 use Rattle.walker.specs.Way.{Leads, movesOf, Strides, Strode}
 use Rattle.walker.proofs.Walked.{Walked, walked-none, walked-asks, walked-some, walked-most, walked-next, walked-part, walked-fit, walked-within, walked-over}
 use Rattle.span.specs.Span.{inCells}
-use Rattle.cells.specs.Copy.{Pair, pair, copied, In, Apart}
+use Rattle.cells.specs.Copy.{Pair, pair, copied, In}
 use Rattle.cells.specs.Meaning.{copied-length, copied-append, apart-some}
-use Rattle.cells.specs.Patches.{in-left, in-right, map-each, map-only, over-each, over-only, run-in}
+use Rattle.cells.specs.Patches.{in-left, map-each, map-only, over-each, over-only, run-in}
 use Rattle.cells.specs.Offsets.{placeAt}
 use Rattle.export.specs.Walks.{in-nth}
-use Rattle.export.specs.Blocks.{along, offsetIn, cellIn, blockCells, walkCells, startsOf, offsetAt, rowCells, stretchCells, Stretching, Copyable}
+use Rattle.export.specs.Blocks.{along, offsetIn, blockCells, walkCells, offsetAt, rowCells, stretchCells, Stretching, Copyable}
 
 -- ---- members of parts of a list
 

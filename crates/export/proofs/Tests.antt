@@ -1,23 +1,21 @@
 -- Rows 16, 17 and 18 as the code tests them.
 -- Assumes nothing.
-use mathlib.Core.Path.{_≡_, refl, sym, ap, ap₂, _∙_, subst}
-use mathlib.Core.Bool.{Bool, true, false, cond, not, _||_, _&&_}
+use mathlib.Core.Path.{_≡_, sym, ap, ap₂, _∙_, subst}
+use mathlib.Core.Bool.{Bool, true, false, cond, not, _||_}
 use mathlib.Core.List.{List, [], _∷_}
 use mathlib.Core.Option.{Option, none, some}
-use Prim.Native.Nat.{ℕ, _+_, _-_, _*_, _^_, _≤_, _<_}
+use Prim.Native.Nat.{ℕ, _+_, _-_, _*_, _≤_, _<_}
 use native.Mathlib.Nat.{zero-mul, mul-one}
 use native.Mathlib.Omega.{arith}
 use lib.Dec.{ltb, eqb}
-use lib.IntN.{ℤ, pos}
-use lib.ListN.{length, getD, take, drop, length-take, length-drop}
+use lib.IntN.{ℤ}
+use lib.ListN.{length, take, drop, length-take, length-drop}
 use borrow.Author.Tests.{le-ltb, eq-eqb}
 use Rattle.strided.specs.Base.{some-of}
 use Rattle.strided.specs.Layout.{strideRow, hasZero, total, reach, maxU, maxI}
-use Rattle.strided.specs.Refusals.{Row, refusedBy, answered, row5}
+use Rattle.strided.specs.Refusals.{refusedBy, answered, row5}
 use Rattle.strided.specs.Mark.{markOf, markRows, markRefused, markedOr, marked}
 use Rattle.strided.specs.declared.Answer.the-variants.{Served, Refused}
-use Rattle.strided.specs.declared.Mark.{Mark}
-use Rattle.strided.specs.declared.Marked.{Marked}
 use Rattle.strided.specs.declared.Refusal.{Refusal}
 use Rattle.strided.specs.declared.Refusal.the-variants.{CopySizes, Buffer, Repeats}
 use Rattle.strided.specs.declared.Purpose.{Purpose}
@@ -28,7 +26,7 @@ use Rattle.laws.specs.Refusals.Operands.{some-of-none}
 use Rattle.laws.specs.Refusals.Rows.{none-refuses, passes-unless}
 use Rattle.laws.specs.Refusals.Zeros.{row5-total}
 use Rattle.span.specs.Span.{Spans, outside}
-use Rattle.export.specs.Export.{row16, row17, row18, outsideAt, isNo, cellRows}
+use Rattle.export.specs.Export.{row16, row17, row18, outsideAt, cellRows}
 use Rattle.export.specs.Asked.{Held, Marking}
 
 -- ---- an operand's strides, cut out

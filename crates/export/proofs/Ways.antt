@@ -2,22 +2,19 @@
 -- Assumes nothing.
 use mathlib.Core.Path.{_≡_, refl, sym, ap, ap₂, _∙_, subst}
 use mathlib.Core.Bool.{Bool, true, false, cond, not}
-use mathlib.Core.List.{List, [], _∷_}
+use mathlib.Core.List.{List, _∷_}
 use mathlib.Core.Option.{Option, none, some}
-use Prim.Native.Nat.{ℕ, _*_, _^_, _≤_, _<_}
+use Prim.Native.Nat.{ℕ, _^_, _<_}
 use native.Mathlib.Omega.{arith}
-use lib.Dec.{eqb}
 use lib.IntN.{ℤ, pos}
-use lib.ListN.{length, getD, take, replicate}
+use lib.ListN.{length, take, replicate}
 use borrow.Author.Tests.{eq-eqb, ne-eqb}
 use Rattle.strided.specs.Base.{padded}
 use Rattle.strided.specs.Layout.{strideRow, hasZero}
 use Rattle.strided.specs.Refusals.{Row, refusedBy, answered, row8, row9, planningRefused}
-use Rattle.strided.specs.Fuse.{planAxes}
-use Rattle.strided.specs.Plan.{planFrom, planned}
+use Rattle.strided.specs.Plan.{planned}
 use Rattle.strided.specs.Begin.{planExtents, beginRefused, begunOr, begunAt}
 use Rattle.strided.specs.Memory.{planOf}
-use Rattle.strided.specs.Demand3.{replaced}
 use Rattle.strided.specs.declared.Machine.{Machine}
 use Rattle.strided.specs.declared.Plan.{Plan}
 use Rattle.strided.specs.declared.Planned.{Planned}
@@ -32,12 +29,12 @@ use Rattle.laws.specs.Base.Arrays.{take-counted}
 use Rattle.laws.specs.Plan.Answers.{planned-served}
 use Rattle.laws.specs.Plan.Begins.{begins-to, begins-from}
 use Rattle.laws.specs.Refusals.Accepted.{Accepted, accepted}
-use Rattle.laws.specs.Refusals.Record.{planning-layout, planning-allowed}
+use Rattle.laws.specs.Refusals.Record.{planning-layout}
 use Rattle.laws.specs.Refusals.Rows.{served-none, refused-some}
 use Rattle.laws.specs.Walk.Steps.{served-walk}
 use Rattle.kernel.specs.Made.{Made}
 use Rattle.cells.specs.Copy.{copied}
-use Rattle.export.specs.Export.{widthOf, exported, cellRows, copyRefused, Done, doneAt, doneOr, copyDone}
+use Rattle.export.specs.Export.{widthOf, exported, cellRows, copyRefused, doneAt, doneOr, copyDone}
 use Rattle.export.specs.Rows.{copy-as-planning, copy-planned, Clean, clean}
 use Rattle.export.specs.Blocks.{walkCells, startsOf, Copyable}
 use Rattle.export.specs.Walks.{plan-copyable, walk-exported}

@@ -1,14 +1,14 @@
 -- The list of all indices has each index of the extents, and no other; so the list of their cells has the cell of each.
 -- Assumes nothing.
-use mathlib.Core.Path.{_≡_, refl, sym, ap, subst}
-use mathlib.Core.Logic.{_⊎_, inl, inr}
+use mathlib.Core.Path.{refl, sym, subst}
+use mathlib.Core.Logic.{inl, inr}
 use mathlib.Core.List.{List, [], _∷_, map}
 use Prim.Native.Nat.{ℕ, _+_, _<_}
 use native.Mathlib.Omega.{arith}
 use lib.IntN.{ℤ}
-use Rattle.strided.specs.Base.{over, run}
+use Rattle.strided.specs.Base.{run}
 use Rattle.strided.specs.Layout.{Within}
-use Rattle.cells.specs.Copy.{Pair, pair, In}
+use Rattle.cells.specs.Copy.{pair, In}
 use Rattle.cells.specs.Meaning.{to-eq, from-eq}
 use Rattle.cells.specs.Patches.{map-each, map-only, over-each, over-only, run-in, run-within}
 use Rattle.cells.specs.Indexed.{Lists}

@@ -3,6 +3,7 @@
 --   row 17 applies exactly if some byte of some cell is outside         Outside  row17-exact
 --   a zero extent copies nothing, and rows 17 and 18 are not due        Zeros    zero-copies
 --   the blocks of the plan, from the starts, give the same bytes        Walks    walk-exported
+--   small copies, computed                                              Figures  rows-right
 pub mod Export
 pub mod Memory
 pub mod Indices
@@ -14,3 +15,4 @@ pub mod Zeros
 pub mod Blocks
 pub mod Steps
 pub mod Walks
+pub mod Figures

@@ -7,20 +7,19 @@ use mathlib.Core.Bool.{Bool, true, false, false≢true}
 use mathlib.Core.List.{List, [], _∷_}
 use Prim.Native.Nat.{ℕ, _+_, _*_, _/_, _≤_, _<_}
 use native.Mathlib.Omega.{arith}
-use lib.Dec.{T, ltb, eqb}
-use lib.IntN.{ℤ, pos, negsuc, natAbs, _+ℤ_, _-ℤ_}
+use lib.Dec.{T, eqb}
+use lib.IntN.{ℤ, pos, negsuc, natAbs, _-ℤ_}
 use lib.ListN.{length, getD}
 use lib.Signed.{nonNeg}
 use borrow.Author.Tests.{ltb-true, eqb-true, eqb-false}
 use Rattle.strided.specs.Layout.{strideRow, Within, dot}
-use Rattle.strided.specs.Mark.{Shared}
 use Rattle.laws.specs.Base.Integers.{+ℤ-less}
 use Rattle.laws.specs.Base.Layouts.{within-total, total-nozero}
 use Rattle.laws.specs.Base.Rows.{length-strides}
 use Rattle.laws.specs.Mark.Marks.{no-apart}
 use Rattle.span.specs.Span.{inCells}
 use Rattle.span.specs.Exact.{all-cells, cell-fits}
-use Rattle.cells.specs.Copy.{copied, Clear}
+use Rattle.cells.specs.Copy.{copied}
 use Rattle.cells.specs.Offsets.{placeAt, offsets-clear}
 use Rattle.cells.specs.Indexed.{Lists, CellsIn, NoneShared, copied-exported, copied-any, exported-one}
 use Rattle.export.specs.Export.{offsetOf, placeOf, widthOf, cellsOf, exported, Afterwards}

@@ -1,20 +1,20 @@
 -- ROW 17 IS EXACT: it applies exactly if some cell of an operand has a byte before its buffer or behind it.
 -- Assumes nothing.
-use mathlib.Core.Path.{_≡_, refl, sym, ap, _∙_, subst}
-use mathlib.Core.Logic.{_↔_, _⊎_, inl, inr, ⊎-elim}
+use mathlib.Core.Path.{_≡_, refl, sym, _∙_}
+use mathlib.Core.Logic.{_↔_, ⊎-elim}
 use mathlib.Core.Bool.{Bool, true, false, cond, _||_, false≢true}
 use mathlib.Core.List.{List}
 use Prim.Native.Nat.{ℕ, zero, suc, _+_, _*_, _/_, _≤_, _<_}
 use native.Mathlib.Omega.{arith}
 use lib.Dec.{T, ltb}
-use lib.IntN.{ℤ, pos, negsuc, natAbs, _+ℤ_}
+use lib.IntN.{ℤ, pos, negsuc, natAbs}
 use lib.ListN.{length, getD}
 use lib.Signed.{nonNeg}
-use borrow.Author.Tests.{ltb-true, ltb-false, lt-ltb, le-ltb}
+use borrow.Author.Tests.{ltb-true, lt-ltb}
 use Rattle.strided.specs.Layout.{strideRow, Within}
 use Rattle.laws.specs.Base.Tests.{or-cases}
 use Rattle.laws.specs.Base.Rows.{length-strides}
-use Rattle.span.specs.Span.{inCells, Outside}
+use Rattle.span.specs.Span.{inCells}
 use Rattle.span.specs.Exact.{test-outside, outside-test, cell-fits}
 use Rattle.export.specs.Export.{offsetOf, outsideAt, row17}
 

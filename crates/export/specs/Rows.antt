@@ -1,16 +1,16 @@
 -- The rows of a copy: their numbers in order, what they are beside planning's, and what holds where none applies.
 -- Assumes nothing.
-use mathlib.Core.Path.{_≡_, refl, sym, ap, _∙_, subst}
+use mathlib.Core.Path.{_≡_, refl, sym, ap, _∙_}
 use mathlib.Core.Bool.{Bool, true, false, cond, not, _||_, false≢true}
 use mathlib.Core.List.{List, [], _∷_, _++_}
 use mathlib.Core.Option.{Option, none, some}
-use Prim.Native.Nat.{ℕ, _+_, _*_, _/_, _≤_, _<_}
+use Prim.Native.Nat.{ℕ, _≤_, _<_}
 use native.Mathlib.Omega.{arith}
 use lib.Dec.{ltb, leb, eqb}
-use lib.IntN.{ℤ, pos}
+use lib.IntN.{ℤ}
 use lib.ListN.{length, getD}
 use borrow.Author.Tests.{ltb-false, eqb-true, eqb-false, lt-leb, not-false}
-use Rattle.strided.specs.Layout.{strideRow, hasZero}
+use Rattle.strided.specs.Layout.{strideRow}
 use Rattle.strided.specs.Refusals.{Row, refusedBy, row1, row2, row3, row4, row5, row6, row8, row9, row24, planningRows, planningRefused}
 use Rattle.strided.specs.Rows.{numbers}
 use Rattle.strided.specs.Mark.{markOf}
@@ -22,7 +22,7 @@ use Rattle.strided.specs.declared.Refusal.{Refusal}
 use Rattle.laws.specs.Base.Tests.{or-none}
 use Rattle.laws.specs.Base.Refusals.{NoneApplies, none-applies}
 use Rattle.laws.specs.Refusals.Rows.{rows-refuse, rows-pass}
-use Rattle.export.specs.Export.{row16, row17, row18, outsideAt, isNo, cellRows, copyRows, copyRefused}
+use Rattle.export.specs.Export.{row16, outsideAt, isNo, cellRows, copyRows, copyRefused}
 
 -- "all after 9, in this order"; and 24 stands before 5
 pub copy-rows : (mc : Machine) (es sizes : List ℕ) (ss zs : List ℤ) (to from : ℕ)

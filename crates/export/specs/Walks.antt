@@ -2,10 +2,10 @@
 -- them and no other. "The copy follows the P plan with operand 0 chosen": so it may.
 -- Assumes nothing.
 use mathlib.Core.Path.{_≡_, refl, sym, ap, ap₂, _∙_, subst}
-use mathlib.Core.Logic.{_⊎_, inl, inr, ⊎-elim}
+use mathlib.Core.Logic.{inl, inr, ⊎-elim}
 use mathlib.Core.Bool.{true}
-use mathlib.Core.List.{List, [], _∷_, map}
-use mathlib.Core.Option.{Option, none, some}
+use mathlib.Core.List.{List, [], _∷_}
+use mathlib.Core.Option.{none, some}
 use Prim.Native.Nat.{ℕ, zero, suc, _+_, _-_, _*_, _/_, _^_, _≤_, _<_}
 use native.Mathlib.Nat.{mul-le-mul-left, div-mul-le-self, mul-zero}
 use native.Mathlib.Omega.{arith}
@@ -36,7 +36,7 @@ use Rattle.laws.specs.Plan.Places.{plan-extents, plan-blocks, plan-strides}
 use Rattle.laws.specs.Text.Totals.{planned-extents}
 use Rattle.laws.specs.Text.Begins.{planned-operands}
 use Rattle.laws.specs.Fuse.Maps.{plan-in, orig-in, orig-plan, plan-orig, same-dot}
-use Rattle.laws.specs.Walk.States.{stateAfter, Inside}
+use Rattle.laws.specs.Walk.States.{Inside}
 use Rattle.laws.specs.Walk.Cuts.{cut-inside}
 use Rattle.laws.specs.Walk.Reach.{state-nth}
 use Rattle.laws.specs.Walk.Places.{MeetsPlan, meets-inside, meets-all}

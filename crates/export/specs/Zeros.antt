@@ -1,20 +1,19 @@
 -- "A zero extent copies nothing and succeeds, unless a refusal up to 16 is due."
 -- Assumes nothing.
 use mathlib.Core.Path.{_≡_, refl, sym, ap, _∙_}
-use mathlib.Core.Logic.{_⊎_, inl, inr}
-use mathlib.Core.Bool.{Bool, true, false, not, _&&_, _||_, false≢true}
+use mathlib.Core.Logic.{inl}
+use mathlib.Core.Bool.{true, false, false≢true}
 use mathlib.Core.List.{List, [], _∷_, map}
 use Prim.Native.Nat.{ℕ}
 use lib.IntN.{ℤ, pos}
 use lib.ListN.{length, getD}
-use Rattle.strided.specs.Layout.{strideRow, hasZero, Within, total}
+use Rattle.strided.specs.Layout.{strideRow, hasZero}
 use Rattle.strided.specs.Mark.{markOf}
-use Rattle.strided.specs.declared.Mark.the-variants.{No}
 use Rattle.laws.specs.Base.Layouts.{within-total, total-nozero}
 use Rattle.laws.specs.Refusals.Zeros.{no-zero-test}
 use Rattle.span.specs.Span.{outside}
 use Rattle.cells.specs.Copy.{In, copied}
-use Rattle.export.specs.Export.{indices, cellOf, widthOf, exported, outsideAt, isNo, row17, row18}
+use Rattle.export.specs.Export.{indices, cellOf, widthOf, exported, row17, row18}
 use Rattle.export.specs.Indices.{index-only}
 
 -- a list with no member

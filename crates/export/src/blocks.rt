@@ -1,6 +1,6 @@
 // The walk of a plan, each stretch of it copied as a patch of cells. Nothing is checked here.
 ghost use mathlib.Core.Path.{_≡_};
-ghost use lib.ListN.{length, take};
+ghost use lib.ListN.{length};
 ghost use Rattle.strided.specs.Begin.{begunAt};
 ghost use Rattle.strided.specs.Memory.{planOf};
 ghost use Rattle.cells.specs.Copy.{copied};

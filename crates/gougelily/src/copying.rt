@@ -22,8 +22,8 @@ pub extern "C" fn gougelily_copy<'a>(
     source: &'a [u8],
 ) -> i64
     ensures { λ r. let m = machineOf line cache way live in
-        ⌜ CopiesMemory (copyDone m (now (extents .entry)) (now (sizes .entry)) (now (strides .entry)) (now (starts .entry)) (now (destination .entry)) (now (source .entry)))
-        (now (destination .exit)) r ⌝ }
+        ⌜ CopiesMemory (copyDone m (now (extents .entry)) (now (sizes .entry)) (now (strides .entry)) (now (starts .entry))
+        (now (destination .entry)) (now (source .entry))) (now (destination .exit)) r ⌝ }
 {
     let machine = Machine {
         line,

@@ -1,17 +1,16 @@
 -- The test by the least and the greatest offset holds exactly if some cell is outside; and a cell of `size` bytes lies within `len` bytes
 -- exactly if its offset is below len / size.
 -- Assumes nothing.
-use mathlib.Core.Path.{_≡_, refl, sym, ap, _∙_, subst}
+use mathlib.Core.Path.{_≡_, refl, sym, ap, _∙_}
 use mathlib.Core.Logic.{_↔_}
-use mathlib.Core.Bool.{Bool, true, false, cond, not, _&&_, false≢true}
+use mathlib.Core.Bool.{Bool, true, false, not, _&&_, false≢true}
 use mathlib.Core.List.{List}
-use Prim.Native.Nat.{ℕ, suc, _+_, _-_, _*_, _/_, _≤_, _<_}
+use Prim.Native.Nat.{ℕ, _+_, _-_, _*_, _/_, _≤_, _<_}
 use native.Mathlib.Nat.{le-div-iff-mul-le}
 use native.Mathlib.Omega.{arith}
-use lib.Dec.{ltb}
 use lib.IntN.{ℤ, pos, negsuc, _+ℤ_, _-ℤ_}
 use lib.ListN.{length}
-use borrow.Author.Tests.{ltb-true, ltb-false, lt-ltb, le-ltb, not-false, not-true}
+use borrow.Author.Tests.{ltb-true, lt-ltb, not-false, not-true}
 use Rattle.strided.specs.Layout.{Within, hasZero, NoZero, dot, reach, reachDown}
 use Rattle.laws.specs.Base.Tests.{and-both, both-and}
 use Rattle.laws.specs.Base.Layouts.{within-total, total-nozero}

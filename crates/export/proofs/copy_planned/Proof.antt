@@ -1,7 +1,6 @@
 -- `export::copy_planned` meets its contract: each way out is a law of proofs/Ways. Assumes nothing.
-use mathlib.Core.Path.{_≡_, refl, sym, ap, _∙_}
-use mathlib.Core.Option.{none}
-use Prim.Native.Nat.{ℕ, _<_, _^_}
+use mathlib.Core.Path.{_≡_, refl}
+use Prim.Native.Nat.{_<_, _^_}
 use native.Mathlib.Omega.{arith}
 use lib.ListN.{length}
 use borrow.Author.Needs.{needs}
@@ -47,7 +46,7 @@ enum-told c = search needs
 
 check-cells-requires : tie.Need-check-cells-requires
 check-cells-requires c κs =
-    let s = c .before .before .before .before .before .before .before .before .before .before .before .before .before .before .before in
+    let s = entry (plan (c .before .before)) in
     let a = s .args in
     (planned-taken (a .machine) (a .extents .now) (a .sizes .now) (a .strides .now) (a .starts .now) (a .destination .now) (a .source .now) (s .pre), many (plan (c .before .before)))
 
@@ -104,13 +103,14 @@ same-length c = search needs
 
 returns-4 : tie.Need-returns-4
 returns-4 c =
-    let t = c .before .before .before .before .before .before .before .before .before in
+    let d = c .before .before in
+    let t = d .before .before .before .before .before .before .before in
     let x = t .before .before in
     let g = x .before .before .before in
     let p = plan g in
     let s = entry p in
     let a = s .args in
-    all-done (a .machine) (a .extents .now) (a .sizes .now) (a .strides .now) (a .starts .now) (a .destination .now) (a .source .now) (s .pre) (many p) _ _ _ _ (p .plan-into .ensures) _ (g .begin-on .ensures) (serves x) (x .check-cells .result) (x .check-cells .ensures) (t .enum-told2 .given .1) _ (c .before .before .copy-blocks .ensures)
+    all-done (a .machine) (a .extents .now) (a .sizes .now) (a .strides .now) (a .starts .now) (a .destination .now) (a .source .now) (s .pre) (many p) _ _ _ _ (p .plan-into .ensures) _ (g .begin-on .ensures) (serves x) (x .check-cells .result) (x .check-cells .ensures) (t .enum-told2 .given .1) _ (d .copy-blocks .ensures)
 
 pub copy-planned-spec : {M : Type 1} → statement M
 copy-planned-spec =

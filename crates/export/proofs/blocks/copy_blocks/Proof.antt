@@ -1,7 +1,6 @@
 -- `export::blocks::copy_blocks` meets its contract: the loop keeps `Copies`. Assumes nothing.
 use native.Mathlib.Omega.{arith}
-use mathlib.Core.Path.{_≡_, sym, _∙_}
-use mathlib.Core.Bool.{true, false}
+use mathlib.Core.Bool.{true}
 use Prim.Native.Nat.{_-_}
 use lib.ListN.{length, take}
 use Rattle.strided.specs.declared.Plan.{Plan}

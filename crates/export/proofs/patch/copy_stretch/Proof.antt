@@ -1,9 +1,9 @@
 -- `export::patch::copy_stretch` meets its contract. Assumes nothing.
-use mathlib.Core.Path.{_≡_, sym, ap, _∙_}
+use mathlib.Core.Path.{ap, _∙_}
 use mathlib.Core.List.{List}
-use Prim.Native.Nat.{ℕ, _<_, _^_}
+use Prim.Native.Nat.{_<_, _^_}
 use native.Mathlib.Omega.{arith}
-use lib.IntN.{ℤ, pos}
+use lib.IntN.{pos}
 use lib.ListN.{length, getD}
 use borrow.Author.Needs.{needs}
 use Rattle.layout.proofs.Caps.{elem-read}
@@ -44,22 +44,26 @@ element-copy-out-side-of-5 c = search needs
 element-copy-out-side-of-6 : tie.Need-element-copy-out-side-of-6
 element-copy-out-side-of-6 c = search needs
 
+-- from where the destination's cells are told back to the entry of the function
+abbrev entry : tie.After-side-of → tie.Start
+entry c = c .before .before .before .before .before .before
+
 -- where the destination's cells lie, and the source's
-into : (c : tie.After-side-of) → let s = c .before .before .before .before .before .before in let a = s .args in
+into : (c : tie.After-side-of) → let s = entry c in let a = s .args in
     InBytes (a .width) (a .x .length) (a .x .count) (getD (a .first .now) 0 (pos 0)) (getD (a .s .now) 0 (pos 0)) (getD (a .d .now) 0 (pos 0)) (c .side-of .result)
 into c =
-    let s = c .before .before .before .before .before .before in
+    let s = entry c in
     read-bytes (elem-read (s .args .first .now) 0 (c .before .before .before .side-of-arg .given)) (elem-read (s .args .s .now) 0 (c .before .before .side-of-arg2 .given)) (elem-read (s .args .d .now) 0 (c .before .side-of-arg3 .given)) (c .side-of .ensures)
 
-out : (c : tie.After-side-of2) → let s = c .before .before .before .before .before .before .before .before .before .before in let a = s .args in
+out : (c : tie.After-side-of2) → let s = entry (c .before .before .before .before) in let a = s .args in
     InBytes (a .width) (a .x .length) (a .x .count) (getD (a .first .now) 1 (pos 0)) (getD (a .s .now) 64 (pos 0)) (getD (a .d .now) 1 (pos 0)) (c .side-of2 .result)
 out c =
-    let s = c .before .before .before .before .before .before .before .before .before .before in
+    let s = entry (c .before .before .before .before) in
     read-bytes (elem-read (s .args .first .now) 1 (c .before .before .before .side-of-arg4 .given)) (elem-read (s .args .s .now) 64 (c .before .before .side-of-arg5 .given)) (elem-read (s .args .d .now) 1 (c .before .side-of-arg6 .given)) (c .side-of2 .ensures)
 
 side-of-requires-2 : tie.Need-side-of-requires-2
 side-of-requires-2 c κs =
-    let s = c .before .before .before .before .before .before .before .before .before in
+    let s = entry (c .before .before .before) in
     bytes-read (elem-read (s .args .first .now) 1 (c .before .before .side-of-arg4 .given)) (elem-read (s .args .s .now) 64 (c .before .side-of-arg5 .given)) (elem-read (s .args .d .now) 1 (c .side-of-arg6 .given))
     (from-bytes (s .pre) (to-short s) (from-short s))
 

@@ -1,12 +1,7 @@
 -- `export::patch::side_of` meets its contract. Assumes nothing.
-use mathlib.Core.Path.{_≡_, refl, sym, ap, ap₂, _∙_, subst}
-use Prim.Native.Nat.{ℕ, _*_, _^_, _<_}
-use native.Mathlib.Omega.{arith}
-use lib.Dec.{T}
+use mathlib.Core.Path.{sym, ap, _∙_}
+use Prim.Native.Nat.{_*_}
 use lib.IntN.{ℤ, pos, natAbs, _*ℤ_}
-use lib.Signed.{nonNeg}
-use mir.Syntax.{w64}
-use mir.Val.{toZ, ofZ}
 use mir.Facts.{toZ-ofZ, fits-natAbs}
 use borrow.Author.Needs.{needs}
 use Rattle.cells.specs.Offsets.{place-bytes}

@@ -1,5 +1,5 @@
 -- `export::rows::repeats` meets its contract. Assumes nothing.
-use mathlib.Core.Path.{_≡_, ap, _∙_}
+use mathlib.Core.Path.{ap, _∙_}
 use mathlib.Core.Bool.{not}
 use borrow.Author.Needs.{needs}
 use Rattle.strided.specs.declared.Mark.{Mark}

@@ -1,5 +1,4 @@
 -- `export::rows::sizes_wrong` meets its contract. Assumes nothing.
-use mathlib.Core.Path.{_≡_}
 use borrow.Author.Needs.{needs}
 use borrow.Author.Tests.{eq-eqb, ne-eqb}
 use Rattle.export.proofs.rows.sizes_wrong.Statement.{statement}

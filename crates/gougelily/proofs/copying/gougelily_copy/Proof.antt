@@ -1,6 +1,6 @@
 -- `gougelily::copying::gougelily_copy` meets its contract: the copy is that of `export::copy`, its answer as a number. Assumes nothing.
 use borrow.Author.Needs.{needs}
-use mathlib.Core.Path.{_≡_, sym, ap, _∙_}
+use mathlib.Core.Path.{sym, ap, _∙_}
 use lib.IntN.{pos}
 use mir.Facts.{toZ-ofZ}
 use Rattle.strided.specs.Memory.{codeOr}
