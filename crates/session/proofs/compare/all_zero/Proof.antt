@@ -1,0 +1,52 @@
+-- `session::compare::all_zero` meets its contract. Assumes nothing.
+use mathlib.Core.Path.{_≡_, refl, sym, ap, _∙_}
+use Prim.Native.Nat.{ℕ, _+_, _-_, _*_, _≤_, _<_}
+use native.Mathlib.Omega.{arith}
+use lib.ListN.{length, getD, take, drop, set, replicate}
+use mathlib.Core.Bool.{_&&_}
+use Rattle.strided.specs.Step.{blank}
+use Rattle.session.proofs.Comparing.{zero-next, zero-over}
+use borrow.Author.Needs.{needs}
+use Rattle.session.proofs.compare.all_zero.Statement.{statement}
+use Rattle.session.proofs.compare.all_zero.Tie as tie
+
+abbrev Inv-loop : tie.InvT-loop
+Inv-loop numbers zero₀ i₀ zero i = (i ≤ length numbers) × ((zero && blank (drop i numbers)) ≡ blank numbers)
+
+abbrev μ-loop : tie.MeasureT-loop
+μ-loop numbers zero₀ i₀ zero i = length numbers - i
+
+loop-holds : tie.Need-loop-holds Inv-loop μ-loop
+loop-holds c = (omega arith, refl)
+
+mul-zero : tie.Need-mul-zero Inv-loop μ-loop
+mul-zero c = search needs
+
+shared-slice-read-zero : tie.Need-shared-slice-read-zero Inv-loop μ-loop
+shared-slice-read-zero c = search needs
+
+add-i : tie.Need-add-i Inv-loop μ-loop
+add-i c = search needs
+
+loop-less : tie.Need-loop-less Inv-loop μ-loop
+loop-less c = search needs
+
+loop-again : tie.Need-loop-again Inv-loop μ-loop
+loop-again c = let s = c .before .before .before in let l = c .before .before .loop in (omega arith, zero-next (s .args .numbers .now) (l .i) (l .zero) (c .before .loop-test .taken) (l .inv .1))
+
+returns : tie.Need-returns Inv-loop μ-loop
+returns c = let s = c .before .before in let l = c .before .loop in zero-over (s .args .numbers .now) (l .i) (l .zero) (c .loop-test .left) (l .inv .1)
+
+pub all-zero-spec : {M : Type 1} → statement M
+all-zero-spec =
+    tie.close
+    (tie.spec
+    Inv-loop
+    μ-loop
+    loop-holds
+    mul-zero
+    shared-slice-read-zero
+    add-i
+    loop-less
+    loop-again
+    returns)

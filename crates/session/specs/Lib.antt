@@ -1,0 +1,7 @@
+pub mod Session
+pub mod Same
+pub mod Afresh
+pub mod Tables
+pub mod Reached
+pub mod Stays
+pub mod Made
