@@ -105,6 +105,8 @@ extern "C" {
     ROW(GOUGELILY_BUFFER, 17, "some cell lies outside its buffer")                                   \
     ROW(GOUGELILY_REPEATS, 18, "the destination's mark is not no: two indices may share a cell")     \
     ROW(GOUGELILY_BYTE_STRIDES, 19, "size 0, or a byte stride that is no multiple of it or too big") \
+    ROW(GOUGELILY_NINTH, 20, "a ninth operand is to join a session")                                 \
+    ROW(GOUGELILY_LEAVING, 21, "the operand that is to leave is not there, or the only one")         \
     ROW(GOUGELILY_SLICE, 22, "a cell lies outside the slice of cells that is lent")                  \
     ROW(GOUGELILY_VISITS, 23, "visits not in the form, rank 0, or a mark buffer of another length")  \
     ROW(GOUGELILY_RECORD, 24, "the machine record is outside its bounds")

@@ -31,6 +31,8 @@ REFUSALS = {
     17: Row("some cell lies outside its buffer", "100 cells of 8 bytes in 799 bytes"),
     18: Row("the destination's mark is not no: two indices may share a cell", "a destination with stride 0 on an axis of extent 2"),
     19: Row("size 0, or a byte stride that is no multiple of it or too big", "size 8, byte stride 12"),
+    20: Row("a ninth operand is to join a session", "joining a session of 8 operands"),
+    21: Row("the operand that is to leave is not there, or the only one", "operand 2 of 2, or operand 0 of 1"),
     22: Row("a cell lies outside the slice of cells that is lent", "extent 5, stride 1, start 0, 4 cells"),
     23: Row("visits not in the form, rank 0, or a mark buffer of another length", "a length of 0, an axis that is not there"),
     24: Row("the machine record is outside its bounds", "a line of 48 bytes"),
