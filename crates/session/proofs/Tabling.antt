@@ -19,7 +19,7 @@ use Rattle.laws.specs.Order.Ranks.{rank-le, ranks-places, table-rows}
 use Rattle.strided.specs.declared.Machine.{Machine}
 use Rattle.strided.specs.declared.Purpose.{Purpose}
 use Rattle.auxiliary.specs.Fitting.{Fitting}
-use Rattle.importance.specs.Tried.{Ranked}
+use Rattle.session.specs.Tabled.{Tabled}
 use Rattle.session.specs.Session.{given, ranksOf, oldPlace, stridesWithout}
 use Rattle.session.specs.Afresh.{old-there, row-moves, few-strides}
 use Rattle.session.specs.Tables.{rows-agree, table-joined}
@@ -137,9 +137,9 @@ module _ (mc : Machine) (u : Purpose) (rank operands : ℕ) (E Z : List ℕ) (S 
   own-fits = record { rank-few = axes; operands-few = few; strides-all = own-strides }
 
   module _ (table : List (List ℕ)) (is : table ≡ tableOf ss rank operands) where
-    pub own-ranked : Ranked (take rank E) ss table (length (take operands Z))
+    pub own-ranked : Tabled (take rank E) ss table (length (take operands Z))
     own-ranked =
-        subst (λ (m : ℕ). Ranked (take rank E) ss table m) (sym own-operands)
+        subst (λ (m : ℕ). Tabled (take rank E) ss table m) (sym own-operands)
         (record {
           fits = subst (λ (r : ℕ). Fitting ss r operands) (sym own-rank) own-fits;
           ranks = is ∙ ap (λ (r : ℕ). tableOf ss r operands) (sym own-rank);
@@ -152,7 +152,7 @@ module _ (mc : Machine) (u : Purpose) (rank operands : ℕ) (E Z : List ℕ) (S 
         ∙ ap₂ (λ (r m : ℕ). padded 512 0 (over (rankTable ss r m) (padded 64 0))) (sym own-rank) (sym own-operands)
 
 -- of a layout whose lists stand alone
-pub exact-ranks : (mc : Machine) (es sizes : List ℕ) (ss : List ℤ) (u : Purpose) (table : List (List ℕ)) → Ranked es ss table (length sizes)
+pub exact-ranks : (mc : Machine) (es sizes : List ℕ) (ss : List ℤ) (u : Purpose) (table : List (List ℕ)) → Tabled es ss table (length sizes)
     → ranksIn table (length sizes) ≡ ranksOf (given mc es sizes ss u)
 unfolding ranksOf
 exact-ranks mc es sizes ss u table r = ap (padded 512 0) (rows-laid ss (length es) (length sizes) (r .fits .operands-few) table (r .ranks))

@@ -13,7 +13,7 @@ ghost use Rattle.strided.specs.Step.{blank, blankZ};
 ghost use Rattle.strided.specs.Refusals.{refusedBy, answered};
 ghost use Rattle.strided.specs.declared.Answer.the-variants.{Served};
 ghost use Rattle.laws.specs.Refusals.Accepted.{Accepted};
-ghost use Rattle.importance.specs.Tried.{Ranked};
+ghost use Rattle.session.specs.Tabled.{Tabled};
 ghost use Rattle.session.specs.Session.{given, kindOf, Right, row21, newRows};
 ghost use Rattle.session.specs.Same.{Decides};
 ghost use Rattle.session.specs.Made.{Even, ranksIn, TableOf, Places, Keeps, LayoutRight, sessionAt};
@@ -135,7 +135,7 @@ fn kept_right<'a>(
 ) -> bool
     requires { ⌜ Allowed (aim .machine) ⌝ }
     requires { ⌜ Accepted (now extents) (now sizes) (now strides) (aim .purpose) ⌝ }
-    requires { ⌜ Ranked (now extents) (now strides) table (length (now sizes)) ⌝ }
+    requires { ⌜ Tabled (now extents) (now strides) table (length (now sizes)) ⌝ }
     requires { ⌜ Places (now weights) (now costs) (now «plan_extents») (now blocks) (now «plan_strides») ⌝ }
     ensures { λ r. let g = given (aim .machine) (now (extents .entry)) (now (sizes .entry)) (now (strides .entry)) (aim .purpose) in
         ⌜ Decides r (Keeps g numbers (now (weights .entry)) (now (costs .entry)) (now («plan_extents» .entry)) (now (blocks .entry)) (now («plan_strides» .entry))) ⌝ }

@@ -12,7 +12,7 @@ ghost use Rattle.strided.specs.Weights.{weights as weightsOf};
 ghost use Rattle.strided.specs.Fuse.{planAxes};
 ghost use Rattle.strided.specs.Plan.{strideTable};
 ghost use Rattle.laws.specs.Refusals.Accepted.{Accepted};
-ghost use Rattle.importance.specs.Tried.{Ranked};
+ghost use Rattle.session.specs.Tabled.{Tabled};
 ghost use Rattle.kernel.specs.Made.{Zeros};
 ghost use Rattle.session.specs.Session.{given};
 ghost use Rattle.session.specs.Made.{KeptIn};
@@ -54,7 +54,7 @@ fn axes_by_into<'a>(
     es: &mut [u64; 64],
     plan_strides: &mut [i64; 512],
 ) -> usize
-    requires { ⌜ Ranked (now extents) (now strides) table operands ⌝ }
+    requires { ⌜ Tabled (now extents) (now strides) table operands ⌝ }
     requires { ⌜ Zeros (now es) (now «plan_strides») ⌝ }
     ensures weights { λ _. ⌜ now (weights .exit) ≡ padded 64 0 (weightsOf (now (extents .entry)) operands (now (strides .entry)) (leadOf purpose)) ⌝ }
     ensures rank { λ r. ⌜ r ≡ length (planAxes (now (extents .entry)) operands (now (strides .entry)) purpose) ⌝ }
@@ -84,7 +84,7 @@ pub fn kept_into<'a>(
 ) -> usize
     requires { ⌜ Allowed (aim .machine) ⌝ }
     requires { ⌜ Accepted (now extents) (now sizes) (now strides) (aim .purpose) ⌝ }
-    requires { ⌜ Ranked (now extents) (now strides) table (length (now sizes)) ⌝ }
+    requires { ⌜ Tabled (now extents) (now strides) table (length (now sizes)) ⌝ }
     requires { ⌜ Zeros (now es) (now «plan_strides») ⌝ }
     ensures { λ r. let g = given (aim .machine) (now (extents .entry)) (now (sizes .entry)) (now (strides .entry)) (aim .purpose) in
         ⌜ KeptIn g r (now (weights .exit)) (now (costs .exit)) (now (es .exit)) (now (blocks .exit)) (now («plan_strides» .exit)) ⌝ }

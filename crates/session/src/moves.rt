@@ -4,7 +4,7 @@ ghost use Prim.Native.Nat.{_*_};
 ghost use lib.ListN.{length, take};
 ghost use Rattle.strided.specs.Machine.{Allowed};
 ghost use Rattle.laws.specs.Refusals.Accepted.{Accepted};
-ghost use Rattle.importance.specs.Tried.{Ranked};
+ghost use Rattle.session.specs.Tabled.{Tabled};
 ghost use Rattle.session.specs.Session.{given, withOperand, withoutOperand};
 ghost use Rattle.session.specs.Made.{KeptAll, Ready, givenFrom, TableOf, Made, givenIn, Joining, Leaving};
 use super::Numbers;
@@ -36,7 +36,7 @@ fn keep_into<'a>(
 ) -> usize
     requires { ⌜ Allowed (aim .machine) ⌝ }
     requires { ⌜ Accepted (now extents) (now sizes) (now strides) (aim .purpose) ⌝ }
-    requires { ⌜ Ranked (now extents) (now strides) table (length (now sizes)) ⌝ }
+    requires { ⌜ Tabled (now extents) (now strides) table (length (now sizes)) ⌝ }
     ensures { λ r. let g = given (aim .machine) (now (extents .entry)) (now (sizes .entry)) (now (strides .entry)) (aim .purpose) in
         ⌜ KeptAll g r (now (ranks .exit)) (now (weights .exit)) (now (costs .exit)) (now («plan_extents» .exit)) (now (blocks .exit)) (now («plan_strides» .exit)) ⌝ }
 {

@@ -11,6 +11,7 @@ use Rattle.strided.specs.Order.{fusingOrder}
 use Rattle.strided.specs.Weights.{weights}
 use Rattle.strided.specs.Plan.{strideTable}
 use Rattle.arrange.specs.Fusing.{in-order, as-planned}
+use Rattle.session.specs.Tabled.{tabled-ranked}
 use Rattle.session.proofs.Keeping.{order-is}
 use borrow.Author.Needs.{needs}
 use Rattle.session.proofs.kept.axes_by_into.Statement.{statement}
@@ -37,7 +38,10 @@ lead-requires : tie.Need-lead-requires
 lead-requires c κs = search needs
 
 first-weights-requires : tie.Need-first-weights-requires
-first-weights-requires c κs = search needs
+first-weights-requires c κs =
+    let s = c .before .before in
+    let a = s .args in
+    tabled-ranked (a .extents .now) (a .strides .now) (a .table) (a .operands) (s .pre .0)
 
 order-into-requires : tie.Need-order-into-requires
 order-into-requires c κs = search needs
