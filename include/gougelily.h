@@ -244,6 +244,22 @@ typedef struct gougelily_student_t {
     gougelily_index_t first;
 } gougelily_student_t;
 
+/*
+ * A session: a layout with its purpose and machine, to which an operand joins or
+ * from which one leaves, and what it gives. The purpose is 0, 1 or 2, `chosen` 0
+ * where there is none; strides as a layout has them; operand k's rank on axis i
+ * at k * 64 + i; a cost of 0 says that the plan's axis has none.
+ */
+typedef struct gougelily_session_t {
+    uint64_t purpose, chosen;
+    gougelily_machine_t machine;
+    size_t rank, operands;
+    uint64_t extents[GOUGELILY_MAX_RANK], sizes[GOUGELILY_MAX_OPERANDS];
+    int64_t strides[GOUGELILY_PLAN_STRIDES];
+    uint64_t ranks[GOUGELILY_PLAN_STRIDES], weights[GOUGELILY_MAX_RANK], costs[GOUGELILY_MAX_RANK];
+    gougelily_plan_t plan;
+} gougelily_session_t;
+
 /* ------------------------------------------------------------ functions on the structs */
 
 /*
@@ -394,6 +410,30 @@ static inline int64_t gougelily_engineer_view(const gougelily_visit_t *visit, go
  * Answers 0, whatever the record holds: a count above 64 is read as 64.
  */
 static inline int64_t gougelily_student_view(const gougelily_visit_t *visit, gougelily_student_t *student);
+
+/*
+ * A session's beginning, with any layout that planning accepts.
+ * Answers 0, and the session. Refuses 1, 2, 3, 4, 24, 5, 6, in this order.
+ */
+static inline int64_t gougelily_session_begin(const gougelily_layout_t *layout, const gougelily_machine_t *machine,
+                                              gougelily_session_t *session);
+
+/*
+ * An operand joins a session at the end, with its size and a stride per axis.
+ * Everything that the session keeps is then what its present layout gives.
+ * Answers 0. Refuses 10, 20, 3, 6, in this order: 10 a session that no beginning
+ * and accepted calls lead to.
+ */
+static inline int64_t gougelily_session_join(gougelily_session_t *session, uint64_t size, const int64_t *strides,
+                                             size_t stride_count);
+
+/*
+ * An operand leaves a session, and the later ones move up. The chosen operand
+ * moves with its data; if it is the one that leaves there is none for a pointwise
+ * purpose, and operand 0 for a fold.
+ * Answers 0. Refuses 10, 21, in this order.
+ */
+static inline int64_t gougelily_session_leave(gougelily_session_t *session, uint64_t operand);
 
 /* ------------------------------------------------------------ functions on texts and one operand */
 
@@ -625,6 +665,37 @@ int64_t gougelily_student(uint64_t number, const uint64_t counters[GOUGELILY_MAX
                           uint64_t student_length[1], size_t student_count[1],
                           uint64_t student_index[GOUGELILY_MAX_RANK]);
 
+/* gougelily_session_begin; the machine's four numbers in one array, the plan's rank and operands in one */
+int64_t gougelily_begin_session(const uint64_t *layout_extents, size_t extent_count, const uint64_t *layout_sizes,
+                                size_t size_count, const int64_t *layout_strides, size_t stride_count,
+                                uint64_t wanted, uint64_t leading, uint64_t line, uint64_t cache, uint64_t way,
+                                uint64_t live, uint64_t purpose[1], uint64_t chosen[1], uint64_t machine[4], size_t rank[1],
+                                size_t operands[1], uint64_t extents[GOUGELILY_MAX_RANK],
+                                uint64_t sizes[GOUGELILY_MAX_OPERANDS], int64_t strides[GOUGELILY_PLAN_STRIDES],
+                                uint64_t ranks[GOUGELILY_PLAN_STRIDES], uint64_t weights[GOUGELILY_MAX_RANK],
+                                uint64_t costs[GOUGELILY_MAX_RANK], size_t plan_counts[2],
+                                uint64_t plan_extents[GOUGELILY_MAX_RANK], uint64_t blocks[GOUGELILY_MAX_RANK],
+                                int64_t plan_strides[GOUGELILY_PLAN_STRIDES]);
+
+/* gougelily_session_join */
+int64_t gougelily_join_session(uint64_t purpose[1], uint64_t chosen[1], uint64_t machine[4], size_t rank[1],
+                                size_t operands[1], const uint64_t extents[GOUGELILY_MAX_RANK],
+                                uint64_t sizes[GOUGELILY_MAX_OPERANDS], int64_t strides[GOUGELILY_PLAN_STRIDES],
+                                uint64_t ranks[GOUGELILY_PLAN_STRIDES], uint64_t weights[GOUGELILY_MAX_RANK],
+                                uint64_t costs[GOUGELILY_MAX_RANK], size_t plan_counts[2],
+                                uint64_t plan_extents[GOUGELILY_MAX_RANK], uint64_t blocks[GOUGELILY_MAX_RANK],
+                                int64_t plan_strides[GOUGELILY_PLAN_STRIDES], uint64_t size,
+                               const int64_t *joining, size_t joining_count);
+
+/* gougelily_session_leave */
+int64_t gougelily_leave_session(uint64_t purpose[1], uint64_t chosen[1], uint64_t machine[4], size_t rank[1],
+                                size_t operands[1], const uint64_t extents[GOUGELILY_MAX_RANK],
+                                uint64_t sizes[GOUGELILY_MAX_OPERANDS], int64_t strides[GOUGELILY_PLAN_STRIDES],
+                                uint64_t ranks[GOUGELILY_PLAN_STRIDES], uint64_t weights[GOUGELILY_MAX_RANK],
+                                uint64_t costs[GOUGELILY_MAX_RANK], size_t plan_counts[2],
+                                uint64_t plan_extents[GOUGELILY_MAX_RANK], uint64_t blocks[GOUGELILY_MAX_RANK],
+                                int64_t plan_strides[GOUGELILY_PLAN_STRIDES], uint64_t operand);
+
 /* ------------------------------------------------------------ older names */
 
 /* They stay; new programs take the names on the right, which are those of the raw functions. */
@@ -762,6 +833,55 @@ static inline int64_t gougelily_student_view(const gougelily_visit_t *visit, gou
     return gougelily_student(visit->number, visit->block.counters, visit->block.length, visit->block.offsets,
                              visit->block.strides, visit->first.count, visit->first.places, &student->number,
                              &student->length, &student->first.count, student->first.places);
+}
+
+static inline int64_t gougelily_session_begin(const gougelily_layout_t *layout, const gougelily_machine_t *wanted,
+                                              gougelily_session_t *session)
+{
+    uint64_t machine[4] = { 0, 0, 0, 0 };
+    size_t counts[2] = { 0, 0 };
+    int64_t answer = gougelily_begin_session(layout->extents, layout->rank, layout->sizes, layout->operands, layout->strides,
+                     layout->stride_count, layout->purpose, layout->chosen, wanted->line, wanted->cache, wanted->way,
+                     wanted->live, &session->purpose, &session->chosen, machine, &session->rank, &session->operands, session->extents,
+                     session->sizes, session->strides, session->ranks, session->weights, session->costs, counts,
+                     session->plan.extents, session->plan.blocks, session->plan.strides);
+    if (answer >= 0)
+        session->machine = *wanted;
+    if (answer >= 0) {
+        session->plan.rank = counts[0];
+        session->plan.operands = counts[1];
+    }
+    return answer;
+}
+
+static inline int64_t gougelily_session_join(gougelily_session_t *session, uint64_t size, const int64_t *strides,
+                                             size_t stride_count)
+{
+    uint64_t machine[4] = { session->machine.line, session->machine.cache, session->machine.way, session->machine.live };
+    size_t counts[2] = { session->plan.rank, session->plan.operands };
+    int64_t answer = gougelily_join_session(&session->purpose, &session->chosen, machine, &session->rank, &session->operands, session->extents,
+                     session->sizes, session->strides, session->ranks, session->weights, session->costs, counts,
+                     session->plan.extents, session->plan.blocks, session->plan.strides, size, strides,
+                     stride_count);
+    if (answer >= 0) {
+        session->plan.rank = counts[0];
+        session->plan.operands = counts[1];
+    }
+    return answer;
+}
+
+static inline int64_t gougelily_session_leave(gougelily_session_t *session, uint64_t operand)
+{
+    uint64_t machine[4] = { session->machine.line, session->machine.cache, session->machine.way, session->machine.live };
+    size_t counts[2] = { session->plan.rank, session->plan.operands };
+    int64_t answer = gougelily_leave_session(&session->purpose, &session->chosen, machine, &session->rank, &session->operands, session->extents,
+                     session->sizes, session->strides, session->ranks, session->weights, session->costs, counts,
+                     session->plan.extents, session->plan.blocks, session->plan.strides, operand);
+    if (answer >= 0) {
+        session->plan.rank = counts[0];
+        session->plan.operands = counts[1];
+    }
+    return answer;
 }
 
 #ifdef __cplusplus

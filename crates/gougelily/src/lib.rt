@@ -10,6 +10,7 @@ pub mod judging;
 pub mod many;
 pub mod marks;
 pub mod plans;
+pub mod sessions;
 pub mod summaries;
 pub mod texts;
 pub mod versions;

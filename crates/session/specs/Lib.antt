@@ -6,3 +6,4 @@ pub mod Tabled
 pub mod Reached
 pub mod Stays
 pub mod Made
+pub mod Memory
