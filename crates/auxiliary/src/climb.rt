@@ -14,6 +14,9 @@ ghost use Rattle.strided.specs.Ranks.{ranks};
 ghost use Rattle.auxiliary.specs.Gaps.{sizeAt};
 ghost use Rattle.auxiliary.specs.Climbs.{chosen, climbed, rankOn, placeOf};
 
+// From this many axes on a climb is sooner done than counting, which compares each axis with all.
+const CLIMB_FROM: usize = 24;
+
 // How far the climb is: the largest size so far, its rank, and how many strides so far are not 0.
 struct Climb {
     size: u64,
@@ -72,7 +75,7 @@ fn place(axes: usize, turn: usize, falling: bool) -> usize
 }
 
 // Whether the first stride is larger than the last.
-pub fn falls(strides: &[i64]) -> bool
+fn falls(strides: &[i64]) -> bool
     ensures { λ r. ⌜ r ≡ ltb (sizeAt (now (strides .entry)) (length (now (strides .entry)) - 1)) (sizeAt (now (strides .entry)) 0) ⌝ }
 {
     let axes = strides.len();
@@ -86,7 +89,7 @@ pub fn falls(strides: &[i64]) -> bool
 
 // The ranks of strides that rise, or fall, written into a row of zeros. Where they do neither, since a stride that is not 0 is smaller than
 // one before it, it answers false, and the row is 0 again.
-pub fn climbing_into(strides: &[i64], falling: bool, order: &mut [u8; 64]) -> bool
+fn climbing_into(strides: &[i64], falling: bool, order: &mut [u8; 64]) -> bool
     requires { ⌜ length (now strides) ≤ 64 ⌝ }
     requires { ⌜ now order ≡ replicate 64 0 ⌝ }
     ensures { λ r. ⌜ now (order .exit) ≡ cond r (padded 64 0 (ranks (now (strides .entry)))) (replicate 64 0) ⌝ }
@@ -112,4 +115,16 @@ pub fn climbing_into(strides: &[i64], falling: bool, order: &mut [u8; 64]) -> bo
     }
     *order = [0u8; MAX_RANK];
     false
+}
+
+// The same in the way that the strides may go, first up or down. Few axes are counted sooner than climbed: the answer is false for them.
+pub fn climb_into(strides: &[i64], order: &mut [u8; 64]) -> bool
+    requires { ⌜ length (now strides) ≤ 64 ⌝ }
+    requires { ⌜ now order ≡ replicate 64 0 ⌝ }
+    ensures { λ r. ⌜ now (order .exit) ≡ cond r (padded 64 0 (ranks (now (strides .entry)))) (replicate 64 0) ⌝ }
+{
+    if strides.len() < CLIMB_FROM {
+        return false;
+    }
+    climbing_into(strides, falls(strides), order)
 }
