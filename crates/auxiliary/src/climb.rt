@@ -6,16 +6,11 @@ use layout::magnitude;
 use strided::MAX_RANK;
 ghost use mathlib.Core.Path.{_≡_};
 ghost use mathlib.Core.Bool.{cond};
-ghost use Prim.Native.Nat.{_-_, _^_, _≤_, _<_, min};
-ghost use lib.Dec.{ltb};
+ghost use Prim.Native.Nat.{_+_, _^_, _≤_, _<_, min};
 ghost use lib.ListN.{length, replicate};
 ghost use Rattle.strided.specs.Base.{padded};
-ghost use Rattle.strided.specs.Ranks.{ranks};
-ghost use Rattle.auxiliary.specs.Gaps.{sizeAt};
+ghost use Rattle.strided.specs.Ranks.{contributes, ranks};
 ghost use Rattle.auxiliary.specs.Climbs.{chosen, climbed, rankOn, placeOf};
-
-// From this many axes on a climb is sooner done than counting, which compares each axis with all.
-const CLIMB_FROM: usize = 24;
 
 // How far the climb is: the largest size so far, its rank, and how many strides so far are not 0.
 struct Climb {
@@ -74,17 +69,12 @@ fn place(axes: usize, turn: usize, falling: bool) -> usize
     if falling { axes - 1 - turn } else { turn }
 }
 
-// Whether the first stride is larger than the last.
-fn falls(strides: &[i64]) -> bool
-    ensures { λ r. ⌜ r ≡ ltb (sizeAt (now (strides .entry)) (length (now (strides .entry)) - 1)) (sizeAt (now (strides .entry)) 0) ⌝ }
+// How often three sizes turn back: a size that is not 0 behind a larger one.
+fn turns(first: u64, middle: u64, last: u64) -> u64
+    requires { ⌜ (first ≤ 2 ^ 63) × ((middle ≤ 2 ^ 63) × (last ≤ 2 ^ 63)) ⌝ }
+    ensures { λ r. ⌜ r ≡ contributes middle first + contributes last middle + contributes last first ⌝ }
 {
-    let axes = strides.len();
-    if axes == 0 {
-        return false;
-    }
-    let first = magnitude(strides[0]);
-    let last = magnitude(strides[axes - 1]);
-    last < first
+    contributes(middle, first) + contributes(last, middle) + contributes(last, first)
 }
 
 // The ranks of strides that rise, or fall, written into a row of zeros. Where they do neither, since a stride that is not 0 is smaller than
@@ -117,14 +107,25 @@ fn climbing_into(strides: &[i64], falling: bool, order: &mut [u8; 64]) -> bool
     false
 }
 
-// The same in the way that the strides may go, first up or down. Few axes are counted sooner than climbed: the answer is false for them.
+// The same in the way that the first, middle and last stride go, up or down. Where they go neither way the strides do not, and no climb is
+// begun: the answer is false, and the row as it was.
 pub fn climb_into(strides: &[i64], order: &mut [u8; 64]) -> bool
     requires { ⌜ length (now strides) ≤ 64 ⌝ }
     requires { ⌜ now order ≡ replicate 64 0 ⌝ }
     ensures { λ r. ⌜ now (order .exit) ≡ cond r (padded 64 0 (ranks (now (strides .entry)))) (replicate 64 0) ⌝ }
 {
-    if strides.len() < CLIMB_FROM {
+    let axes = strides.len();
+    if axes == 0 {
         return false;
     }
-    climbing_into(strides, falls(strides), order)
+    let first = magnitude(strides[0]);
+    let middle = magnitude(strides[axes / 2]);
+    let last = magnitude(strides[axes - 1]);
+    if turns(first, middle, last) == 0 {
+        return climbing_into(strides, false, order);
+    }
+    if turns(last, middle, first) == 0 {
+        return climbing_into(strides, true, order);
+    }
+    false
 }
