@@ -27,6 +27,7 @@ The public entries, none with a precondition: `kernel::plan`, `walk::begin`, and
 | the plan | src/lib.rt, Plan | `Purpose`, `planned`; Text `Lists` |
 | where ports go astray | must-fail/ | `never_cut` |
 """,
+    "docs/SPECIFICATION.md": "- There is a plan (`Plan.planned`).\n",
     "crates/strided/src/lib.rt": "pub enum Purpose {\n    Fold,\n}\n",
     "crates/strided/specs/Plan.antt": "unfoldable pub planned : ℕ → ℕ\nplanned n = n\n\nabbrev pub _⊕_ : ℕ → ℕ → ℕ\na ⊕ b = a\n",
     "crates/strided/specs/Text.antt": "pub record Lists (n : ℕ) : Type 0 where\n  pub size : ℕ\n",
@@ -94,7 +95,7 @@ class Promises(unittest.TestCase):
         self.assertIn(words, fault)
 
     def test_right(self):
-        self.assertEqual(judged(), (0, "2 entries and 1 C functions cite 4 definitions; docs/DEFINITIONS.md has 4 names, README.md's table 4; 0 wrong\n", ""))
+        self.assertEqual(judged(), (0, "2 entries and 1 C functions cite 4 definitions; docs/DEFINITIONS.md has 4 names, docs/SPECIFICATION.md 1, README.md's table 4; 0 wrong\n", ""))
 
     def test_a_definition_of_another_crate(self):
         self.refused("kernel::plan cites `Made` of crate kernel", ("crates/kernel/src/lib.rt", "plannedOf (length", "Made (length"))
@@ -105,6 +106,10 @@ class Promises(unittest.TestCase):
         self.refused("kernel::plan cites `Made` of crate kernel", ("crates/kernel/src/lib.rt", "r ≡ plannedOf (length", "let p = plannedOf in record {\n        is = Made } ≡ p (length"))
         self.refused("by code", ("crates/gougelily/src/plans.rt", "planned n ⊕ r", "planned n ⊕ ⟦made()⟧"))
         self.refused("cites no definition", ("crates/gougelily/src/plans.rt", "planned n ⊕ r", "n ≡ r"))
+
+    def test_a_rule_without_its_definition(self):
+        self.refused("there is no `Plan.plans`", ("docs/SPECIFICATION.md", "Plan.planned", "Plan.plans"))
+        self.refused("there is no `walk/specs/Plan.planned`", ("docs/SPECIFICATION.md", "Plan.planned", "walk/specs/Plan.planned"))
 
     def test_a_precondition(self):
         self.refused("kernel::plan has a precondition", ("crates/kernel/src/lib.rt", "    ensures", "    requires { ⌜ 0 < 1 ⌝ }\n    ensures"))
