@@ -185,7 +185,8 @@ fn parts_right<'a>(
     requires { ⌜ LayoutRight numbers (now extents) (now sizes) (now strides) ⌝ }
     ensures told { λ r. ⌜ Decides r (Right (sessionAt numbers (now (extents .entry)) (now (sizes .entry)) (now (strides .entry)) (now (ranks .entry))
         (now (weights .entry)) (now (costs .entry)) (now («plan_extents» .entry)) (now (blocks .entry)) (now («plan_strides» .entry)))) ⌝ }
-    ensures table { λ r. ⌜ (r ≡ true → TableOf (take (numbers .rank * numbers .operands) (now (strides .entry))) (numbers .rank) (numbers .operands) (now (table .exit))) ⌝ }
+    ensures table { λ r. ⌜ (r ≡ true
+        → TableOf (take (numbers .rank * numbers .operands) (now (strides .entry))) (numbers .rank) (numbers .operands) (now (table .exit))) ⌝ }
 {
     let rank = numbers.rank;
     let operands = numbers.operands;
@@ -232,7 +233,8 @@ pub fn holds<'a>(
     requires { ⌜ now table ≡ replicate 8 (replicate 64 0) ⌝ }
     ensures told { λ r. ⌜ Decides r (Right (sessionAt numbers (now (extents .entry)) (now (sizes .entry)) (now (strides .entry)) (now (ranks .entry))
         (now (weights .entry)) (now (costs .entry)) (now («plan_extents» .entry)) (now (blocks .entry)) (now («plan_strides» .entry)))) ⌝ }
-    ensures table { λ r. ⌜ (r ≡ true → TableOf (take (numbers .rank * numbers .operands) (now (strides .entry))) (numbers .rank) (numbers .operands) (now (table .exit))) ⌝ }
+    ensures table { λ r. ⌜ (r ≡ true
+        → TableOf (take (numbers .rank * numbers .operands) (now (strides .entry))) (numbers .rank) (numbers .operands) (now (table .exit))) ⌝ }
 {
     if layout_right(numbers, extents, sizes, strides) {
         return parts_right(

@@ -89,10 +89,11 @@ fn check_join<'a>(
     requires { ⌜ (length (now extents) ≡ 64) × ((length (now sizes) ≡ 8) × ((length (now strides) ≡ 512) × (length (now ranks) ≡ 512))) ⌝ }
     requires { ⌜ Places (now weights) (now costs) (now «plan_extents») (now blocks) (now «plan_strides») ⌝ }
     requires { ⌜ now table ≡ replicate 8 (replicate 64 0) ⌝ }
-    ensures told { λ r. let s = sessionAt numbers (now (extents .entry)) (now (sizes .entry)) (now (strides .entry)) (now (ranks .entry)) (now (weights .entry)) (now (costs .entry))
-        (now («plan_extents» .entry)) (now (blocks .entry)) (now («plan_strides» .entry)) in
+    ensures told { λ r. let s = sessionAt numbers (now (extents .entry)) (now (sizes .entry)) (now (strides .entry)) (now (ranks .entry))
+        (now (weights .entry)) (now (costs .entry)) (now («plan_extents» .entry)) (now (blocks .entry)) (now («plan_strides» .entry)) in
         ⌜ r ≡ answered (refusedBy (joinRows s (now (joining .entry)))) ⌝ }
-    ensures table { λ r. ⌜ (r ≡ Served → TableOf (take (numbers .rank * numbers .operands) (now (strides .entry))) (numbers .rank) (numbers .operands) (now (table .exit))) ⌝ }
+    ensures table { λ r. ⌜ (r ≡ Served
+        → TableOf (take (numbers .rank * numbers .operands) (now (strides .entry))) (numbers .rank) (numbers .operands) (now (table .exit))) ⌝ }
 {
     if holds(
         numbers,
@@ -131,10 +132,11 @@ fn check_leave<'a>(
     requires { ⌜ (length (now extents) ≡ 64) × ((length (now sizes) ≡ 8) × ((length (now strides) ≡ 512) × (length (now ranks) ≡ 512))) ⌝ }
     requires { ⌜ Places (now weights) (now costs) (now «plan_extents») (now blocks) (now «plan_strides») ⌝ }
     requires { ⌜ now table ≡ replicate 8 (replicate 64 0) ⌝ }
-    ensures told { λ r. let s = sessionAt numbers (now (extents .entry)) (now (sizes .entry)) (now (strides .entry)) (now (ranks .entry)) (now (weights .entry)) (now (costs .entry))
-        (now («plan_extents» .entry)) (now (blocks .entry)) (now («plan_strides» .entry)) in
+    ensures told { λ r. let s = sessionAt numbers (now (extents .entry)) (now (sizes .entry)) (now (strides .entry)) (now (ranks .entry))
+        (now (weights .entry)) (now (costs .entry)) (now («plan_extents» .entry)) (now (blocks .entry)) (now («plan_strides» .entry)) in
         ⌜ r ≡ answered (refusedBy (leaveRows s operand)) ⌝ }
-    ensures table { λ r. ⌜ (r ≡ Served → TableOf (take (numbers .rank * numbers .operands) (now (strides .entry))) (numbers .rank) (numbers .operands) (now (table .exit))) ⌝ }
+    ensures table { λ r. ⌜ (r ≡ Served
+        → TableOf (take (numbers .rank * numbers .operands) (now (strides .entry))) (numbers .rank) (numbers .operands) (now (table .exit))) ⌝ }
 {
     if holds(
         numbers,
@@ -172,10 +174,10 @@ pub fn begin_lent<'a>(
     blocks: &mut [u64; 64],
     plan_strides: &mut [i64; 512],
 ) -> Moved
-    ensures { λ r. let old = sessionAt «own_numbers» (now (extents .entry)) (now (sizes .entry)) (now (strides .entry)) (now (ranks .entry)) (now (weights .entry)) (now (costs .entry))
-        (now («plan_extents» .entry)) (now (blocks .entry)) (now («plan_strides» .entry)) in
-        let new = sessionAt (r .numbers) (now (extents .exit)) (now (sizes .exit)) (now (strides .exit)) (now (ranks .exit)) (now (weights .exit)) (now (costs .exit))
-        (now («plan_extents» .exit)) (now (blocks .exit)) (now («plan_strides» .exit)) in
+    ensures { λ r. let old = sessionAt «own_numbers» (now (extents .entry)) (now (sizes .entry)) (now (strides .entry)) (now (ranks .entry))
+        (now (weights .entry)) (now (costs .entry)) (now («plan_extents» .entry)) (now (blocks .entry)) (now («plan_strides» .entry)) in
+        let new = sessionAt (r .numbers) (now (extents .exit)) (now (sizes .exit)) (now (strides .exit)) (now (ranks .exit))
+        (now (weights .exit)) (now (costs .exit)) (now («plan_extents» .exit)) (now (blocks .exit)) (now («plan_strides» .exit)) in
         let g = given (aim .machine) (now («layout_extents» .entry)) (now («layout_sizes» .entry)) (now («layout_strides» .entry)) (aim .purpose) in
         ⌜ Lent (begun g) old new (r .answer) ⌝ }
 {
@@ -240,10 +242,10 @@ pub fn join_lent<'a>(
     size: u64,
     joining: &'a [i64],
 ) -> Moved
-    ensures { λ r. let old = sessionAt numbers (now (extents .entry)) (now (sizes .entry)) (now (strides .entry)) (now (ranks .entry)) (now (weights .entry)) (now (costs .entry))
-        (now («plan_extents» .entry)) (now (blocks .entry)) (now («plan_strides» .entry)) in
-        let new = sessionAt (r .numbers) (now (extents .entry)) (now (sizes .exit)) (now (strides .exit)) (now (ranks .exit)) (now (weights .exit)) (now (costs .exit))
-        (now («plan_extents» .exit)) (now (blocks .exit)) (now («plan_strides» .exit)) in
+    ensures { λ r. let old = sessionAt numbers (now (extents .entry)) (now (sizes .entry)) (now (strides .entry)) (now (ranks .entry))
+        (now (weights .entry)) (now (costs .entry)) (now («plan_extents» .entry)) (now (blocks .entry)) (now («plan_strides» .entry)) in
+        let new = sessionAt (r .numbers) (now (extents .entry)) (now (sizes .exit)) (now (strides .exit)) (now (ranks .exit))
+        (now (weights .exit)) (now (costs .exit)) (now («plan_extents» .exit)) (now (blocks .exit)) (now («plan_strides» .exit)) in
         ⌜ Lent (joined old size (now (joining .entry))) old new (r .answer) ⌝ }
 {
     let mut table = [[0u8; 64]; 8];
@@ -316,10 +318,10 @@ pub fn leave_lent<'a>(
     plan_strides: &mut [i64; 512],
     operand: u64,
 ) -> Moved
-    ensures { λ r. let old = sessionAt numbers (now (extents .entry)) (now (sizes .entry)) (now (strides .entry)) (now (ranks .entry)) (now (weights .entry)) (now (costs .entry))
-        (now («plan_extents» .entry)) (now (blocks .entry)) (now («plan_strides» .entry)) in
-        let new = sessionAt (r .numbers) (now (extents .entry)) (now (sizes .exit)) (now (strides .exit)) (now (ranks .exit)) (now (weights .exit)) (now (costs .exit))
-        (now («plan_extents» .exit)) (now (blocks .exit)) (now («plan_strides» .exit)) in
+    ensures { λ r. let old = sessionAt numbers (now (extents .entry)) (now (sizes .entry)) (now (strides .entry)) (now (ranks .entry))
+        (now (weights .entry)) (now (costs .entry)) (now («plan_extents» .entry)) (now (blocks .entry)) (now («plan_strides» .entry)) in
+        let new = sessionAt (r .numbers) (now (extents .entry)) (now (sizes .exit)) (now (strides .exit)) (now (ranks .exit))
+        (now (weights .exit)) (now (costs .exit)) (now («plan_extents» .exit)) (now (blocks .exit)) (now («plan_strides» .exit)) in
         ⌜ Lent (left old operand) old new (r .answer) ⌝ }
 {
     let mut table = [[0u8; 64]; 8];
