@@ -54,13 +54,16 @@ pub extern "C" fn gougelily_begin_session<'a>(
     blocks: &mut [u64; 64],
     plan_strides: &mut [i64; 512],
 ) -> i64
-    ensures { λ r. let old = sessionAt (numbersAt (now (purpose .entry)) (now (chosen .entry)) (now (machine .entry)) (now (rank .entry)) (now (operands .entry)) (now («plan_counts» .entry)))
+    ensures { λ r. let old = sessionAt
+        (numbersAt (now (purpose .entry)) (now (chosen .entry)) (now (machine .entry)) (now (rank .entry)) (now (operands .entry)) (now («plan_counts» .entry)))
         (now (extents .entry)) (now (sizes .entry)) (now (strides .entry)) (now (ranks .entry)) (now (weights .entry)) (now (costs .entry))
         (now («plan_extents» .entry)) (now (blocks .entry)) (now («plan_strides» .entry)) in
-        let new = sessionAt (numbersAt (now (purpose .exit)) (now (chosen .exit)) (now (machine .exit)) (now (rank .exit)) (now (operands .exit)) (now («plan_counts» .exit)))
+        let new = sessionAt
+        (numbersAt (now (purpose .exit)) (now (chosen .exit)) (now (machine .exit)) (now (rank .exit)) (now (operands .exit)) (now («plan_counts» .exit)))
         (now (extents .exit)) (now (sizes .exit)) (now (strides .exit)) (now (ranks .exit)) (now (weights .exit)) (now (costs .exit))
         (now («plan_extents» .exit)) (now (blocks .exit)) (now («plan_strides» .exit)) in
-        let t = begun (given (machineOf line cache way live) (now («layout_extents» .entry)) (now («layout_sizes» .entry)) (now («layout_strides» .entry)) (purposeOf wanted leading)) in
+        let t = begun (given (machineOf line cache way live)
+        (now («layout_extents» .entry)) (now («layout_sizes» .entry)) (now («layout_strides» .entry)) (purposeOf wanted leading)) in
         ⌜ Handed (t .answer) (t .session) old new r ⌝ }
 {
     let record = Machine {
@@ -137,10 +140,12 @@ pub extern "C" fn gougelily_join_session<'a>(
     size: u64,
     joining: &'a [i64],
 ) -> i64
-    ensures { λ r. let old = sessionAt (numbersAt (now (purpose .entry)) (now (chosen .entry)) (now (machine .entry)) (now (rank .entry)) (now (operands .entry)) (now («plan_counts» .entry)))
+    ensures { λ r. let old = sessionAt
+        (numbersAt (now (purpose .entry)) (now (chosen .entry)) (now (machine .entry)) (now (rank .entry)) (now (operands .entry)) (now («plan_counts» .entry)))
         (now (extents .entry)) (now (sizes .entry)) (now (strides .entry)) (now (ranks .entry)) (now (weights .entry)) (now (costs .entry))
         (now («plan_extents» .entry)) (now (blocks .entry)) (now («plan_strides» .entry)) in
-        let new = sessionAt (numbersAt (now (purpose .exit)) (now (chosen .exit)) (now (machine .exit)) (now (rank .exit)) (now (operands .exit)) (now («plan_counts» .exit)))
+        let new = sessionAt
+        (numbersAt (now (purpose .exit)) (now (chosen .exit)) (now (machine .exit)) (now (rank .exit)) (now (operands .exit)) (now («plan_counts» .exit)))
         (now (extents .entry)) (now (sizes .exit)) (now (strides .exit)) (now (ranks .exit)) (now (weights .exit)) (now (costs .exit))
         (now («plan_extents» .exit)) (now (blocks .exit)) (now («plan_strides» .exit)) in
         let t = joined old size (now (joining .entry)) in
@@ -207,10 +212,12 @@ pub extern "C" fn gougelily_leave_session<'a>(
     plan_strides: &mut [i64; 512],
     operand: u64,
 ) -> i64
-    ensures { λ r. let old = sessionAt (numbersAt (now (purpose .entry)) (now (chosen .entry)) (now (machine .entry)) (now (rank .entry)) (now (operands .entry)) (now («plan_counts» .entry)))
+    ensures { λ r. let old = sessionAt
+        (numbersAt (now (purpose .entry)) (now (chosen .entry)) (now (machine .entry)) (now (rank .entry)) (now (operands .entry)) (now («plan_counts» .entry)))
         (now (extents .entry)) (now (sizes .entry)) (now (strides .entry)) (now (ranks .entry)) (now (weights .entry)) (now (costs .entry))
         (now («plan_extents» .entry)) (now (blocks .entry)) (now («plan_strides» .entry)) in
-        let new = sessionAt (numbersAt (now (purpose .exit)) (now (chosen .exit)) (now (machine .exit)) (now (rank .exit)) (now (operands .exit)) (now («plan_counts» .exit)))
+        let new = sessionAt
+        (numbersAt (now (purpose .exit)) (now (chosen .exit)) (now (machine .exit)) (now (rank .exit)) (now (operands .exit)) (now («plan_counts» .exit)))
         (now (extents .entry)) (now (sizes .exit)) (now (strides .exit)) (now (ranks .exit)) (now (weights .exit)) (now (costs .exit))
         (now («plan_extents» .exit)) (now (blocks .exit)) (now («plan_strides» .exit)) in
         let t = left old operand in
