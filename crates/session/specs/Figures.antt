@@ -2,20 +2,34 @@
 -- Assumes nothing.
 use mathlib.Core.Path.{_≡_, refl}
 use mathlib.Core.List.{List, [], _∷_}
-use mathlib.Core.Option.{none, some}
+use mathlib.Core.Option.{Option, none, some}
 use Prim.Native.Nat.{ℕ}
 use lib.IntN.{ℤ, pos}
 use Rattle.strided.specs.Base.{some-of}
-use Rattle.strided.specs.Refusals.{refusedBy}
+use Rattle.strided.specs.Refusals.{refusedBy, answered, planningRows, planningRefused}
 use Rattle.strided.specs.Rows.{numbers}
 use Rattle.strided.specs.declared.Machine.{Machine}
 use Rattle.strided.specs.declared.Purpose.{Purpose}
 use Rattle.strided.specs.declared.Purpose.the-variants.{Pointwise, PointwiseInto, Fold}
+use Rattle.strided.specs.declared.Refusal.{Refusal}
 use Rattle.strided.specs.declared.Refusal.the-variants.{Ninth, Leaving, StrideCount, Reach}
 use Rattle.session.specs.declared.Session.{Session}
-use Rattle.session.specs.Session.{Given, given, withOperand, withoutOperand, row21, newRows, joinRows, leaveRows}
+use Rattle.session.specs.declared.Sessioned.{Sessioned}
+use Rattle.session.specs.Session.{Given, given, freshOf, withOperand, withoutOperand, row21, newRows, joinRows, leaveRows, sessionedOr, begun}
 
--- the numbers of the rows, in the order in which they are asked, whatever the entry is called with; a beginning has those of planning
+-- the numbers of the rows, in the order in which they are asked, whatever the entry is called with. A beginning has those of planning
+answer-of : (o : Option Refusal) (t : Session) → sessionedOr o t .answer ≡ answered o
+answer-of none t = refl
+answer-of (some r) t = refl
+
+module _ (mc : Machine) (es sizes : List ℕ) (ss : List ℤ) (u : Purpose) where
+  pub begin-planning : begun (given mc es sizes ss u) .answer ≡ answered (refusedBy (planningRows mc es sizes ss u))
+  unfolding begun planningRefused
+  begin-planning = answer-of (refusedBy (planningRows mc es sizes ss u)) (freshOf (given mc es sizes ss u))
+
+  pub begin-rows : numbers (planningRows mc es sizes ss u) ≡ 1 ∷ 2 ∷ 3 ∷ 4 ∷ 24 ∷ 5 ∷ 6 ∷ []
+  begin-rows = refl
+
 pub join-rows : (s : Session) (ts : List ℤ) → numbers (joinRows s ts) ≡ 10 ∷ 20 ∷ 3 ∷ 6 ∷ []
 join-rows s ts = refl
 

@@ -6,7 +6,7 @@
 --   after any accepted calls each kept part is what the layout gives afresh  Reached   reached-kept
 --   the ranks of operands that stayed are the numbers they had               Stays     join-keeps, leave-keeps
 --   the chosen operand has the size and the strides that it had              Stays     chosen-moves
---   the order of the rows, and small layouts computed                        Figures   join-rows, leave-rows, leave-moves, leave-chosen
+--   the order of the rows, and small layouts computed                        Figures   begin-rows, join-rows, leave-rows, leave-moves, leave-chosen
 pub mod Session
 pub mod Same
 pub mod Afresh
