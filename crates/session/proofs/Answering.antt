@@ -1,11 +1,11 @@
 -- What a call on a lent session answers and leaves, put together from what its rows and its makers told. Assumes nothing.
-use mathlib.Core.Path.{_≡_, refl, sym, ap, ap₂, _∙_, subst}
-use mathlib.Core.Bool.{Bool, true, false, not}
+use mathlib.Core.Path.{_≡_, refl, sym, ap, _∙_, subst}
+use mathlib.Core.Bool.{Bool, true, false}
 use mathlib.Core.List.{List, [], _∷_, _++_}
 use mathlib.Core.Option.{Option, none, some}
-use Prim.Native.Nat.{ℕ, _+_, _-_, _*_, _≤_, _<_}
+use Prim.Native.Nat.{ℕ, _+_, _-_}
 use native.Mathlib.Omega.{arith}
-use lib.IntN.{ℤ, pos}
+use lib.IntN.{ℤ}
 use lib.ListN.{length, getD, take, length-append}
 use Rattle.strided.specs.Layout.{lead}
 use Rattle.strided.specs.Refusals.{Row, refusedBy, answered}
@@ -21,11 +21,10 @@ use Rattle.laws.specs.Base.Filling.{length-rows}
 use Rattle.laws.specs.Refusals.Rows.{served-none, refused-some}
 use Rattle.session.specs.declared.Numbers.{Numbers}
 use Rattle.session.specs.declared.Session.{Session}
-use Rattle.session.specs.declared.Sessioned.{Sessioned}
-use Rattle.session.specs.Session.{Given, refusedOf, kindOf, freshOf, givenOf, withOperand, oldPlace, purposeWithout, sizesWithout, withoutOperand, Right, holds, row10, joinRows, leaveRows, sessionedOr, begun, joined, left}
+use Rattle.session.specs.Session.{Given, kindOf, freshOf, givenOf, withOperand, oldPlace, purposeWithout, sizesWithout, withoutOperand, Right, holds, row10, joinRows, leaveRows, sessionedOr}
 use Rattle.session.specs.Same.{Decides, right-holds, decides-holds}
 use Rattle.session.specs.Afresh.{right-rank, right-operands, join-right, join-room, join-counted, join-near, leave-right, leave-there, leave-two}
-use Rattle.session.specs.Made.{Made, LayoutRight, givenIn, sessionAt, Lent, Joining, Leaving}
+use Rattle.session.specs.Made.{Made, givenIn, sessionAt, Lent, Joining, Leaving}
 use Rattle.session.proofs.Holding.{right-layout}
 
 -- ---- row 10 first

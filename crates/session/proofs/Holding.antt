@@ -1,14 +1,14 @@
 -- Row 10's test, part by part: what each part decides, and that all of them decide whether the session is right. Assumes nothing.
-use mathlib.Core.Path.{_≡_, refl, sym, ap, ap₂, _∙_, subst}
+use mathlib.Core.Path.{_≡_, refl, sym, ap, _∙_}
 use mathlib.Core.Bool.{Bool, true, false, _&&_, _||_, not, cond, false≢true}
-use mathlib.Core.List.{List, [], _∷_}
+use mathlib.Core.List.{List}
 use mathlib.Core.Logic.{⊎-elim}
-use mathlib.Core.Option.{Option, none, some}
-use Prim.Native.Nat.{ℕ, zero, suc, _+_, _-_, _*_, _≤_, _<_}
+use mathlib.Core.Option.{Option, none}
+use Prim.Native.Nat.{ℕ, zero, suc, _-_, _*_, _≤_}
 use native.Mathlib.Omega.{arith}
 use lib.Dec.{ltb, leb, eqb}
 use lib.IntN.{ℤ, pos}
-use lib.ListN.{length, getD, take, drop, length-take, length-drop}
+use lib.ListN.{length, take, drop, length-take, length-drop}
 use lib.Seq.{length-take-le, take-all}
 use borrow.Author.Tests.{eqb-true, eqb-false, eq-eqb, ne-eqb, le-leb, leb-true, leb-false, ltb-true}
 use native.Mathlib.Nat.{zero-mul}
@@ -24,9 +24,9 @@ use Rattle.strided.specs.Plan.{planFrom, strideTable}
 use Rattle.laws.specs.Plan.Places.{plan-extents, plan-blocks, plan-strides}
 use Rattle.strided.specs.Refusals.{answered, planningRefused, row1, row2, row6}
 use Rattle.strided.specs.declared.Purpose.{Purpose}
-use Rattle.strided.specs.declared.Purpose.the-variants.{Pointwise, PointwiseInto, Fold}
+use Rattle.strided.specs.declared.Purpose.the-variants.{PointwiseInto, Fold}
 use Rattle.strided.specs.declared.Answer.{Answer}
-use Rattle.strided.specs.declared.Answer.the-variants.{Served, Refused}
+use Rattle.strided.specs.declared.Answer.the-variants.{Served}
 use Rattle.strided.specs.declared.Plan.{Plan}
 use Rattle.strided.specs.declared.Refusal.{Refusal}
 use Rattle.laws.specs.Base.Arrays.{blank-ℕ, blank-ℤ, blank-behind, padded-take, length-padded}
@@ -34,7 +34,7 @@ use Rattle.laws.specs.Base.Tests.{and-both, both-and, or-cases}
 use Rattle.laws.specs.Refusals.Rows.{served-none}
 use Rattle.session.specs.declared.Numbers.{Numbers}
 use Rattle.session.specs.declared.Session.{Session}
-use Rattle.session.specs.Session.{Given, refusedOf, ranksOf, weightsOf, costsOf, planOf, kindOf, freshOf, givenOf, sameNats, sameInts, Right}
+use Rattle.session.specs.Session.{Given, refusedOf, ranksOf, weightsOf, costsOf, planOf, kindOf, freshOf, sameNats, sameInts, Right}
 use Rattle.session.specs.Same.{Decides, same-nats, nats-same, same-ints, ints-same}
 use Rattle.session.specs.Afresh.{taken-of, few-strides}
 use Rattle.session.specs.Made.{KeptIn, Places, Keeps, LayoutRight, givenIn, sessionAt}

@@ -1,7 +1,7 @@
 -- The kept parts out of the arrays that the planner's functions fill: the order by the weights is that of fusing, and weights, costs and plan
 -- are those of the layout. Assumes nothing.
-use mathlib.Core.Path.{_≡_, sym, ap, _∙_}
-use mathlib.Core.Bool.{Bool, true, false, cond, _&&_, _||_}
+use mathlib.Core.Path.{_≡_, ap, _∙_}
+use mathlib.Core.Bool.{cond, _&&_, _||_}
 use mathlib.Core.List.{List}
 use Prim.Native.Nat.{ℕ, _≤_}
 use native.Mathlib.Omega.{arith}
@@ -9,7 +9,7 @@ use lib.Dec.{ltb, leb, eqb}
 use lib.IntN.{ℤ}
 use lib.ListN.{length, getD}
 use Rattle.strided.specs.Base.{padded, run}
-use Rattle.strided.specs.Layout.{total, lead, extents}
+use Rattle.strided.specs.Layout.{total, lead}
 use Rattle.strided.specs.Weights.{weights}
 use Rattle.strided.specs.Order.{follows, orderTo, loopOrder, fusingOrder}
 use Rattle.strided.specs.Fuse.{planAxes}
@@ -19,9 +19,8 @@ use Rattle.strided.specs.declared.Machine.{Machine}
 use Rattle.strided.specs.declared.Purpose.{Purpose}
 use Rattle.laws.specs.Base.Filling.{read-padded}
 use Rattle.laws.specs.Order.Tries.{weights-long}
-use Rattle.laws.specs.Refusals.Accepted.{Accepted}
 use Rattle.kernel.specs.Made.{Made}
-use Rattle.session.specs.Session.{Given, given, weightsOf, costsOf, planOf}
+use Rattle.session.specs.Session.{given, weightsOf, costsOf, planOf}
 use Rattle.session.specs.Made.{KeptIn}
 
 -- axes are compared by the array's weights as by the list's

@@ -1,13 +1,12 @@
 -- Rows laid behind others in an array, and an operand's row taken out of a table. Assumes nothing.
-use mathlib.Core.Path.{_≡_, refl, sym, ap, ap₂, _∙_, subst}
+use mathlib.Core.Path.{_≡_, refl, sym, ap, ap₂, _∙_}
 use mathlib.Core.List.{List, [], _∷_, _++_, map, append-nil}
 use native.Mathlib.Nat.{le-antisymm}
 use borrow.Author.Tests.{eq-eqb, ne-eqb}
-use Prim.Native.Nat.{ℕ, zero, suc, _+_, _-_, _*_, _≤_, _<_}
+use Prim.Native.Nat.{ℕ, zero, suc, _+_, _*_, _≤_, _<_}
 use native.Mathlib.Omega.{arith}
-use lib.IntN.{ℤ, pos}
-use lib.ListN.{length, getD, take, set, replicate}
-use lib.Seq.{take-all, length-take-le, getD-take}
+use lib.ListN.{length, getD, take, set}
+use lib.Seq.{take-all, length-take-le}
 use Rattle.strided.specs.Base.{padded, over, run}
 use Rattle.laws.specs.Base.Arrays.{length-padded, take-counted}
 use Rattle.strided.specs.declared.Purpose.{Purpose}

@@ -1,30 +1,28 @@
 -- The layout in a session's arrays with an operand more or less: what the arrays hold is the layout that the definition names, planning accepts
 -- it, its table of ranks is at hand, and with the kept parts the session is made. Assumes nothing.
 use mathlib.Core.Path.{_≡_, refl, sym, ap, ap₂, _∙_, subst}
-use mathlib.Core.Bool.{false}
 use mathlib.Core.List.{List, [], _∷_, _++_, map}
 use mathlib.Core.Option.{none}
 use Prim.Native.Nat.{ℕ, zero, suc, _+_, _-_, _*_, _≤_, _<_}
-use native.Mathlib.Nat.{mul-suc, mul-comm}
+use native.Mathlib.Nat.{mul-suc}
 use native.Mathlib.Omega.{arith}
 use lib.IntN.{ℤ, pos}
-use lib.ListN.{length, getD, take, drop, set, replicate, length-append, length-drop}
+use lib.ListN.{length, getD, take, drop, set, length-append}
 use lib.Seq.{length-take-le, take-take}
-use Rattle.strided.specs.Base.{padded, over, run}
-use Rattle.strided.specs.Layout.{strideRow, hasZero, reach, maxI}
+use Rattle.strided.specs.Base.{padded, run}
+use Rattle.strided.specs.Layout.{strideRow}
 use Rattle.strided.specs.Ranks.{ranks}
-use Rattle.strided.specs.Memory.{purposeOf}
 use Rattle.strided.specs.declared.Machine.{Machine}
 use Rattle.strided.specs.declared.Purpose.{Purpose}
 use Rattle.laws.specs.Base.Arrays.{length-padded, take-counted}
 use Rattle.laws.specs.Base.Filling.{length-rows}
 use Rattle.laws.specs.Base.Rows.{row-fits}
 use Rattle.session.specs.declared.Numbers.{Numbers}
-use Rattle.session.specs.Session.{Given, given, refusedOf, withOperand, oldPlace, purposeWithout, sizesWithout, stridesWithout, withoutOperand}
+use Rattle.session.specs.Session.{Given, refusedOf, withOperand, oldPlace, sizesWithout, stridesWithout, withoutOperand}
 use Rattle.session.specs.Afresh.{few-strides, join-accepted, leave-accepted, old-there, length-without}
 use Rattle.session.specs.Made.{TableOf, KeptAll, Ready, LayoutRight, givenIn, givenFrom, Made, Joining, Leaving}
 use Rattle.session.proofs.Laying.{row-added}
-use Rattle.session.proofs.Tabling.{zeroRow, tableOf, over-agree, own-rank, own-operands, own-strides, table-front, table-more, table-less}
+use Rattle.session.proofs.Tabling.{zeroRow, tableOf, over-agree, table-more, table-less}
 
 -- the arrays of a layout that is right
 module _ (n : Numbers) (E Z : List ℕ) (S : List ℤ) (l : LayoutRight n E Z S) where

@@ -8,13 +8,13 @@ use native.Mathlib.Decide.{decLe}
 use native.Mathlib.Omega.{arith}
 use lib.IntN.{ℤ, pos, natAbs}
 use lib.ListN.{length, getD, take, drop, replicate, length-take, length-replicate, getD-replicate, List·getD-eq-default}
-use lib.Seq.{take-all, length-take-le}
+use lib.Seq.{length-take-le}
 use Rattle.strided.specs.Base.{padded, over, run}
 use Rattle.strided.specs.Layout.{strideRow}
 use Rattle.strided.specs.Ranks.{rankOf, ranks, rankTable}
 use Rattle.laws.specs.Base.Arrays.{length-padded, getD-padded, take-counted}
 use Rattle.laws.specs.Base.Filling.{length-rows, fill-at}
-use Rattle.laws.specs.Base.Lists.{All, getD-run, over-map, length-run}
+use Rattle.laws.specs.Base.Lists.{All, getD-run, over-map}
 use Rattle.laws.specs.Order.Ranks.{rank-le, ranks-places, table-rows}
 use Rattle.strided.specs.declared.Machine.{Machine}
 use Rattle.strided.specs.declared.Purpose.{Purpose}

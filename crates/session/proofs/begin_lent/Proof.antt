@@ -1,13 +1,6 @@
 -- `session::begin_lent` meets its contract. Assumes nothing.
-use mathlib.Core.Path.{_≡_, refl, sym, ap, _∙_}
-use mathlib.Core.List.{List}
-use Prim.Native.Nat.{ℕ, _+_, _-_, _*_, _≤_, _<_}
-use native.Mathlib.Omega.{arith}
-use lib.IntN.{ℤ}
-use lib.ListN.{length, take}
+use mathlib.Core.Path.{_≡_, refl, sym, _∙_}
 use mathlib.Core.Option.{none}
-use Rattle.strided.specs.Refusals.{answered}
-use Rattle.strided.specs.declared.Answer.the-variants.{Served}
 use Rattle.laws.specs.Refusals.Rows.{served-none}
 use Rattle.session.specs.Session.{Given, given, refusedOf, freshOf, begun}
 use Rattle.session.specs.Afresh.{taken-of, allowed-of}

@@ -1,18 +1,11 @@
 -- `session::check::check_leaving` meets its contract. Assumes nothing.
-use mathlib.Core.Path.{_≡_, refl, sym, ap, ap₂, _∙_}
-use Prim.Native.Nat.{ℕ, _+_, _-_, _*_, _≤_, _<_}
-use native.Mathlib.Omega.{arith}
-use lib.ListN.{length, take, drop}
-use mathlib.Core.List.{List}
-use mathlib.Core.Bool.{Bool, true, false, _&&_}
+use mathlib.Core.Path.{refl}
 use borrow.Author.Tests.{le-leb, lt-leb, eq-eqb, ne-eqb}
-use mathlib.Core.Bool.{_||_}
 use lib.Dec.{leb, eqb}
 use Rattle.session.specs.Session.{row21}
 use Rattle.laws.specs.Refusals.Rows.{past-none, past-next, past-refused, past-served}
 use Rattle.session.proofs.Holding.{or-right}
 use mathlib.Core.List.{[], _∷_}
-use borrow.Author.Needs.{needs}
 use Rattle.session.proofs.check.check_leaving.Statement.{statement}
 use Rattle.session.proofs.check.check_leaving.Tie as tie
 

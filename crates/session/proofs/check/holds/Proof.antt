@@ -1,6 +1,5 @@
 -- `session::check::holds` meets its contract. Assumes nothing.
-use mathlib.Core.Path.{_≡_, refl, sym, ap, _∙_}
-use mathlib.Core.Bool.{true, false, false≢true}
+use mathlib.Core.Bool.{false≢true}
 use Rattle.session.proofs.Holding.{decides-not, right-layout}
 use borrow.Author.Needs.{needs}
 use Rattle.session.proofs.check.holds.Statement.{statement}

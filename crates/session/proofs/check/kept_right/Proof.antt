@@ -1,16 +1,9 @@
 -- `session::check::kept_right` meets its contract. Assumes nothing.
 use Rattle.session.specs.Session.{Given}
 use Rattle.session.specs.Made.{Places}
-use mathlib.Core.Path.{_≡_, refl, sym, ap, ap₂, _∙_}
-use Prim.Native.Nat.{ℕ, _+_, _-_, _*_, _≤_, _<_}
-use native.Mathlib.Omega.{arith}
-use lib.ListN.{length, take, drop}
-use mathlib.Core.List.{List}
-use mathlib.Core.Bool.{Bool, true, false, _&&_}
+use mathlib.Core.Path.{refl, sym, _∙_}
 use Rattle.session.specs.Session.{given}
-use Rattle.session.specs.Made.{KeptIn}
 use Rattle.session.proofs.Holding.{keeps-decides, kept-places}
-use borrow.Author.Needs.{needs}
 use Rattle.session.proofs.check.kept_right.Statement.{statement}
 use Rattle.session.proofs.check.kept_right.Tie as tie
 
@@ -47,13 +40,13 @@ same-requires-3 : tie.Need-same-requires-3
 same-requires-3 c κs = let k = c .before .before .before .before .before .before .before in places k .extents ∙ sym (start k .pre .1 .1 .1 .extents)
 
 slice-aggregate-same-4 : tie.Need-slice-aggregate-same-4
-slice-aggregate-same-4 c = sym (places (c .before .before .before .before .before .before .before .before .before) .blocks)
+slice-aggregate-same-4 c = let k = c .before .before .before .before .before .before .before .before .before in sym (places k .blocks)
 
 same-requires-4 : tie.Need-same-requires-4
 same-requires-4 c κs = let k = c .before .before .before .before .before .before .before .before .before in places k .blocks ∙ sym (start k .pre .1 .1 .1 .blocks)
 
 slice-aggregate-same-signed : tie.Need-slice-aggregate-same-signed
-slice-aggregate-same-signed c = sym (places (c .before .before .before .before .before .before .before .before .before .before .before) .strides)
+slice-aggregate-same-signed c = let k = c .before .before .before .before .before .before .before .before .before .before .before in sym (places k .strides)
 
 same-signed-requires : tie.Need-same-signed-requires
 same-signed-requires c κs = let k = c .before .before .before .before .before .before .before .before .before .before .before in places k .strides ∙ sym (start k .pre .1 .1 .1 .strides)

@@ -1,8 +1,7 @@
 -- `session::check::layout_right` meets its contract. Assumes nothing.
-use mathlib.Core.Path.{_≡_, refl, sym, ap, ap₂, _∙_}
-use Prim.Native.Nat.{ℕ, _+_, _-_, _*_, _≤_, _<_}
+use mathlib.Core.Path.{sym, _∙_}
+use Prim.Native.Nat.{_*_, _≤_}
 use native.Mathlib.Omega.{arith}
-use lib.ListN.{length, take, drop}
 use lib.Seq.{length-take-le}
 use Rattle.laws.specs.Refusals.Rows.{few-axes, few-operands}
 use Rattle.session.specs.Afresh.{few-strides}

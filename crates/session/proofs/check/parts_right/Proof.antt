@@ -1,16 +1,12 @@
 -- `session::check::parts_right` meets its contract. Assumes nothing.
-use mathlib.Core.Path.{_≡_, refl, sym, ap, ap₂, _∙_, subst}
-use mathlib.Core.List.{List}
-use Prim.Native.Nat.{ℕ, _+_, _-_, _*_, _≤_, _<_}
+use mathlib.Core.Path.{sym, _∙_, subst}
 use native.Mathlib.Omega.{arith}
-use lib.IntN.{ℤ}
-use lib.ListN.{length, take, drop}
 use Rattle.strided.specs.declared.Purpose.{Purpose}
 use Rattle.laws.specs.Refusals.Accepted.{Accepted}
 use Rattle.session.specs.Session.{Given, given}
 use Rattle.session.specs.Afresh.{few-strides, taken-of, allowed-of}
 use Rattle.session.specs.Made.{Keeps, LayoutRight, givenIn}
-use Rattle.session.proofs.Tabling.{tableOf, table-even, own-rank, own-operands, own-strides, own-fits, own-ranked, own-ranks}
+use Rattle.session.proofs.Tabling.{table-even, own-rank, own-operands, own-strides, own-fits, own-ranked, own-ranks}
 use Rattle.session.proofs.Holding.{decides-both, decides-as, right-ranks, right-keeps, all-right}
 use borrow.Author.Needs.{needs}
 use Rattle.session.proofs.check.parts_right.Statement.{statement}

@@ -1,6 +1,5 @@
 -- `session::check::purpose_told` meets its contract. Assumes nothing.
 use Rattle.session.proofs.Holding.{told-none, told-some}
-use borrow.Author.Needs.{needs}
 use Rattle.session.proofs.check.purpose_told.Statement.{statement}
 use Rattle.session.proofs.check.purpose_told.Tie as tie
 

@@ -1,10 +1,6 @@
 -- `session::check::ranks_right` meets its contract. Assumes nothing.
-use mathlib.Core.Path.{_≡_, refl, sym, ap, ap₂, _∙_}
-use Prim.Native.Nat.{ℕ, _+_, _-_, _*_, _≤_, _<_}
-use native.Mathlib.Omega.{arith}
-use lib.ListN.{length, take, drop}
-use mathlib.Core.List.{List}
-use mathlib.Core.Bool.{Bool, true, false, _&&_}
+use mathlib.Core.Path.{_≡_, sym, ap, _∙_}
+use lib.ListN.{length}
 use Rattle.laws.specs.Base.Arrays.{length-padded}
 use Rattle.session.specs.Made.{rowsOf}
 use Rattle.session.proofs.Holding.{decides-is, decides-as, decides-nats}

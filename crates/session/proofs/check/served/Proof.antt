@@ -1,5 +1,5 @@
 -- `session::check::served` meets its contract. Assumes nothing.
-use mathlib.Core.Path.{_≡_, sym, _∙_}
+use mathlib.Core.Path.{_≡_}
 use Prim.Native.Nat.{ℕ}
 use native.Mathlib.Omega.{arith}
 use Rattle.session.proofs.Holding.{decides-not, decides-yes}

@@ -1,8 +1,8 @@
 -- `session::compare::all_zero` meets its contract. Assumes nothing.
-use mathlib.Core.Path.{_≡_, refl, sym, ap, _∙_}
-use Prim.Native.Nat.{ℕ, _+_, _-_, _*_, _≤_, _<_}
+use mathlib.Core.Path.{_≡_, refl}
+use Prim.Native.Nat.{_-_, _≤_}
 use native.Mathlib.Omega.{arith}
-use lib.ListN.{length, getD, take, drop, set, replicate}
+use lib.ListN.{length, drop}
 use mathlib.Core.Bool.{_&&_}
 use Rattle.strided.specs.Step.{blank}
 use Rattle.session.proofs.Comparing.{zero-next, zero-over}

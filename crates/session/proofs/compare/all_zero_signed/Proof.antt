@@ -1,10 +1,10 @@
 -- `session::compare::all_zero_signed` meets its contract. Assumes nothing.
 use lib.IntN.{ℤ, pos}
 use Rattle.laws.specs.Base.Bits.{zero-bits}
-use mathlib.Core.Path.{_≡_, refl, sym, ap, _∙_}
-use Prim.Native.Nat.{ℕ, _+_, _-_, _*_, _≤_, _<_}
+use mathlib.Core.Path.{_≡_, refl, sym}
+use Prim.Native.Nat.{_-_, _≤_}
 use native.Mathlib.Omega.{arith}
-use lib.ListN.{length, getD, take, drop, set, replicate}
+use lib.ListN.{length, getD, drop}
 use mathlib.Core.Bool.{_&&_}
 use Rattle.strided.specs.Step.{blankZ}
 use Rattle.session.proofs.Comparing.{zeroZ-next, zeroZ-over}

@@ -1,10 +1,10 @@
 -- `session::compare::same_signed` meets its contract. Assumes nothing.
 use lib.IntN.{ℤ, pos}
 use Rattle.fuse.proofs.Joining.{eqb-bits}
-use mathlib.Core.Path.{_≡_, refl, sym, ap, _∙_}
-use Prim.Native.Nat.{ℕ, _+_, _-_, _*_, _≤_, _<_}
+use mathlib.Core.Path.{_≡_, refl}
+use Prim.Native.Nat.{_-_, _≤_}
 use native.Mathlib.Omega.{arith}
-use lib.ListN.{length, getD, take, drop, set, replicate}
+use lib.ListN.{length, getD, drop}
 use mathlib.Core.Bool.{_&&_}
 use Rattle.session.specs.Session.{sameInts}
 use Rattle.session.proofs.Comparing.{sameZ-next, sameZ-over}

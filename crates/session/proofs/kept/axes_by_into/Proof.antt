@@ -1,11 +1,8 @@
 -- `session::kept::axes_by_into` meets its contract: the order by the weights is that of fusing. Assumes nothing.
-use mathlib.Core.Path.{_≡_, refl, sym, ap, _∙_}
-use Prim.Native.Nat.{ℕ, _+_, _-_, _*_, _≤_, _<_}
-use native.Mathlib.Omega.{arith}
+use mathlib.Core.Path.{_≡_, ap, _∙_}
+use Prim.Native.Nat.{ℕ}
 use lib.ListN.{length}
-use mathlib.Core.List.{List}
 use Rattle.strided.specs.Base.{padded}
-use lib.IntN.{ℤ}
 use Rattle.strided.specs.Layout.{lead, extents}
 use Rattle.strided.specs.Order.{fusingOrder}
 use Rattle.strided.specs.Weights.{weights}

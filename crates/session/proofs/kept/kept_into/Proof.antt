@@ -1,10 +1,7 @@
 -- `session::kept::kept_into` meets its contract. Assumes nothing.
-use mathlib.Core.Path.{_≡_, refl, sym, ap, _∙_}
-use Prim.Native.Nat.{ℕ, _+_, _-_, _*_, _≤_, _<_}
+use mathlib.Core.Path.{sym, _∙_}
 use native.Mathlib.Omega.{arith}
 use lib.ListN.{length}
-use mathlib.Core.List.{List}
-use Rattle.strided.specs.Base.{padded}
 use borrow.Author.Tests.{leb-false}
 use Rattle.strided.specs.Layout.{total}
 use Rattle.laws.specs.Fuse.Maps.{plan-short}

@@ -1,13 +1,8 @@
 -- `session::kept::order_into` meets its contract. Assumes nothing.
 use Rattle.strided.specs.Order.{follows, orderTo}
 use mathlib.Core.Bool.{Bool, cond}
-use lib.Dec.{leb}
-use Rattle.strided.specs.Layout.{total}
-use mathlib.Core.Path.{_≡_, refl, sym, ap, _∙_}
-use Prim.Native.Nat.{ℕ, _+_, _-_, _*_, _≤_, _<_}
-use native.Mathlib.Omega.{arith}
-use lib.ListN.{length, getD, take, drop, set, replicate}
-use mathlib.Core.List.{List, map, _++_}
+use mathlib.Core.Path.{sym, ap, _∙_}
+use lib.ListN.{length}
 use Rattle.strided.specs.Base.{padded, run}
 use borrow.Author.Needs.{needs}
 use Rattle.session.proofs.kept.order_into.Statement.{statement}

@@ -1,12 +1,8 @@
 -- `session::layouts::add_row` meets its contract. Assumes nothing.
 use Rattle.session.proofs.Laying.{row-blank, row-added}
-use mathlib.Core.List.{[], _∷_}
-use mathlib.Core.Path.{_≡_, refl, sym, ap, _∙_}
-use Prim.Native.Nat.{ℕ, _+_, _-_, _*_, _≤_, _<_}
-use native.Mathlib.Omega.{arith}
-use lib.ListN.{length, getD, take, drop, set, replicate}
-use mathlib.Core.List.{List, map, _++_}
-use Rattle.strided.specs.Base.{padded, run}
+use mathlib.Core.List.{[]}
+use mathlib.Core.Path.{ap, _∙_}
+use lib.ListN.{set, replicate}
 use borrow.Author.Needs.{needs}
 use Rattle.session.proofs.layouts.add_row.Statement.{statement}
 use Rattle.session.proofs.layouts.add_row.Tie as tie

@@ -1,14 +1,11 @@
 -- `session::layouts::extents_into` meets its contract. Assumes nothing.
 use Rattle.session.proofs.Laying.{lay-next, lay-over}
-use mathlib.Core.Path.{_≡_, refl, sym, ap, _∙_}
-use Prim.Native.Nat.{ℕ, _+_, _-_, _*_, _≤_, _<_}
+use mathlib.Core.Path.{_≡_, _∙_}
+use Prim.Native.Nat.{_-_, _≤_}
 use native.Mathlib.Omega.{arith}
-use lib.ListN.{length, getD, take, drop, set, replicate}
-use mathlib.Core.List.{List, map, _++_}
-use Rattle.strided.specs.Base.{padded, run}
+use lib.ListN.{length, take}
+use Rattle.strided.specs.Base.{padded}
 use Rattle.laws.specs.Base.Filling.{fill-none}
-use Rattle.laws.specs.Base.Stores.{fill-first}
-use lib.Seq.{take-all}
 use borrow.Author.Needs.{needs}
 use Rattle.session.proofs.layouts.extents_into.Statement.{statement}
 use Rattle.session.proofs.layouts.extents_into.Tie as tie

@@ -1,13 +1,5 @@
 -- `session::layouts::purpose_without` meets its contract. Assumes nothing.
 use Rattle.session.proofs.Laying.{into-gone, into-moves, fold-gone, fold-moves}
-use mathlib.Core.Bool.{Bool, cond}
-use Rattle.session.specs.Session.{purposeWithout, newPlace}
-use Rattle.strided.specs.declared.Purpose.the-variants.{Pointwise, PointwiseInto, Fold}
-use Rattle.strided.specs.declared.Purpose.{Purpose}
-use mathlib.Core.Path.{_≡_, refl, sym, ap, _∙_}
-use Prim.Native.Nat.{ℕ, _+_, _-_, _*_, _≤_, _<_}
-use native.Mathlib.Omega.{arith}
-use borrow.Author.Tests.{lt-ltb, le-ltb, eq-eqb, ne-eqb}
 use borrow.Author.Needs.{needs}
 use Rattle.session.proofs.layouts.purpose_without.Statement.{statement}
 use Rattle.session.proofs.layouts.purpose_without.Tie as tie

@@ -1,14 +1,11 @@
 -- `session::layouts::put_row` meets its contract. Assumes nothing.
-use mir.Syntax.{w8}
 use Rattle.session.proofs.Laying.{put-none, put-next, put-over}
-use mathlib.Core.Path.{_≡_, refl, sym, ap, _∙_}
-use Prim.Native.Nat.{ℕ, _+_, _-_, _*_, _≤_, _<_}
+use mathlib.Core.Path.{_≡_, refl}
+use Prim.Native.Nat.{_+_, _-_, _≤_}
 use native.Mathlib.Omega.{arith}
-use lib.ListN.{length, getD, take, drop, set, replicate}
-use mathlib.Core.List.{List, map, _++_}
-use Rattle.strided.specs.Base.{padded, run}
-use Rattle.laws.specs.Base.Stores.{fill-next}
-use lib.Seq.{take-all}
+use lib.ListN.{length, take}
+use mathlib.Core.List.{_++_}
+use Rattle.strided.specs.Base.{padded}
 use borrow.Author.Needs.{needs}
 use Rattle.session.proofs.layouts.put_row.Statement.{statement}
 use Rattle.session.proofs.layouts.put_row.Tie as tie

@@ -1,15 +1,13 @@
 -- `session::layouts::put_strides` meets its contract. Assumes nothing.
 use mir.Facts.{toZ-ofZ}
 use Rattle.session.proofs.Laying.{put-none, put-next, put-over}
-use mathlib.Core.Path.{_≡_, refl, sym, ap, _∙_}
-use Prim.Native.Nat.{ℕ, _+_, _-_, _*_, _≤_, _<_}
+use mathlib.Core.Path.{_≡_}
+use Prim.Native.Nat.{_+_, _-_, _≤_}
 use native.Mathlib.Omega.{arith}
-use lib.ListN.{length, getD, take, drop, set, replicate}
-use mathlib.Core.List.{List, map, _++_}
-use Rattle.strided.specs.Base.{padded, run}
+use lib.ListN.{length, take}
+use mathlib.Core.List.{_++_}
+use Rattle.strided.specs.Base.{padded}
 use lib.IntN.{pos}
-use Rattle.laws.specs.Base.Stores.{fill-next}
-use lib.Seq.{take-all}
 use borrow.Author.Needs.{needs}
 use Rattle.session.proofs.layouts.put_strides.Statement.{statement}
 use Rattle.session.proofs.layouts.put_strides.Tie as tie

@@ -1,14 +1,14 @@
 -- `session::layouts::ranks_into` meets its contract. Assumes nothing.
-use mathlib.Core.Path.{_≡_, refl, sym, ap, _∙_}
-use Prim.Native.Nat.{ℕ, _+_, _-_, _*_, _≤_, _<_}
+use mathlib.Core.Path.{_≡_, refl, ap, _∙_}
+use Prim.Native.Nat.{ℕ, _-_, _≤_}
 use native.Mathlib.Omega.{arith}
-use lib.ListN.{length, getD, take, drop, set, replicate}
-use mathlib.Core.List.{List, [], map, _++_}
-use Rattle.strided.specs.Base.{padded, run, over}
+use lib.ListN.{getD}
+use mathlib.Core.List.{[]}
+use Rattle.strided.specs.Base.{padded}
 use Rattle.laws.specs.Base.Filling.{fill-none}
 use native.Mathlib.Nat.{le-antisymm}
 use Rattle.session.proofs.Laying.{rows-front, rows-next}
-use Rattle.session.specs.Made.{Even, rowsOf}
+use Rattle.session.specs.Made.{rowsOf}
 use borrow.Author.Needs.{needs}
 use Rattle.session.proofs.layouts.ranks_into.Statement.{statement}
 use Rattle.session.proofs.layouts.ranks_into.Tie as tie

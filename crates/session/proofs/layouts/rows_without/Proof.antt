@@ -1,15 +1,13 @@
 -- `session::layouts::rows_without` meets its contract. Assumes nothing.
 use Rattle.session.proofs.Laying.{stayed, stays-next, stays-over}
 use Rattle.session.specs.Afresh.{old-there}
-use mathlib.Core.Path.{_≡_, refl, sym, ap, _∙_}
-use Prim.Native.Nat.{ℕ, _+_, _-_, _*_, _≤_, _<_}
+use mathlib.Core.Path.{_≡_}
+use Prim.Native.Nat.{_-_, _≤_, _<_}
 use native.Mathlib.Omega.{arith}
-use lib.ListN.{length, getD, take, drop, set, replicate}
-use mathlib.Core.List.{List, map, _++_}
-use Rattle.strided.specs.Base.{padded, run}
+use lib.ListN.{replicate}
+use Rattle.strided.specs.Base.{padded}
 use mathlib.Core.List.{[]}
-use Rattle.session.specs.Session.{oldPlace}
-use Rattle.laws.specs.Base.Filling.{fill-none, fill-next}
+use Rattle.laws.specs.Base.Filling.{fill-none}
 use borrow.Author.Needs.{needs}
 use Rattle.session.proofs.layouts.rows_without.Statement.{statement}
 use Rattle.session.proofs.layouts.rows_without.Tie as tie

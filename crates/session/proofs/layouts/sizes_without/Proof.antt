@@ -2,14 +2,12 @@
 use lib.Seq.{getD-take, length-take-le}
 use Rattle.session.proofs.Laying.{stayed, stays-next, stays-over}
 use Rattle.session.specs.Afresh.{old-there}
-use mathlib.Core.Path.{_≡_, refl, sym, ap, _∙_}
-use Prim.Native.Nat.{ℕ, _+_, _-_, _*_, _≤_, _<_}
+use mathlib.Core.Path.{_≡_, sym, ap, _∙_}
+use Prim.Native.Nat.{ℕ, _-_, _≤_, _<_}
 use native.Mathlib.Omega.{arith}
-use lib.ListN.{length, getD, take, drop, set, replicate}
-use mathlib.Core.List.{List, map, _++_}
-use Rattle.strided.specs.Base.{padded, run}
-use Rattle.session.specs.Session.{oldPlace}
-use Rattle.laws.specs.Base.Filling.{fill-none, fill-next}
+use lib.ListN.{length, take, set}
+use Rattle.strided.specs.Base.{padded}
+use Rattle.laws.specs.Base.Filling.{fill-none}
 use borrow.Author.Needs.{needs}
 use Rattle.session.proofs.layouts.sizes_without.Statement.{statement}
 use Rattle.session.proofs.layouts.sizes_without.Tie as tie

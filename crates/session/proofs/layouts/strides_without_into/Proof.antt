@@ -1,20 +1,18 @@
 -- `session::layouts::strides_without_into` meets its contract. Assumes nothing.
 use lib.ListN.{length-take, length-drop}
 use lib.Seq.{length-take-le}
-use mathlib.Core.Path.{_≡_, refl, sym, ap, _∙_}
+use mathlib.Core.Path.{_≡_, ap, _∙_}
 use Prim.Native.Nat.{ℕ, _+_, _-_, _*_, _≤_, _<_}
 use native.Mathlib.Omega.{arith}
-use lib.ListN.{length, getD, take, drop, set, replicate}
-use mathlib.Core.List.{List, [], map, _++_}
+use lib.ListN.{length, take, drop}
 use Rattle.strided.specs.Base.{padded, run, over}
 use Rattle.laws.specs.Base.Filling.{fill-none}
 use native.Mathlib.Nat.{le-antisymm}
 use Rattle.session.proofs.Laying.{rows-front, rows-next}
-use lib.IntN.{ℤ, pos}
-use native.Mathlib.Nat.{mul-le-mul}
+use lib.IntN.{pos}
 use Rattle.strided.specs.Layout.{strideRow}
 use Rattle.laws.specs.Base.Rows.{row-fits}
-use Rattle.session.specs.Session.{oldPlace, stridesWithout}
+use Rattle.session.specs.Session.{oldPlace}
 use Rattle.session.specs.Afresh.{old-there}
 use borrow.Author.Needs.{needs}
 use Rattle.session.proofs.layouts.strides_without_into.Statement.{statement}

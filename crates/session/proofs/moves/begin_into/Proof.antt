@@ -1,15 +1,11 @@
 -- `session::moves::begin_into` meets its contract. Assumes nothing.
-use lib.Seq.{take-all}
-use Rattle.strided.specs.Base.{padded}
 use Rattle.laws.specs.Base.Filling.{fill-none}
 use Rattle.auxiliary.specs.Fitting.{Fitting}
 use Rattle.session.specs.Afresh.{few-strides}
-use mathlib.Core.Path.{_≡_, refl, sym, ap, ap₂, _∙_, subst}
-use mathlib.Core.List.{List}
-use Prim.Native.Nat.{ℕ, _+_, _-_, _*_, _≤_, _<_}
+use mathlib.Core.Path.{refl}
 use native.Mathlib.Omega.{arith}
-use lib.IntN.{ℤ, pos}
-use lib.ListN.{length, take, drop}
+use lib.IntN.{pos}
+use lib.ListN.{length}
 use borrow.Author.Needs.{needs}
 use Rattle.session.proofs.moves.begin_into.Statement.{statement}
 use Rattle.session.proofs.moves.begin_into.Tie as tie
@@ -28,7 +24,7 @@ put-strides-requires : tie.Need-put-strides-requires
 put-strides-requires c κs = let s = c .before .before .before .before .before .before .before .before .before .before in let a = s .pre .1 in let f = few-strides _ _ (a .axes) (a .few) in let e = a .strides in (fill-none 512 (pos 0), omega (arith, f, e))
 
 rank-table-into-requires : tie.Need-rank-table-into-requires
-rank-table-into-requires c κs = (fits (c .before .before .before .before .before .before .before .before .before .before .before .before), refl)
+rank-table-into-requires c κs = let s = c .before .before .before .before .before .before .before .before .before .before .before .before in (fits s, refl)
 
 keep-into-requires : tie.Need-keep-into-requires
 keep-into-requires c κs =

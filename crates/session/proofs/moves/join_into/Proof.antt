@@ -1,15 +1,14 @@
 -- `session::moves::join_into` meets its contract. Assumes nothing.
-use lib.ListN.{set, length-set}
+use lib.ListN.{length-set}
 use Rattle.laws.specs.Base.Arrays.{length-padded}
 use Rattle.session.proofs.Tabling.{table-front}
 use Rattle.session.proofs.Moving.{extents-long, sizes-long, count-fits, join-fits, join-ready, join-made}
 use mathlib.Core.List.{_++_}
-use mathlib.Core.Path.{_≡_, refl, sym, ap, ap₂, _∙_, subst}
-use mathlib.Core.List.{List}
-use Prim.Native.Nat.{ℕ, _+_, _-_, _*_, _≤_, _<_}
+use mathlib.Core.Path.{refl, ap, _∙_}
+use Prim.Native.Nat.{_*_}
 use native.Mathlib.Omega.{arith}
-use lib.IntN.{ℤ, pos}
-use lib.ListN.{length, take, drop}
+use lib.IntN.{pos}
+use lib.ListN.{length, take}
 use borrow.Author.Needs.{needs}
 use Rattle.session.proofs.moves.join_into.Statement.{statement}
 use Rattle.session.proofs.moves.join_into.Tie as tie

@@ -2,12 +2,8 @@
 use Rattle.session.specs.Afresh.{few-strides, taken-of, allowed-of}
 use Rattle.session.specs.Made.{givenFrom}
 use Rattle.session.proofs.Tabling.{own-rank, own-operands, own-strides, own-ranked}
-use mathlib.Core.Path.{_≡_, refl, sym, ap, ap₂, _∙_, subst}
-use mathlib.Core.List.{List}
-use Prim.Native.Nat.{ℕ, _+_, _-_, _*_, _≤_, _<_}
+use mathlib.Core.Path.{sym}
 use native.Mathlib.Omega.{arith}
-use lib.IntN.{ℤ, pos}
-use lib.ListN.{length, take, drop}
 use borrow.Author.Needs.{needs}
 use Rattle.session.proofs.moves.keep_arrays.Statement.{statement}
 use Rattle.session.proofs.moves.keep_arrays.Tie as tie

@@ -1,12 +1,6 @@
 -- `session::moves::keep_into` meets its contract. Assumes nothing.
-use mathlib.Core.Path.{_≡_, refl, sym, ap, ap₂, _∙_, subst}
-use mathlib.Core.List.{List}
-use Prim.Native.Nat.{ℕ, _+_, _-_, _*_, _≤_, _<_}
-use native.Mathlib.Omega.{arith}
-use lib.IntN.{ℤ, pos}
-use lib.ListN.{length, take, drop}
+use mathlib.Core.Path.{refl, _∙_}
 use Rattle.session.proofs.Tabling.{table-even, exact-ranks}
-use borrow.Author.Needs.{needs}
 use Rattle.session.proofs.moves.keep_into.Statement.{statement}
 use Rattle.session.proofs.moves.keep_into.Tie as tie
 

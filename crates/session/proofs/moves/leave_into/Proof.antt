@@ -1,15 +1,12 @@
 -- `session::moves::leave_into` meets its contract. Assumes nothing.
-use lib.ListN.{replicate}
-use Rattle.strided.specs.Base.{padded}
 use Rattle.laws.specs.Base.Arrays.{length-padded}
 use Rattle.session.specs.Session.{sizesWithout, stridesWithout}
 use Rattle.session.proofs.Moving.{extents-long, sizes-long, strides-long, count-fits, leave-ready, leave-made}
-use mathlib.Core.Path.{_≡_, refl, sym, ap, ap₂, _∙_, subst}
-use mathlib.Core.List.{List}
-use Prim.Native.Nat.{ℕ, _+_, _-_, _*_, _≤_, _<_}
+use mathlib.Core.Path.{refl, ap, _∙_}
+use Prim.Native.Nat.{ℕ}
 use native.Mathlib.Omega.{arith}
-use lib.IntN.{ℤ, pos}
-use lib.ListN.{length, take, drop}
+use lib.IntN.{pos}
+use lib.ListN.{length, take}
 use borrow.Author.Needs.{needs}
 use Rattle.session.proofs.moves.leave_into.Statement.{statement}
 use Rattle.session.proofs.moves.leave_into.Tie as tie
