@@ -26,6 +26,7 @@ from .machine import FIXED, Machine, machine
 from .planning import Plan, original_index, plan, plan_index, plan_layout
 from .readers import Student, Views, visits
 from .refusals import REFUSALS, Refused, refusal_text
+from .sessions import Session
 from .summaries import Summary, summary, summary_of
 from .texts import NotInForm, read_layout, walklist, write_layout
 from .version import VERSION as __version__
@@ -44,6 +45,7 @@ __all__ = [
     "REFUSALS",
     "Refused",
     "Run",
+    "Session",
     "Student",
     "Summary",
     "VERDICTS",

@@ -30,6 +30,7 @@ PLAN = [SIZE, SIZE, U64S, U64S, I64S]
 WALK = [U64S, U64S, I64S]
 BLOCK = [U64S, U64S, I64S, I64S]
 RECORD = [U64, U64S, U64, I64S, I64S, SIZE, U64S]
+SESSION = [U64S, U64S, U64S, SIZES, SIZES, U64S, U64S, I64S, U64S, U64S, U64S, SIZES, U64S, U64S, I64S]
 
 FUNCTIONS: dict[str, list[Any]] = {
     "gougelily_version": [],
@@ -51,6 +52,9 @@ FUNCTIONS: dict[str, list[Any]] = {
     "gougelily_to_numpy": [U64, U64S, SIZE, I64S, SIZE, BYTES, SIZE],
     "gougelily_judge": [U64S, SIZE, BYTES, SIZE, BYTES, SIZE],
     "gougelily_summary": [U64S, SIZE, I64S, SIZE, U64, U64, U64, U64, I64, F64S, SIZE, F64S, F64S, F64S, U64S, U64S, U64S],
+    "gougelily_begin_session": [*LAYOUT, U64, U64, U64, U64, *SESSION],
+    "gougelily_join_session": [*SESSION, U64, I64S, SIZE],
+    "gougelily_leave_session": [*SESSION, U64],
 }
 
 
@@ -88,6 +92,32 @@ class VisitMemory(ctypes.Structure):
     """gougelily_visit_t, with `number` as an array of one place"""
 
     _fields_ = [("number", U64 * 1), ("block", BlockMemory), ("first", IndexMemory)]
+
+
+class SessionMemory(ctypes.Structure):
+    """gougelily_session_t, with each number as an array of one place, the machine as one of four, and the plan's rank and operands as one of two"""
+
+    _fields_ = [
+        ("purpose", U64 * 1),
+        ("chosen", U64 * 1),
+        ("machine", U64 * 4),
+        ("rank", SIZE * 1),
+        ("operands", SIZE * 1),
+        ("extents", U64 * MAX_RANK),
+        ("sizes", U64 * MAX_OPERANDS),
+        ("strides", I64 * (MAX_OPERANDS * MAX_RANK)),
+        ("ranks", U64 * (MAX_OPERANDS * MAX_RANK)),
+        ("weights", U64 * MAX_RANK),
+        ("costs", U64 * MAX_RANK),
+        ("plan_counts", SIZE * 2),
+        ("plan_extents", U64 * MAX_RANK),
+        ("blocks", U64 * MAX_RANK),
+        ("plan_strides", I64 * (MAX_OPERANDS * MAX_RANK)),
+    ]
+
+    def lent(self) -> list[Any]:
+        """The arguments that the raw functions take for a session."""
+        return [getattr(self, name) for name, *_ in self._fields_]
 
 
 def sought(name: str) -> Iterable[str]:

@@ -144,6 +144,8 @@ class Refusals(unittest.TestCase):
             (1, g.to_numpy, 2, (1,) * 65, (1,)),
             (3, g.to_numpy, 2, (1,), ()),
             (24, g.plan_layout, one, g.Machine(48, 32_768, 4_080, 6)),
+            (24, g.Session, one, g.Machine(48, 32_768, 4_080, 6)),
+            (6, g.Session, g.Layout((3,), (8,), ((2**62,),))),
             (24, g.copy, bytearray(2), bytes(2), g.Machine(48, 32_768, 4_080, 6)),
             (16, g.copy, memoryview(bytearray(8)).cast("Q"), bytes(1)),
             (16, g.copy_layout, g.Layout((2,), (17, 17), ((1,), (1,))), (0, 0), bytearray(34), bytes(34)),
@@ -370,6 +372,56 @@ class Readers(unittest.TestCase):
         with self.assertRaises(g.Refused) as told:
             next(walk)
         self.assertEqual(told.exception.number, 11)
+
+
+class Sessions(unittest.TestCase):
+    def test_seeded_calls(self):
+        """After each call the session is one begun with its present layout, whose plan is that of planning; the ranks of those that stay are kept."""
+        rng = random.Random(8)
+        for _ in range(150):
+            machine = rng.choice(MACHINES)
+            session = g.Session(layout(rng), machine)
+            for _ in range(5):
+                before, told = session.ranks, session.layout
+                if told.operands == 1 or told.operands < 8 and rng.random() < 0.5:
+                    row = [rng.choice((0, 1, -1, 7, 512)) for _ in told.extents]
+                    session.join(8, row)
+                    self.assertEqual(session.layout, g.Layout(told.extents, (*told.sizes, 8), (*told.strides, row), told.purpose, told.chosen))
+                    self.assertEqual(session.ranks[:-1], before)
+                else:
+                    operand = rng.randrange(told.operands)
+                    session.leave(operand)
+                    self.assertEqual(session.layout.strides, told.strides[:operand] + told.strides[operand + 1 :])
+                    self.assertEqual(session.ranks, before[:operand] + before[operand + 1 :])
+                    if told.chosen not in (None, operand):
+                        self.assertEqual(session.layout.chosen, told.chosen - (operand < told.chosen))
+                self.assertEqual(bytes(session.memory), bytes(g.Session(session.layout, machine).memory))
+                self.assertEqual((session.plan, session.machine), (g.plan_layout(session.layout, machine), machine))
+
+    def test_refusals(self):
+        session = g.Session(g.Layout((3,), (8,), ((1,),)))
+        refused(self, 21, session.leave, 0)
+        refused(self, 3, session.join, 8, ())
+        refused(self, 6, session.join, 8, (2**62,))
+        for _ in range(7):
+            session.join(8, (1,))
+        refused(self, 20, session.join, 8, ())
+        refused(self, 21, session.leave, 8)
+        self.assertRaises(OverflowError, session.leave, -1)
+        self.assertRaises(OverflowError, session.join, 2**64, (1,))
+        session.memory.weights[0] += 1
+        refused(self, 10, session.join, 8, ())
+        refused(self, 10, session.leave, 8)
+
+    def test_arrays(self):
+        rows, bits = memoryview(bytes(48)).cast("Q", (2, 3)), memoryview(bytes(6)).cast("B", (2, 3))
+        session = g.Session.of(rows, bits, purpose="F", chosen=1)
+        session.join_array(rows)
+        self.assertEqual(session.layout, g.Layout.of(rows, bits, rows, purpose="F", chosen=1))
+        self.assertRaises(ValueError, session.join_array, memoryview(bytes(6)).cast("B", (3, 2)))
+
+    def test_no_cost(self):
+        self.assertEqual(g.Session(g.Layout((2, 3), (8, 8), ((1, 0), (3, 0)))).costs, (2, None))
 
 
 class Machines(unittest.TestCase):
