@@ -71,7 +71,8 @@ extern "C" {
 
 /*
  * Why a call is refused. Of several reasons the least number is answered, but
- * that of a text 12 comes first, then 19, and that 24 follows 4. Total is the product of
+ * that of a text 12 comes first, then 19, that of a session 10 comes first and 20
+ * and 21 before 3, and that 24 follows 4. Total is the product of
  * the extents, reach the sum over the axes of (extent - 1) * size of the stride.
  * If an extent is 0, the rows 6 and 9 pass. 7 is given no longer. A window is
  * refused with 15 if a list has not one entry per axis, a step is 0, an index
@@ -95,7 +96,7 @@ extern "C" {
     ROW(GOUGELILY_REACH, 6, "an operand's reach is above 2^63 - 1")                                  \
     ROW(GOUGELILY_START_COUNT, 8, "the number of starts is not the number of operands")              \
     ROW(GOUGELILY_OFFSETS, 9, "some offset from the start is outside 64-bit signed")                 \
-    ROW(GOUGELILY_STATE, 10, "no walk begun on this plan comes to this state")                       \
+    ROW(GOUGELILY_STATE, 10, "no walk begun on this plan, or no session, comes to this state")       \
     ROW(GOUGELILY_INDEX, 11, "the counters or the index are wrong in number or out of range")        \
     ROW(GOUGELILY_FORM, 12, "the text is not in the form")                                           \
     ROW(GOUGELILY_TEXT_TOTAL, 13, "more than 1,048,576 cells in a text, or 65,536 in judging")       \

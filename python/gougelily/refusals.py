@@ -21,7 +21,7 @@ REFUSALS = {
     6: Row("an operand's reach is above 2^63 - 1", "extent 3, stride 2^62; reach is the sum of (extent - 1) x stride size over the axes"),
     8: Row("the number of starts is not the number of operands", "one start, 2 operands"),
     9: Row("some offset from the start is outside 64-bit signed", "extent 2, stride 1, start 2^63 - 1"),
-    10: Row("no walk begun on this plan comes to this state", "counter 5, extent 5"),
+    10: Row("no walk begun on this plan, or no session, comes to this state", "counter 5, extent 5; a session with a weight that its layout does not give"),
     11: Row("the counters or the index are wrong in number or out of range", "index 5 on an axis of extent 5"),
     12: Row("the text is not in the form", "a number with a leading zero, a last line without LF"),
     13: Row("more than 1,048,576 cells in a text, or 65,536 in judging", "extent 1,048,577"),
