@@ -39,8 +39,8 @@
  * Threads. Every function is reentrant: it keeps nothing between calls, takes no
  * lock and allocates nothing. Planning takes 7 to 13 KB of stack, and up to 125
  * where some 50 axes are kept whole one after another; a summary some 9 more
- * than that; walklist some 30, up to 55; the repeat mark some 65, a copy some 75;
- * the others less than 12.
+ * than that, a session's calls some 15 more; walklist some 30, up to 55; the
+ * repeat mark some 65, a copy some 75; the others less than 12.
  *
  * First come the structs and the functions on them, which are what a C program
  * uses. Behind them stand the raw functions, which take a bare array for each

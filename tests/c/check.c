@@ -14,6 +14,9 @@
  * - cells at random, summed again in the order of the walk's blocks, bit by bit;
  * - visits: each is the step, with its number and the index of its first cell,
  *   and both views say what the record says;
+ * - sessions at random: operands join and leave, and after each call the session
+ *   is one begun with its present layout, and its plan that of planning; with one
+ *   number changed it is refused, unless it is such a session again;
  * - plans and states at random, whatever they hold: a call ends with an answer.
  * After every call its inputs are as they were, after a refusal its outputs too.
  */
@@ -39,7 +42,7 @@ static void fail(const char *what)
 
 /* ------------------------------------------------------------ lent memory */
 
-enum { ROOM = 8192, GUARD = 0xa5, MOST_AREAS = 16 };
+enum { ROOM = 8192, GUARD = 0xa5, MOST_AREAS = 18 };
 
 static struct area {
     unsigned char *bytes; /* ROOM bytes between two pages that cannot be touched */
@@ -380,6 +383,91 @@ static int64_t summary_of(const struct layout *l, gougelily_machine_t m, int64_t
     CHECK(answer == 0 || answer == -1 || answer == -3 || answer == -24 || answer == -5 || answer == -6 || answer == -9 ||
           answer == -22);
     settle(3, answer == 0);
+    return answer;
+}
+
+/* A session but for its extents, each part lent by itself. */
+struct lent_session {
+    uint64_t *purpose, *chosen, *machine, *sizes, *ranks, *weights, *costs, *plan_extents, *blocks;
+    size_t *rank, *operands, *plan_counts;
+    int64_t *strides, *plan_strides;
+};
+
+static struct lent_session lend_session(const gougelily_session_t *s)
+{
+    const size_t counts[2] = {s->plan.rank, s->plan.operands};
+    struct lent_session at;
+    at.purpose = LEND(s->purpose), at.chosen = LEND(s->chosen), at.machine = LEND(s->machine);
+    at.rank = LEND(s->rank), at.operands = LEND(s->operands), at.sizes = LEND(s->sizes), at.strides = LEND(s->strides);
+    at.ranks = LEND(s->ranks), at.weights = LEND(s->weights), at.costs = LEND(s->costs);
+    at.plan_counts = LEND(counts), at.plan_extents = LEND(s->plan.extents), at.blocks = LEND(s->plan.blocks);
+    at.plan_strides = LEND(s->plan.strides);
+    return at;
+}
+
+static void take_session(gougelily_session_t *s, const struct lent_session *at)
+{
+    TAKE(s->purpose, at->purpose), TAKE(s->chosen, at->chosen), TAKE(s->machine, at->machine);
+    TAKE(s->rank, at->rank), TAKE(s->operands, at->operands), TAKE(s->sizes, at->sizes), TAKE(s->strides, at->strides);
+    TAKE(s->ranks, at->ranks), TAKE(s->weights, at->weights), TAKE(s->costs, at->costs);
+    TAKE(s->plan.rank, at->plan_counts), TAKE(s->plan.operands, at->plan_counts + 1);
+    TAKE(s->plan.extents, at->plan_extents), TAKE(s->plan.blocks, at->blocks), TAKE(s->plan.strides, at->plan_strides);
+}
+
+/* The function on the struct did the same. */
+static void same_session(int64_t answer, const gougelily_session_t *s, int64_t struct_answer,
+                         const gougelily_session_t *by_struct)
+{
+    CHECK(answer == struct_answer && memcmp(s, by_struct, sizeof *s) == 0);
+}
+
+static int64_t session_of(const struct layout *l, gougelily_machine_t m, gougelily_session_t *s)
+{
+    const gougelily_layout_t v = view(l);
+    gougelily_session_t by_struct = *s;
+    const int64_t struct_answer = gougelily_session_begin(&v, &m, &by_struct);
+    const uint64_t *e = lend(l->extents, l->rank * 8), *z = lend(l->sizes, l->operands * 8);
+    const int64_t *t = lend(l->strides, l->stride_count * 8);
+    uint64_t *extents = LEND(s->extents);
+    const struct lent_session at = lend_session(s);
+    const int64_t answer = gougelily_begin_session(
+        e, l->rank, z, l->operands, t, l->stride_count, l->purpose, l->chosen, m.line, m.cache, m.way, m.live, at.purpose,
+        at.chosen, at.machine, at.rank, at.operands, extents, at.sizes, at.strides, at.ranks, at.weights, at.costs,
+        at.plan_counts, at.plan_extents, at.blocks, at.plan_strides);
+    take_session(s, &at), TAKE(s->extents, extents);
+    settle(3, answer == 0);
+    same_session(answer, s, struct_answer, &by_struct);
+    return answer;
+}
+
+static int64_t join_of(gougelily_session_t *s, uint64_t size, const int64_t *strides, size_t count)
+{
+    gougelily_session_t by_struct = *s;
+    const int64_t struct_answer = gougelily_session_join(&by_struct, size, strides, count);
+    const uint64_t *extents = LEND(s->extents);
+    const int64_t *t = lend(strides, count * 8);
+    const struct lent_session at = lend_session(s);
+    const int64_t answer =
+        gougelily_join_session(at.purpose, at.chosen, at.machine, at.rank, at.operands, extents, at.sizes, at.strides, at.ranks,
+                               at.weights, at.costs, at.plan_counts, at.plan_extents, at.blocks, at.plan_strides, size, t, count);
+    take_session(s, &at);
+    settle(2, answer == 0);
+    same_session(answer, s, struct_answer, &by_struct);
+    return answer;
+}
+
+static int64_t leave_of(gougelily_session_t *s, uint64_t operand)
+{
+    gougelily_session_t by_struct = *s;
+    const int64_t struct_answer = gougelily_session_leave(&by_struct, operand);
+    const uint64_t *extents = LEND(s->extents);
+    const struct lent_session at = lend_session(s);
+    const int64_t answer =
+        gougelily_leave_session(at.purpose, at.chosen, at.machine, at.rank, at.operands, extents, at.sizes, at.strides, at.ranks,
+                                at.weights, at.costs, at.plan_counts, at.plan_extents, at.blocks, at.plan_strides, operand);
+    take_session(s, &at);
+    settle(1, answer == 0);
+    same_session(answer, s, struct_answer, &by_struct);
     return answer;
 }
 
@@ -736,6 +824,32 @@ static void known_visits(void)
     CHECK(visit_of(&other, &p, &w, &v) == -GOUGELILY_RANK);
 }
 
+static void known_sessions(void)
+{
+    static gougelily_session_t s, held;
+    const int64_t three[2] = {0, 3}, far[3] = {INT64_C(1) << 62, 0, INT64_C(1) << 62};
+    struct layout l = two(4, 4, 1, 4, 4, 1, GOUGELILY_POINTWISE_INTO);
+    l.chosen = 1;
+    CHECK(session_of(&l, fixed, &s) == 0 && s.weights[0] == 12 && s.weights[1] == 33 && s.costs[0] == 2 && s.costs[1] == 2);
+    CHECK(s.ranks[0] == 1 && s.ranks[1] == 2 && s.ranks[64] == 2 && s.ranks[65] == 1 && s.plan.blocks[0] == 4);
+    held = s;
+    CHECK(join_of(&s, 4, three, 2) == 0 && s.operands == 3 && s.sizes[2] == 4 && s.strides[5] == 3 && s.chosen == 1);
+    CHECK(leave_of(&s, 2) == 0 && memcmp(&s, &held, sizeof s) == 0);
+    CHECK(join_of(&s, 4, three, 2) == 0 && leave_of(&s, 0) == 0 && s.chosen == 0 && s.purpose == 1 && s.sizes[1] == 4);
+    CHECK(leave_of(&s, 0) == 0 && s.chosen == 0 && s.purpose == 0 && s.operands == 1);
+    CHECK(leave_of(&s, 0) == -GOUGELILY_LEAVING && join_of(&s, 8, far, 3) == -GOUGELILY_STRIDE_COUNT);
+    CHECK(join_of(&s, 8, far, 2) == -GOUGELILY_REACH && join_of(&s, 8, NULL, 0) == -GOUGELILY_STRIDE_COUNT);
+    while (s.operands < 8)
+        CHECK(join_of(&s, 8, three, 2) == 0);
+    CHECK(join_of(&s, 8, far, 3) == -GOUGELILY_NINTH && leave_of(&s, 8) == -GOUGELILY_LEAVING);
+    s.weights[63] = 1;
+    CHECK(join_of(&s, 8, far, 3) == -GOUGELILY_STATE && leave_of(&s, 8) == -GOUGELILY_STATE);
+    l.chosen = 2;
+    CHECK(session_of(&l, fixed, &s) == -GOUGELILY_CHOSEN);
+    l.chosen = 1, l.purpose = 9;
+    CHECK(session_of(&l, fixed, &s) == 0 && s.purpose == 2 && leave_of(&s, 1) == 0 && s.purpose == 2 && s.chosen == 0);
+}
+
 /* ------------------------------------------------------------ numbers at random */
 
 static uint64_t state = 1;
@@ -856,7 +970,8 @@ static int machine_allowed(gougelily_machine_t m)
            m.way % m.line == 0 && m.way >= m.line && m.way <= m.cache && m.live >= 1 && m.live <= 16;
 }
 
-static uint64_t cells_met, blocks_met, windows_met, lists_judged, descriptions_met, copies_made, cells_summed, refusals_met, records_refused;
+static uint64_t cells_met, blocks_met, windows_met, lists_judged, descriptions_met, copies_made, cells_summed, sessions_met, refusals_met,
+    records_refused;
 
 /* "array places behind the counts are 0" */
 static int blank(const void *array, size_t from, size_t to)
@@ -1211,6 +1326,70 @@ static void any_summary(const struct layout *from)
     cells_summed += due.count;
 }
 
+/* ------------------------------------------------------------ sessions at random */
+
+/* The layout that a session says, if its counts have room. */
+static int present(const gougelily_session_t *s, struct layout *l)
+{
+    if (s->rank > 64 || s->operands > 8)
+        return 0;
+    l->rank = s->rank, l->operands = s->operands, l->stride_count = s->rank * s->operands;
+    l->purpose = s->purpose, l->chosen = s->chosen;
+    memcpy(l->extents, s->extents, 8 * l->rank);
+    memcpy(l->sizes, s->sizes, 8 * l->operands);
+    memcpy(l->strides, s->strides, 8 * l->stride_count);
+    return 1;
+}
+
+/* Whether a session is one begun with its present layout; its plan is then that of planning. */
+static int begun(const gougelily_session_t *s)
+{
+    struct layout l = {0};
+    static gougelily_session_t again;
+    gougelily_plan_t p = {0};
+    memset(&again, 0x77, sizeof again);
+    if (!present(s, &l) || session_of(&l, s->machine, &again) != 0)
+        return 0;
+    CHECK(plan_on(&l, s->machine, &p) == 0 && memcmp(&p, &again.plan, sizeof p) == 0);
+    return memcmp(s, &again, sizeof again) == 0;
+}
+
+static void any_session(const struct layout *l)
+{
+    static gougelily_session_t s, before, changed;
+    gougelily_machine_t m = any_machine();
+    make_wild(&s, sizeof s / 8);
+    CHECK(leave_of(&s, below(8)) == -GOUGELILY_STATE);
+    CHECK(session_of(l, m, &s) == (machine_allowed(m) ? 0 : -GOUGELILY_RECORD));
+    if (!machine_allowed(m))
+        CHECK(session_of(l, fixed, &s) == 0);
+    for (int call = 0; call < 3; call++) {
+        before = s;
+        if (below(2)) {
+            int64_t strides[16];
+            for (size_t i = 0; i < l->rank; i++)
+                strides[i] = (int64_t)below(9) - 4;
+            CHECK(join_of(&s, below(9), strides, l->rank) == (before.operands < 8 ? 0 : -GOUGELILY_NINTH));
+            CHECK(memcmp(s.ranks, before.ranks, 8 * 64 * before.operands) == 0);
+        } else {
+            const uint64_t k = below(before.operands + 1);
+            const int gone = k < before.operands && before.operands > 1;
+            CHECK(leave_of(&s, k) == (gone ? 0 : -GOUGELILY_LEAVING));
+            CHECK(memcmp(s.ranks, before.ranks, 8 * 64 * (gone ? k : before.operands)) == 0);
+            CHECK(!gone || memcmp(s.ranks + 64 * k, before.ranks + 64 * (k + 1), 8 * 64 * (before.operands - 1 - k)) == 0);
+        }
+        CHECK(begun(&s));
+        sessions_met++;
+    }
+    changed = s;
+    const size_t at = below(2) ? below(80) : below(sizeof s / 8);
+    make_wild((unsigned char *)&changed + 8 * at, 1);
+    const int right = begun(&changed);
+    const int64_t joined = join_of(&changed, 8, NULL, 0);
+    CHECK((joined == -GOUGELILY_STATE) == !right);
+    refusals_met += joined < 0;
+}
+
 /* ------------------------------------------------------------ plans and states at random */
 
 /* A visit, whatever layout, plan and state are: a step that is refused is refused so, and a record that is handed out is the step's. */
@@ -1329,6 +1508,7 @@ int main(int argc, char **argv)
     known_copies();
     known_summaries();
     known_visits();
+    known_sessions();
     for (round_number = 1; round_number <= rounds; round_number++) {
         struct layout l = tame(), g = garbage();
         gougelily_plan_t p = {0};
@@ -1342,6 +1522,7 @@ int main(int argc, char **argv)
         copy_layout(l);
         garbage_copy(&g);
         any_summary(&l);
+        any_session(&l);
         one_number_changed(&l);
         garbage_plan(below(2) ? &l : &g);
         refusals_met += plan_of(&g, &p) < 0;
@@ -1363,6 +1544,7 @@ int main(int argc, char **argv)
         {"descriptions", descriptions_met},
         {"copies", copies_made},
         {"cells summed", cells_summed},
+        {"sessions", sessions_met},
         {"refusals", refusals_met + records_refused},
         {"of them of records", records_refused},
     };

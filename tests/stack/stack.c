@@ -76,6 +76,7 @@ static gougelily_index_t told;
 static gougelily_windowed_t cut;
 static gougelily_visit_t seen;
 static gougelily_student_t shown;
+static gougelily_session_t session;
 static int64_t answer;
 static uint64_t lengths[64];
 static int64_t offsets[512];
@@ -176,6 +177,15 @@ static void summarized(void)
 static void visit(void) { answer = gougelily_next_visit(&wide, &plan, &walk, &seen); }
 static void engineer(void) { answer = gougelily_engineer_view(&seen, &block); }
 static void student(void) { answer = gougelily_student_view(&seen, &shown); }
+/* The 58 axes again: begun with 7 operands, an eighth joins, and the first one leaves. */
+static void session_begins(void)
+{
+    gougelily_layout_t seven = deep;
+    seven.operands = 7, seven.stride_count = 58 * 7;
+    answer = gougelily_session_begin(&seven, &fixed, &session);
+}
+static void session_joined(void) { answer = gougelily_session_join(&session, 8, deep_strides, 58); }
+static void session_left(void) { answer = gougelily_session_leave(&session, 0); }
 static void many(void)
 {
     answer = gougelily_step_many(plan.rank, plan.operands, plan.extents, plan.blocks, plan.strides, &walk.ended,
@@ -263,6 +273,9 @@ int main(void)
         {"gougelily_copy, 64 by 64 cells, the exact mark", copied},
         {"gougelily_copy, 64 axes", copied_deep},
         {"gougelily_summary", summarized},
+        {"gougelily_begin_session, 58 axes, 7 operands, cutting as deep as it goes", session_begins},
+        {"gougelily_join_session, an eighth operand", session_joined},
+        {"gougelily_leave_session", session_left},
     };
     int status = 0;
 
