@@ -57,8 +57,8 @@ extern "C" {
 #endif
 
 /* The version of this header. A program can be run with another library: gougelily_version() tells that one's. */
-#define GOUGELILY_VERSION_MAJOR 0
-#define GOUGELILY_VERSION_MINOR 1
+#define GOUGELILY_VERSION_MAJOR 1
+#define GOUGELILY_VERSION_MINOR 0
 #define GOUGELILY_VERSION_PATCH 0
 #define GOUGELILY_VERSION (GOUGELILY_VERSION_MAJOR * 1000000 + GOUGELILY_VERSION_MINOR * 1000 + GOUGELILY_VERSION_PATCH)
 

@@ -3,10 +3,10 @@
 use Prim.Native.Nat.{ℕ, _+_, _*_}
 
 abbrev pub major : ℕ
-major = 0
+major = 1
 
 abbrev pub minor : ℕ
-minor = 1
+minor = 0
 
 abbrev pub patch : ℕ
 patch = 0
