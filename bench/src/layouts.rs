@@ -126,6 +126,33 @@ pub fn finding() -> Vec<Named> {
     all
 }
 
+/// The layouts whose last operand joins a session and leaves: ranks 2 to 64, with
+/// 2, 3 and 8 operands, every other one with its axes in another order.
+pub fn sessions() -> Vec<Named> {
+    let mut all = Vec::new();
+    for operands in [2, 3, 8] {
+        let copies = |name: &str, extents: &[usize], other: Vec<usize>| {
+            let rank = extents.len();
+            let order = |k: usize| if k % 2 == 0 { up(rank) } else { other.clone() };
+            let orders: Vec<Vec<usize>> = (0..operands).map(order).collect();
+            copy(name, extents, &orders)
+        };
+        all.push(copies("10 x 10", &[10, 10], down(2)));
+        all.push(copies("transpose 1000", &[1000, 1000], down(2)));
+        all.push(copies("rank 4", &[16; 4], vec![2, 0, 3, 1]));
+        all.push(copies("rank 8", &[6; 8], turned(8, 3)));
+        all.push(copies("rank 9", &[5; 9], turned(9, 4)));
+        all.push(copies("rank 16", &[3; 16], turned(16, 3)));
+        all.push(copies("rank 32", &[2; 32], turned(32, 3)));
+        let wide = wide(operands);
+        all.push(Named {
+            name: "rank 64".to_string(),
+            ..wide
+        });
+    }
+    all
+}
+
 /// The layout as a sum ordered by operand 0.
 pub fn fold(layout: &Layout) -> Layout {
     Layout {

@@ -9,6 +9,7 @@ mod layouts;
 mod marks;
 mod parts;
 mod planning;
+mod sessions;
 mod summing;
 mod texts;
 mod timing;
@@ -25,7 +26,7 @@ const HELP: &str = "\
 bench: times the port and the original, and prints the ratios as tables
 
   --only WHAT      only this table: planning, windows, walking, finding, visits, marks,
-                   texts, judging, summing or parts; may be repeated
+                   texts, judging, summing, sessions or parts; may be repeated
   --runs N         short runs of each side, of which the best counts (2000)
   --seed S         the seed of the layouts for parts (0)
   --instructions   count instructions of planning too, with valgrind
@@ -220,6 +221,26 @@ fn summing_table(asked: &Asked, out: &mut impl Write) -> Result<(), String> {
     put(out, &text)
 }
 
+fn sessions_table(asked: &Asked, out: &mut impl Write) -> Result<(), String> {
+    let head = "| layout | operands | two plannings ns | join ns | ratio | leave ns | ratio |";
+    let mut text = format!("## Sessions\n\n{head}\n|---|---|---|---|---|---|---|\n");
+    for row in sessions::times(asked.runs) {
+        let (join, leave) = (row.join / row.plannings, row.leave / row.plannings);
+        text += &format!(
+            "| {} | {} | {:.0} | {:.0} | {} | {:.0} | {} |\n",
+            row.name,
+            row.operands,
+            row.plannings,
+            row.join,
+            shown(join),
+            row.leave,
+            shown(leave)
+        );
+    }
+    text.push('\n');
+    put(out, &text)
+}
+
 fn parts_table(asked: &Asked, out: &mut impl Write) -> Result<(), String> {
     let mut text = String::from(
         "## Parts\n\n| function | rank | operands | Rust ns | port ns | ratio |\n|---|---|---|---|---|---|\n",
@@ -264,7 +285,8 @@ fn run() -> Result<(), String> {
         }
     }
     if [
-        "planning", "windows", "walking", "finding", "visits", "marks", "texts", "judging", "summing",
+        "planning", "windows", "walking", "finding", "visits", "marks", "texts", "judging",
+        "summing", "sessions",
     ]
     .iter()
     .any(|what| asked.wants(what))
@@ -300,6 +322,9 @@ fn run() -> Result<(), String> {
     }
     if asked.wants("summing") {
         summing_table(&asked, &mut out)?;
+    }
+    if asked.wants("sessions") {
+        sessions_table(&asked, &mut out)?;
     }
     if asked.wants("parts") {
         parts_table(&asked, &mut out)?;

@@ -54,6 +54,49 @@ pub fn linked() -> Result<(), String> {
     Err(crate::missing("GOUGELILY_LIB", "libgougelily.a"))
 }
 
+/// A session as the port hands it out and takes it in.
+#[derive(Clone, Debug, PartialEq, Eq)]
+pub struct Session {
+    pub purpose: [u64; 1],
+    pub chosen: [u64; 1],
+    pub machine: [u64; 4],
+    pub rank: [usize; 1],
+    pub operands: [usize; 1],
+    pub extents: [u64; 64],
+    pub sizes: [u64; 8],
+    pub strides: Strides,
+    pub ranks: [u64; 512],
+    pub weights: [u64; 64],
+    pub costs: [u64; 64],
+    pub plan_counts: [usize; 2],
+    pub plan_extents: [u64; 64],
+    pub blocks: [u64; 64],
+    pub plan_strides: Strides,
+}
+
+impl Session {
+    /// No session yet: zeros everywhere.
+    pub fn none() -> Session {
+        Session {
+            purpose: [0; 1],
+            chosen: [0; 1],
+            machine: [0; 4],
+            rank: [0; 1],
+            operands: [0; 1],
+            extents: [0; 64],
+            sizes: [0; 8],
+            strides: [0; 512],
+            ranks: [0; 512],
+            weights: [0; 64],
+            costs: [0; 64],
+            plan_counts: [0; 2],
+            plan_extents: [0; 64],
+            blocks: [0; 64],
+            plan_strides: [0; 512],
+        }
+    }
+}
+
 /// gougelily_summary_t
 #[derive(Clone, Copy, Debug, Default, PartialEq)]
 pub struct Summary {
@@ -235,6 +278,76 @@ mod library {
             count: *mut u64,
             nans: *mut u64,
             extremes: *mut u64,
+        ) -> i64;
+
+        pub fn gougelily_begin_session(
+            layout_extents: *const u64,
+            extent_count: usize,
+            layout_sizes: *const u64,
+            size_count: usize,
+            layout_strides: *const i64,
+            stride_count: usize,
+            wanted: u64,
+            leading: u64,
+            line: u64,
+            cache: u64,
+            way: u64,
+            live: u64,
+            purpose: *mut [u64; 1],
+            chosen: *mut [u64; 1],
+            machine: *mut [u64; 4],
+            rank: *mut [usize; 1],
+            operands: *mut [usize; 1],
+            extents: *mut [u64; 64],
+            sizes: *mut [u64; 8],
+            strides: *mut [i64; 512],
+            ranks: *mut [u64; 512],
+            weights: *mut [u64; 64],
+            costs: *mut [u64; 64],
+            plan_counts: *mut [usize; 2],
+            plan_extents: *mut [u64; 64],
+            blocks: *mut [u64; 64],
+            plan_strides: *mut [i64; 512],
+        ) -> i64;
+
+        pub fn gougelily_join_session(
+            purpose: *mut [u64; 1],
+            chosen: *mut [u64; 1],
+            machine: *mut [u64; 4],
+            rank: *mut [usize; 1],
+            operands: *mut [usize; 1],
+            extents: *const [u64; 64],
+            sizes: *mut [u64; 8],
+            strides: *mut [i64; 512],
+            ranks: *mut [u64; 512],
+            weights: *mut [u64; 64],
+            costs: *mut [u64; 64],
+            plan_counts: *mut [usize; 2],
+            plan_extents: *mut [u64; 64],
+            blocks: *mut [u64; 64],
+            plan_strides: *mut [i64; 512],
+            size: u64,
+            joining: *const i64,
+            joining_count: usize,
+        ) -> i64;
+
+        pub fn gougelily_leave_session(
+            purpose: *mut [u64; 1],
+            chosen: *mut [u64; 1],
+            machine: *mut [u64; 4],
+            rank: *mut [usize; 1],
+            operands: *mut [usize; 1],
+            extents: *const [u64; 64],
+            sizes: *mut [u64; 8],
+            strides: *mut [i64; 512],
+            ranks: *mut [u64; 512],
+            weights: *mut [u64; 64],
+            costs: *mut [u64; 64],
+            plan_counts: *mut [usize; 2],
+            plan_extents: *mut [u64; 64],
+            blocks: *mut [u64; 64],
+            plan_strides: *mut [i64; 512],
+            operand: u64,
         ) -> i64;
     }
 }
@@ -496,6 +609,86 @@ faces! {
             extents.len(),
             strides.as_ptr(),
             strides.len(),
+        )
+    }
+
+    /// A session begins with a layout.
+    pub fn begin_session(layout: &Flat, session: &mut Session) -> i64 {
+        library::gougelily_begin_session(
+            layout.extents.as_ptr(),
+            layout.extents.len(),
+            layout.sizes.as_ptr(),
+            layout.sizes.len(),
+            layout.strides.as_ptr(),
+            layout.strides.len(),
+            layout.kind,
+            layout.chosen,
+            // the Rust's own four numbers
+            64,
+            32768,
+            4096,
+            6,
+            &mut session.purpose,
+            &mut session.chosen,
+            &mut session.machine,
+            &mut session.rank,
+            &mut session.operands,
+            &mut session.extents,
+            &mut session.sizes,
+            &mut session.strides,
+            &mut session.ranks,
+            &mut session.weights,
+            &mut session.costs,
+            &mut session.plan_counts,
+            &mut session.plan_extents,
+            &mut session.blocks,
+            &mut session.plan_strides,
+        )
+    }
+
+    /// An operand joins a session.
+    pub fn join_session(session: &mut Session, size: u64, strides: &[i64]) -> i64 {
+        library::gougelily_join_session(
+            &mut session.purpose,
+            &mut session.chosen,
+            &mut session.machine,
+            &mut session.rank,
+            &mut session.operands,
+            &session.extents,
+            &mut session.sizes,
+            &mut session.strides,
+            &mut session.ranks,
+            &mut session.weights,
+            &mut session.costs,
+            &mut session.plan_counts,
+            &mut session.plan_extents,
+            &mut session.blocks,
+            &mut session.plan_strides,
+            size,
+            strides.as_ptr(),
+            strides.len(),
+        )
+    }
+
+    /// An operand leaves a session.
+    pub fn leave_session(session: &mut Session, operand: u64) -> i64 {
+        library::gougelily_leave_session(
+            &mut session.purpose,
+            &mut session.chosen,
+            &mut session.machine,
+            &mut session.rank,
+            &mut session.operands,
+            &session.extents,
+            &mut session.sizes,
+            &mut session.strides,
+            &mut session.ranks,
+            &mut session.weights,
+            &mut session.costs,
+            &mut session.plan_counts,
+            &mut session.plan_extents,
+            &mut session.blocks,
+            &mut session.plan_strides,
+            operand,
         )
     }
 }
