@@ -670,8 +670,8 @@ int64_t gougelily_student(uint64_t number, const uint64_t counters[GOUGELILY_MAX
 int64_t gougelily_begin_session(const uint64_t *layout_extents, size_t extent_count, const uint64_t *layout_sizes,
                                 size_t size_count, const int64_t *layout_strides, size_t stride_count,
                                 uint64_t wanted, uint64_t leading, uint64_t line, uint64_t cache, uint64_t way,
-                                uint64_t live, uint64_t purpose[1], uint64_t chosen[1], uint64_t machine[4], size_t rank[1],
-                                size_t operands[1], uint64_t extents[GOUGELILY_MAX_RANK],
+                                uint64_t live, uint64_t purpose[1], uint64_t chosen[1], uint64_t machine[4],
+                                size_t rank[1], size_t operands[1], uint64_t extents[GOUGELILY_MAX_RANK],
                                 uint64_t sizes[GOUGELILY_MAX_OPERANDS], int64_t strides[GOUGELILY_PLAN_STRIDES],
                                 uint64_t ranks[GOUGELILY_PLAN_STRIDES], uint64_t weights[GOUGELILY_MAX_RANK],
                                 uint64_t costs[GOUGELILY_MAX_RANK], size_t plan_counts[2],
@@ -680,13 +680,13 @@ int64_t gougelily_begin_session(const uint64_t *layout_extents, size_t extent_co
 
 /* gougelily_session_join */
 int64_t gougelily_join_session(uint64_t purpose[1], uint64_t chosen[1], uint64_t machine[4], size_t rank[1],
-                                size_t operands[1], const uint64_t extents[GOUGELILY_MAX_RANK],
-                                uint64_t sizes[GOUGELILY_MAX_OPERANDS], int64_t strides[GOUGELILY_PLAN_STRIDES],
-                                uint64_t ranks[GOUGELILY_PLAN_STRIDES], uint64_t weights[GOUGELILY_MAX_RANK],
-                                uint64_t costs[GOUGELILY_MAX_RANK], size_t plan_counts[2],
-                                uint64_t plan_extents[GOUGELILY_MAX_RANK], uint64_t blocks[GOUGELILY_MAX_RANK],
-                                int64_t plan_strides[GOUGELILY_PLAN_STRIDES], uint64_t size,
-                               const int64_t *joining, size_t joining_count);
+                               size_t operands[1], const uint64_t extents[GOUGELILY_MAX_RANK],
+                               uint64_t sizes[GOUGELILY_MAX_OPERANDS], int64_t strides[GOUGELILY_PLAN_STRIDES],
+                               uint64_t ranks[GOUGELILY_PLAN_STRIDES], uint64_t weights[GOUGELILY_MAX_RANK],
+                               uint64_t costs[GOUGELILY_MAX_RANK], size_t plan_counts[2],
+                               uint64_t plan_extents[GOUGELILY_MAX_RANK], uint64_t blocks[GOUGELILY_MAX_RANK],
+                               int64_t plan_strides[GOUGELILY_PLAN_STRIDES], uint64_t size, const int64_t *joining,
+                               size_t joining_count);
 
 /* gougelily_session_leave */
 int64_t gougelily_leave_session(uint64_t purpose[1], uint64_t chosen[1], uint64_t machine[4], size_t rank[1],
@@ -836,19 +836,19 @@ static inline int64_t gougelily_student_view(const gougelily_visit_t *visit, gou
                              &student->length, &student->first.count, student->first.places);
 }
 
-static inline int64_t gougelily_session_begin(const gougelily_layout_t *layout, const gougelily_machine_t *wanted,
+static inline int64_t gougelily_session_begin(const gougelily_layout_t *layout, const gougelily_machine_t *machine,
                                               gougelily_session_t *session)
 {
-    uint64_t machine[4] = { 0, 0, 0, 0 };
+    uint64_t record[4] = { 0, 0, 0, 0 };
     size_t counts[2] = { 0, 0 };
-    int64_t answer = gougelily_begin_session(layout->extents, layout->rank, layout->sizes, layout->operands, layout->strides,
-                     layout->stride_count, layout->purpose, layout->chosen, wanted->line, wanted->cache, wanted->way,
-                     wanted->live, &session->purpose, &session->chosen, machine, &session->rank, &session->operands, session->extents,
-                     session->sizes, session->strides, session->ranks, session->weights, session->costs, counts,
-                     session->plan.extents, session->plan.blocks, session->plan.strides);
-    if (answer >= 0)
-        session->machine = *wanted;
+    int64_t answer = gougelily_begin_session(
+        layout->extents, layout->rank, layout->sizes, layout->operands, layout->strides, layout->stride_count,
+        layout->purpose, layout->chosen, machine->line, machine->cache, machine->way, machine->live, &session->purpose,
+        &session->chosen, record, &session->rank, &session->operands, session->extents, session->sizes,
+        session->strides, session->ranks, session->weights, session->costs, counts, session->plan.extents,
+        session->plan.blocks, session->plan.strides);
     if (answer >= 0) {
+        session->machine = *machine;
         session->plan.rank = counts[0];
         session->plan.operands = counts[1];
     }
@@ -858,12 +858,12 @@ static inline int64_t gougelily_session_begin(const gougelily_layout_t *layout, 
 static inline int64_t gougelily_session_join(gougelily_session_t *session, uint64_t size, const int64_t *strides,
                                              size_t stride_count)
 {
-    uint64_t machine[4] = { session->machine.line, session->machine.cache, session->machine.way, session->machine.live };
+    uint64_t record[4] = { session->machine.line, session->machine.cache, session->machine.way, session->machine.live };
     size_t counts[2] = { session->plan.rank, session->plan.operands };
-    int64_t answer = gougelily_join_session(&session->purpose, &session->chosen, machine, &session->rank, &session->operands, session->extents,
-                     session->sizes, session->strides, session->ranks, session->weights, session->costs, counts,
-                     session->plan.extents, session->plan.blocks, session->plan.strides, size, strides,
-                     stride_count);
+    int64_t answer = gougelily_join_session(
+        &session->purpose, &session->chosen, record, &session->rank, &session->operands, session->extents,
+        session->sizes, session->strides, session->ranks, session->weights, session->costs, counts,
+        session->plan.extents, session->plan.blocks, session->plan.strides, size, strides, stride_count);
     if (answer >= 0) {
         session->plan.rank = counts[0];
         session->plan.operands = counts[1];
@@ -873,11 +873,12 @@ static inline int64_t gougelily_session_join(gougelily_session_t *session, uint6
 
 static inline int64_t gougelily_session_leave(gougelily_session_t *session, uint64_t operand)
 {
-    uint64_t machine[4] = { session->machine.line, session->machine.cache, session->machine.way, session->machine.live };
+    uint64_t record[4] = { session->machine.line, session->machine.cache, session->machine.way, session->machine.live };
     size_t counts[2] = { session->plan.rank, session->plan.operands };
-    int64_t answer = gougelily_leave_session(&session->purpose, &session->chosen, machine, &session->rank, &session->operands, session->extents,
-                     session->sizes, session->strides, session->ranks, session->weights, session->costs, counts,
-                     session->plan.extents, session->plan.blocks, session->plan.strides, operand);
+    int64_t answer = gougelily_leave_session(
+        &session->purpose, &session->chosen, record, &session->rank, &session->operands, session->extents,
+        session->sizes, session->strides, session->ranks, session->weights, session->costs, counts,
+        session->plan.extents, session->plan.blocks, session->plan.strides, operand);
     if (answer >= 0) {
         session->plan.rank = counts[0];
         session->plan.operands = counts[1];
