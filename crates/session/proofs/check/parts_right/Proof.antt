@@ -76,7 +76,7 @@ returns c =
     let same = own-ranks (a .numbers .machine) (u s) (a .numbers .rank) (a .numbers .operands) (a .extents .now) (a .sizes .now) (a .strides .now) (l .axes) (l .few) (s .pre .0 .0) (s .pre .0 .1 .0) (s .pre .0 .1 .1 .0) _ (t .rank-table-into .ensures) in
     let whose = r .before .before .purpose-of .ensures in
     let keeps : Purpose → Type 0 = λ (v : Purpose). Keeps (given (a .numbers .machine) (G s .extents) (G s .sizes) (G s .strides) v) (a .numbers) (a .weights .now) (a .costs .now) (a .plan-extents .now) (a .blocks .now) (a .plan-strides .now) in (
-      decides-as (decides-both (r .ranks-right .result) (c .kept-right .result) (r .ranks-right .ensures) (c .kept-right .ensures))
+      decides-as (decides-both (r .ranks-right .result) (c .kept-right .result) {Q = keeps (r .before .before .purpose-of .result)} (r .ranks-right .ensures) (c .kept-right .ensures))
           (λ q. all-right (a .numbers) (a .extents .now) (a .sizes .now) (a .strides .now) (a .ranks .now) (a .weights .now) (a .costs .now) (a .plan-extents .now) (a .blocks .now) (a .plan-strides .now) l (q .0 ∙ same) (subst keeps whose (q .1)))
           (λ h. (
             right-ranks (a .numbers) (a .extents .now) (a .sizes .now) (a .strides .now) (a .ranks .now) (a .weights .now) (a .costs .now) (a .plan-extents .now) (a .blocks .now) (a .plan-strides .now) h ∙ sym same,
