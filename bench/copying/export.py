@@ -130,9 +130,9 @@ def job_of(extents, to, source, width, blocks=None):
     return Job(width, len(extents), sizes, cut, to, source), (sizes, cut)
 
 
-def blocked(case, purpose, to, source):
+def blocked(case, purpose, to, source, record):
     """The job of the plain loop over a plan's blocks."""
-    plan = g.plan(case.to, case.source, purpose=purpose, chosen=0)
+    plan = g.plan(case.to, case.source, purpose=purpose, chosen=0, machine=record)
     rows = [(ctypes.c_ssize_t * max(1, plan.rank))(*row) for row in plan.strides]
     job, kept = job_of(list(plan.extents), Operand(to.bytes, to.len, to.start, rows[0]), Operand(source.bytes, source.len, source.start, rows[1]), case.to.itemsize, list(plan.blocks))
     return job, (rows, kept), plan
@@ -144,8 +144,8 @@ def columns(case, record):
     source, kept_too = operand(case.source)
     job, kept_job = job_of(case.to.shape[::-1], to, source, case.to.itemsize)
     port = ctypes.cast(library().gougelily_copy, ctypes.c_void_p)
-    p_job, kept_p, plan = blocked(case, "P", to, source)
-    f_job, kept_f, _ = blocked(case, "F", to, source)
+    p_job, kept_p, plan = blocked(case, "P", to, source, record)
+    f_job, kept_f, _ = blocked(case, "F", to, source, record)
     numbers = (ctypes.c_uint64 * 4)(*record)
     keep = (kept, kept_too, kept_job, kept_p, kept_f, numbers)
 
@@ -199,7 +199,7 @@ def main():
     given = options.parse_args()
     if not hasattr(library(), "gougelily_copy"):
         sys.exit("bench/export: this library has no gougelily_copy")
-    record = g.machine.machine() if given.machine else g.FIXED
+    record = g.machine() if given.machine else g.FIXED
     print("| layout | plan blocks | NumPy µs | to NumPy | goal | to memcpy | to the original | to the plain loop | plain loop, F blocks to P blocks |")
     print("|---|---|---|---|---|---|---|---|---|")
     for case in cases(given.quick):
