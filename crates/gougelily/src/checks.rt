@@ -3,10 +3,9 @@ ghost use mathlib.Core.Path.{_≡_};
 ghost use lib.IntN.{pos};
 ghost use Rattle.strided.specs.Refusals.{answered, layoutRefused};
 ghost use Rattle.strided.specs.Memory.{purposeOf, codeOr};
+use super::codes::code_of;
 use layout::check_layout;
-use layout::negated;
 use layout::purpose_of;
-use strided::Answer;
 
 // 0 if a layout can be planned for a purpose on an allowed machine: rows 1 to 6.
 #[no_mangle]
@@ -20,8 +19,5 @@ pub extern "C" fn gougelily_check_layout<'a>(
     ensures { λ r. ⌜ r ≡ codeOr (answered (layoutRefused (now (extents .entry)) (now (sizes .entry)) (now (strides .entry)) (purposeOf purpose chosen))) (pos 0) ⌝ }
 {
     let answer = check_layout(extents, sizes, strides, purpose_of(purpose, chosen));
-    match answer {
-        Answer::Refused(refusal) => negated(refusal),
-        Answer::Served => 0,
-    }
+    code_of(answer)
 }

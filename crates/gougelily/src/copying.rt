@@ -2,9 +2,8 @@
 ghost use Rattle.strided.specs.Machine.{machineOf};
 ghost use Rattle.export.specs.Export.{copyDone};
 ghost use Rattle.export.specs.Memory.{CopiesMemory};
+use super::codes::code_of;
 use export::copy;
-use layout::negated;
-use strided::Answer;
 use strided::Machine;
 
 // The cells of operand 1 in `source` are copied to those of operand 0 in `destination`: 0, or the refusal negated.
@@ -40,8 +39,5 @@ pub extern "C" fn gougelily_copy<'a>(
         destination,
         source,
     );
-    match answer {
-        Answer::Refused(refusal) => negated(refusal),
-        Answer::Served => 0,
-    }
+    code_of(answer)
 }

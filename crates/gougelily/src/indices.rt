@@ -1,11 +1,10 @@
 // Index finding from C: the index is told where the caller wants it.
 ghost use Rattle.strided.specs.Index.{toldOriginal, toldPlan};
 ghost use Rattle.strided.specs.Memory.{purposeOf, indexAt, Tells};
+use super::codes::code_of;
 use finding::original_index_into;
 use finding::plan_index_into;
-use layout::negated;
 use layout::purpose_of;
-use strided::Answer;
 
 // The original index of a plan index.
 #[no_mangle]
@@ -33,10 +32,7 @@ pub extern "C" fn gougelily_original_index<'a>(
         count,
         index,
     );
-    match answer {
-        Answer::Refused(refusal) => negated(refusal),
-        Answer::Served => 0,
-    }
+    code_of(answer)
 }
 
 // The plan index of an original index.
@@ -65,8 +61,5 @@ pub extern "C" fn gougelily_plan_index<'a>(
         count,
         index,
     );
-    match answer {
-        Answer::Refused(refusal) => negated(refusal),
-        Answer::Served => 0,
-    }
+    code_of(answer)
 }

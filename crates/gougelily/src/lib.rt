@@ -3,6 +3,7 @@
 // is as it was.
 
 pub mod checks;
+pub mod codes;
 pub mod copying;
 pub mod descriptions;
 pub mod indices;

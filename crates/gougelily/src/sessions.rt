@@ -1,30 +1,18 @@
 // Sessions from C: a session lies in lent arrays, a number in an array of one place. An operand joins it or leaves it where it lies.
 ghost use mathlib.Core.Path.{_≡_};
-ghost use lib.IntN.{pos};
 ghost use Rattle.strided.specs.Machine.{machineOf};
 ghost use Rattle.strided.specs.Memory.{codeOr, purposeOf, Handed};
 ghost use Rattle.session.specs.Session.{given, begun, joined, left};
 ghost use Rattle.session.specs.Memory.{numbersAt};
 ghost use Rattle.session.specs.Made.{sessionAt};
+use super::codes::code_of;
 use kernel::Aim;
-use layout::negated;
 use layout::purpose_of;
 use session::Numbers;
 use session::begin_lent;
 use session::join_lent;
 use session::leave_lent;
-use strided::Answer;
 use strided::Machine;
-
-// The number that is answered.
-fn code_of(answer: Answer) -> i64
-    ensures { λ r. ⌜ r ≡ codeOr answer (pos 0) ⌝ }
-{
-    match answer {
-        Answer::Served => 0,
-        Answer::Refused(refusal) => negated(refusal),
-    }
-}
 
 // A session begins with a layout.
 #[no_mangle]

@@ -19,36 +19,14 @@ purpose-of-requires c κs = search needs
 original-index-into-requires : tie.Need-original-index-into-requires
 original-index-into-requires c κs = search needs
 
-enum-known-answer : tie.Need-enum-known-answer
-enum-known-answer c = search needs
-
-negated-requires : tie.Need-negated-requires
-negated-requires c κs = search needs
-
-enum-told : tie.Need-enum-told
-enum-told c = search needs
+code-of-requires : tie.Need-code-of-requires
+code-of-requires c κs = search needs
 
 returns : tie.Need-returns
 returns c =
-    let g = c .before .before in
-    let k = g .before .before in
+    let k = c .before in
     let p = k .before .before .before in
-    told-as (told (p .before .before .before .before)) (p .purpose-of .ensures) (k .original-index-into .ensures) (g .answer .given .1) (toZ-ofZ (record { sfits = c .negated .ok }) ∙ c .negated .ensures)
-
-returns-2 : tie.Need-returns-2
-returns-2 c =
-    let k = c .before .before in
-    let p = k .before .before .before in
-    told-as (told (p .before .before .before .before)) (p .purpose-of .ensures) (k .original-index-into .ensures) (c .enum-told .given .1) refl
+    told-as (told (p .before .before .before .before)) (p .purpose-of .ensures) (k .original-index-into .ensures) refl (toZ-ofZ (record { sfits = c .code-of .ok }) ∙ c .code-of .ensures)
 
 pub gougelily-original-index-spec : {M : Type 1} → statement M
-gougelily-original-index-spec =
-    tie.close
-    (tie.spec
-    purpose-of-requires
-    original-index-into-requires
-    enum-known-answer
-    negated-requires
-    enum-told
-    returns
-    returns-2)
+gougelily-original-index-spec = tie.close (tie.spec purpose-of-requires original-index-into-requires code-of-requires returns)

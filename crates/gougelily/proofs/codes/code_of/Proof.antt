@@ -1,12 +1,12 @@
--- `gougelily::sessions::code_of` meets its contract. Assumes nothing.
+-- `gougelily::codes::code_of` meets its contract. Assumes nothing.
 use mathlib.Core.Path.{sym, ap, _∙_}
 use lib.IntN.{pos}
 use Rattle.strided.specs.Memory.{codeOr}
 use Rattle.strided.specs.declared.Answer.{Answer}
 use mir.Facts.{toZ-ofZ}
 use borrow.Author.Needs.{needs}
-use Rattle.gougelily.proofs.sessions.code_of.Statement.{statement}
-use Rattle.gougelily.proofs.sessions.code_of.Tie as tie
+use Rattle.gougelily.proofs.codes.code_of.Statement.{statement}
+use Rattle.gougelily.proofs.codes.code_of.Tie as tie
 
 enum-told : tie.Need-enum-told
 enum-told c = search needs
