@@ -153,6 +153,39 @@ pub fn sessions() -> Vec<Named> {
     all
 }
 
+/// Layouts for how planning grows: some 2^40 cells in ranks 2 to 64, at most 40 of
+/// the axes longer than 1, with 1 to 8 operands, every other one with its axes in
+/// another order.
+pub fn growing() -> Vec<Layout> {
+    let mut all = Vec::new();
+    for operands in [1, 2, 4, 8] {
+        for rank in [2, 3, 4, 6, 8, 12, 16, 24, 32, 48, 64] {
+            let longer = rank.min(40);
+            let extent = 2f64.powf(40.0 / longer as f64).round() as usize;
+            let starts = |axis: usize| axis * longer / rank;
+            let extents: Vec<usize> = (0..rank)
+                .map(|axis| {
+                    if starts(axis + 1) > starts(axis) {
+                        extent
+                    } else {
+                        1
+                    }
+                })
+                .collect();
+            let order = |k: usize| {
+                if k % 2 == 0 {
+                    up(rank)
+                } else {
+                    turned(rank, rank / 2)
+                }
+            };
+            let orders: Vec<Vec<usize>> = (0..operands).map(order).collect();
+            all.push(copy("", &extents, &orders).layout);
+        }
+    }
+    all
+}
+
 /// The layout as a sum ordered by operand 0.
 pub fn fold(layout: &Layout) -> Layout {
     Layout {

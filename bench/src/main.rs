@@ -4,6 +4,7 @@
 
 mod counting;
 mod finding;
+mod growth;
 mod judging;
 mod layouts;
 mod marks;
@@ -25,8 +26,8 @@ use tools::options::{end, unknown, Options};
 const HELP: &str = "\
 bench: times the port and the original, and prints the ratios as tables
 
-  --only WHAT      only this table: planning, windows, walking, finding, visits, marks,
-                   texts, judging, summing, sessions or parts; may be repeated
+  --only WHAT      only this table: planning, growth, windows, walking, finding, visits,
+                   marks, texts, judging, summing, sessions or parts; may be repeated
   --runs N         short runs of each side, of which the best counts (2000)
   --seed S         the seed of the layouts for parts (0)
   --instructions   count instructions of planning too, with valgrind
@@ -88,6 +89,21 @@ fn planning_table(asked: &Asked, out: &mut impl Write) -> Result<(), String> {
     ratios.sort_by(f64::total_cmp);
     let (median, most) = (ratios[ratios.len() / 2], ratios[ratios.len() - 1]);
     text += &format!("\nThe median ratio is {median:.2}, the greatest {most:.2}.\n\n");
+    put(out, &text)
+}
+
+fn growth_table(asked: &Asked, out: &mut impl Write) -> Result<(), String> {
+    let mut text = String::from(
+        "## Planning, as it grows\n\n| operands | rank | Rust ns | port ns | ratio |\n|---|---|---|---|---|\n",
+    );
+    for row in growth::times(asked.runs) {
+        let ratio = shown(row.port / row.original);
+        text += &format!(
+            "| {} | {} | {:.0} | {:.0} | {ratio} |\n",
+            row.operands, row.rank, row.original, row.port
+        );
+    }
+    text.push('\n');
     put(out, &text)
 }
 
@@ -285,8 +301,8 @@ fn run() -> Result<(), String> {
         }
     }
     if [
-        "planning", "windows", "walking", "finding", "visits", "marks", "texts", "judging",
-        "summing", "sessions",
+        "planning", "growth", "windows", "walking", "finding", "visits", "marks", "texts",
+        "judging", "summing", "sessions",
     ]
     .iter()
     .any(|what| asked.wants(what))
@@ -298,6 +314,9 @@ fn run() -> Result<(), String> {
     }
     if asked.wants("planning") {
         planning_table(&asked, &mut out)?;
+    }
+    if asked.wants("growth") {
+        growth_table(&asked, &mut out)?;
     }
     if asked.wants("windows") {
         windows_table(&asked, &mut out)?;

@@ -1,4 +1,4 @@
-"""Tests of draw and sets. They read the layouts and recorded listings of examples/layouts, so that no other program is run.
+"""Tests of draw, sets and growth. They read the layouts and recorded listings of examples/layouts, so that no other program is run.
 
     python3 -B tools/draw/test_draw.py
 """
@@ -287,6 +287,41 @@ class Program(unittest.TestCase):
             status, out, _ = run_draw("-", "--listing", str(LAYOUTS / "worked.out"), "-o", str(there), text=WORKED)
             self.assertEqual((status, out), (0, ""))
             self.assertTrue(there.read_text().startswith("<svg"))
+
+
+GROWN = "# A\n\n## Cost\n\ntext\n\n| n | size | ns |\n|---|---|---|\n| 1 | 2 | 10 |\n| 1 | 2,000 | 90 |\n| 2 | 2 | 20 |\n\n| n |\n|---|\n| x |\n"
+COST = ("--heading", "Cost", "--along", "size", "--lines", "ns")
+
+
+class Growth(unittest.TestCase):
+    def drawn(self, text, *options):
+        with tempfile.TemporaryDirectory() as folder:
+            document = Path(folder) / "table.md"
+            document.write_text(text)
+            return run_draw(str(document), *options, program="growth")
+
+    def test_a_line_for_each_value_from_the_first_place_to_the_last(self):
+        status, out, _ = self.drawn(GROWN, *COST, "--each", "n")
+        self.assertEqual(status, 0)
+        words = [element.text for element in ElementTree.fromstring(out).iter() if element.tag.endswith("text")]
+        for word in ("n 1, ns", "n 2, ns", "2", "2,000", "10", "100", "size"):
+            self.assertIn(word, words)
+        # 10 and 90 on a scale from 10 to 100: from the foot, and up by log10 9 of the height
+        self.assertIn('d="M64 334L524 47.7"', out)
+
+    def test_what_is_no_table_of_numbers(self):
+        for text, options, words in (
+            (GROWN, ("--heading", "None", *COST[2:]), "no heading 'None'"),
+            ("## Cost\n\n## Next\n", COST, "no table"),
+            (GROWN, (*COST[:4], "--lines", "us"), "no column 'us'"),
+            (GROWN.replace("90", "-"), COST, "is no number"),
+            (GROWN.replace("90", "0"), COST, "logarithmic"),
+        ):
+            with self.subTest(words):
+                status, out, wrong = self.drawn(text, *options)
+                self.assertEqual((status, out), (1, ""))
+                self.assertIn(words, wrong)
+                self.assertNotIn("Traceback", wrong)
 
 
 if __name__ == "__main__":
