@@ -4,6 +4,7 @@
 """
 
 import random
+import re
 import subprocess
 import sys
 import unittest
@@ -79,6 +80,21 @@ class Words(unittest.TestCase):
         lines = [line[4:] for line in shown.splitlines() if line.startswith("    ")]
         self.assertGreater(len(lines), 10)
         self.assertEqual([line for line in lines if line not in told], [])
+
+    def test_the_plan_worked_by_hand(self):
+        """The parts that docs/WORKED.md shows are the layout and, put together, its whole explanation; and every equation on the page holds."""
+        page, text = (ROOT / "docs" / "WORKED.md").read_text(), (LAYOUTS / "by_hand.txt").read_text()
+        given, *parts = re.findall(r"^```text\n(.*?)^```$", page, re.M | re.S)
+        self.assertEqual(given, text)
+        self.assertEqual("\n".join(parts), explain(text))
+        for signs in ("×*", "−-", "⌊(", "⌋)"):
+            page = page.replace(*signs)
+        words = re.sub(r"^```.*?^```$", "", page, flags=re.M | re.S)
+        equations = re.findall(r"([(\d][\d,()^]*(?: [*/+-] [(\d][\d,()^]*)*) = (\d+(?:,\d{3})*)", words)
+        self.assertEqual(len(equations), words.count(" = "))
+        for sides in equations:
+            left, right = (side.replace(",", "").replace("^", "**").replace("/", "//") for side in sides)
+            self.assertEqual(eval(left), int(right), sides)
 
     def test_the_terminal(self):
         worked = (LAYOUTS / "worked.txt").read_bytes()
