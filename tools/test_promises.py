@@ -10,24 +10,18 @@ import unittest
 from pathlib import Path
 
 TOOL = Path(__file__).resolve().parent / "promises"
+PAGE = "docs/SPECIFICATION.md"
 
 # A repository in which everything is as it should be.
 RIGHT = {
-    "README.md": """# A planner
-
-| promise | definition | theorem |
-|---|---|---|
-| a plan | `Plan.planned`, `Text.Lists` | contract of `kernel::plan`; `laws`, `Walk/Row9.row9-exact` |
+    "docs/SPECIFICATION.md": """# What a planner does
 
 The public entries, none with a precondition: `kernel::plan`, `walk::begin`, and the C functions of `gougelily`.
+
+- There is a plan. `strided/src/lib: Purpose` `Plan: planned, _⊕_` `Text: Lists`
+
+*Proved*: row 9 is exact: `laws/specs/Walk/Row9: row9-exact`. Where ports go astray: `strided/must-fail: never_cut`. The contract of `kernel::plan`.
 """,
-    "docs/DEFINITIONS.md": """| document 01 | file | definition |
-|---|---|---|
-| **The plan** | | |
-| the plan | src/lib.rt, Plan | `Purpose`, `planned`; Text `Lists` |
-| where ports go astray | must-fail/ | `never_cut` |
-""",
-    "docs/SPECIFICATION.md": "- There is a plan (`Plan.planned`).\n",
     "crates/strided/src/lib.rt": "pub enum Purpose {\n    Fold,\n}\n",
     "crates/strided/specs/Plan.antt": "unfoldable pub planned : ℕ → ℕ\nplanned n = n\n\nabbrev pub _⊕_ : ℕ → ℕ → ℕ\na ⊕ b = a\n",
     "crates/strided/specs/Text.antt": "pub record Lists (n : ℕ) : Type 0 where\n  pub size : ℕ\n",
@@ -95,21 +89,22 @@ class Promises(unittest.TestCase):
         self.assertIn(words, fault)
 
     def test_right(self):
-        self.assertEqual(judged(), (0, "2 entries and 1 C functions cite 4 definitions; docs/DEFINITIONS.md has 4 names, docs/SPECIFICATION.md 1, README.md's table 4; 0 wrong\n", ""))
+        self.assertEqual(judged(), (0, "2 entries and 1 C functions cite 3 definitions; docs/SPECIFICATION.md names 6; 0 wrong\n", ""))
 
     def test_a_definition_of_another_crate(self):
         self.refused("kernel::plan cites `Made` of crate kernel", ("crates/kernel/src/lib.rt", "plannedOf (length", "Made (length"))
         self.refused("walk::begin cites `Lists` of crate text", ("crates/states/src/start.rt", "Rattle.strided.specs", "Rattle.text.specs"))
-        self.refused("cites `⊕` of crate model", ("crates/gougelily/src/plans.rt", "Plan.{planned, _⊕_}", "Plan.{planned};\nghost use Rattle.model.specs.Sums.{_⊕_}"))
+        self.refused("cites `_⊕_` of crate model", ("crates/gougelily/src/plans.rt", "Plan.{planned, _⊕_}", "Plan.{planned};\nghost use Rattle.model.specs.Sums.{_⊕_}"))
         self.refused("of crate walk, not of strided", ("crates/gougelily/src/plans.rt", "planned n ⊕ r", "Rattle.walk.specs.Lent.left n r"))
         self.refused("kernel::plan cites `Made` of crate kernel", ("crates/kernel/src/lib.rt", "plannedOf (length (now (extents .entry))) ⌝ }", "plannedOf\n        (Made (length (now (extents .entry)))) ⌝ }"))
         self.refused("kernel::plan cites `Made` of crate kernel", ("crates/kernel/src/lib.rt", "r ≡ plannedOf (length", "let p = plannedOf in record {\n        is = Made } ≡ p (length"))
         self.refused("by code", ("crates/gougelily/src/plans.rt", "planned n ⊕ r", "planned n ⊕ ⟦made()⟧"))
         self.refused("cites no definition", ("crates/gougelily/src/plans.rt", "planned n ⊕ r", "n ≡ r"))
 
-    def test_a_rule_without_its_definition(self):
-        self.refused("there is no `Plan.plans`", ("docs/SPECIFICATION.md", "Plan.planned", "Plan.plans"))
-        self.refused("there is no `walk/specs/Plan.planned`", ("docs/SPECIFICATION.md", "Plan.planned", "walk/specs/Plan.planned"))
+    def test_a_definition_that_the_page_does_not_name(self):
+        self.refused("kernel::plan cites `planned` of strided/specs/Plan, which", (PAGE, "Plan: planned, _⊕_", "Plan: _⊕_"))
+        self.refused("gougelily::gougelily_plan cites `_⊕_` of strided/specs/Plan, which", (PAGE, "Plan: planned, _⊕_", "Plan: planned"))
+        self.refused("walk::begin cites `Lists` of strided/specs/Text, which", (PAGE, " `Text: Lists`", ""))
 
     def test_a_precondition(self):
         self.refused("kernel::plan has a precondition", ("crates/kernel/src/lib.rt", "    ensures", "    requires { ⌜ 0 < 1 ⌝ }\n    ensures"))
@@ -126,22 +121,30 @@ pub {1}fn {2}(n: u64) -> u64
     n
 }}
 """
-        listed = ("README.md", "`walk::begin`", "`walk::begin`, `window::window`")
-        own = ("crates/window/src/lib.rt", "", cut.format("window·specs.specs", "", "window"))
+        listed = (PAGE, "`walk::begin`, and", "`walk::begin`, `window::window`, and")
+        named = (PAGE, "`Text: Lists`", "`Text: Lists` `window/specs/Cut: cut`")
+        spec = ("crates/window/specs/Cut.antt", "", "pub cut : ℕ → ℕ → Type 0\n")
+        own = ("crates/window/src/lib.rt", "", cut.format("window·specs", "", "window"))
         exported = ("crates/gougelily/src/windows.rt", "", cut.format("window", 'extern "C" ', "gougelily_window"))
-        self.assertEqual(judged(listed, own, exported)[0], 0)
+        self.assertEqual(judged(listed, named, spec, own, exported)[0], 0)
+        self.refused("of window/specs/Cut, which", listed, spec, own, exported)
         self.refused("of crate session", listed, ("crates/window/src/lib.rt", "", cut.format("session", "", "window")))
 
     def test_a_name_that_is_not_there(self):
-        self.refused("`planned` is not in src/lib.rt, Plan", ("crates/strided/specs/Plan.antt", "unfoldable pub planned", "unfoldable pub plannedAt"))
-        self.refused("`planned` is not in src/lib.rt, Text", ("docs/DEFINITIONS.md", "src/lib.rt, Plan", "src/lib.rt, Text"))
-        self.refused("there is no file Plans", ("docs/DEFINITIONS.md", "src/lib.rt, Plan", "src/lib.rt, Plans"))
-        self.refused("`always_cut` is not in must-fail/", ("docs/DEFINITIONS.md", "never_cut", "always_cut"))
-        self.refused("there is no `Walk/Row9.row9-exact`", ("crates/laws/specs/Walk/Row9.antt", "row9-exact", "row9-half"))
-        self.refused("`kernel::plan` is not among the public entries", ("README.md", "precondition: `kernel::plan`, ", "precondition: "))
+        self.refused("there is no `planned` in strided/specs/Plan", ("crates/strided/specs/Plan.antt", "unfoldable pub planned", "unfoldable pub plannedAt"))
+        self.refused("there is no `Purpose` in strided/src/lib", ("crates/strided/src/lib.rt", "pub enum Purpose", "pub enum Aim"))
+        self.refused("there is no `always_cut` in strided/must-fail", (PAGE, "never_cut", "always_cut"))
+        self.refused("there is no `row9-exact` in laws/specs/Walk/Row9", ("crates/laws/specs/Walk/Row9.antt", "row9-exact", "row9-half"))
+        self.refused("there is no file strided/specs/Plans", (PAGE, "`Plan: planned", "`Plans: planned"))
+        self.refused("there is no file states/src/start", (PAGE, "`Text: Lists`", "`Text: Lists` `states/src/start: begin`"))
+        self.refused("`kernel::plan` is not among the public entries", (PAGE, "precondition: `kernel::plan`, ", "precondition: "))
+
+    def test_a_name_out_of_form(self):
+        self.refused("is not of the form", (PAGE, "`Text: Lists`", "`Text: Lists` `Text: Lists and more`"))
+        self.refused("is not of the form", (PAGE, "`Text: Lists`", "`Text: Lists` `laws/specs/Walk/Row9.row9-exact`"))
 
     def test_nothing_to_read(self):
-        self.refused("lists no entry", ("README.md", "The public entries", "Entries"))
+        self.refused("lists no entry", (PAGE, "The public entries", "Entries"))
 
 
 if __name__ == "__main__":

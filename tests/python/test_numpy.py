@@ -1,4 +1,4 @@
-"""Tests of the Python module with NumPy: docs/NUMPY.md and the README as they are written, and random views copied by their blocks.
+"""Tests of the Python module with NumPy: docs/NUMPY.md and docs/TOUR.md as they are written, and random views copied by their blocks.
 
     /usr/bin/python3 -B tests/python/test_numpy.py         (Debian's package python3-numpy)
 """
@@ -19,7 +19,7 @@ from views import case  # noqa: E402
 
 class Pages(unittest.TestCase):
     def test_the_pages(self):
-        for page, least in (("docs/NUMPY.md", 20), ("docs/TOUR.md", 5), ("README.md", 4)):
+        for page, least in (("docs/NUMPY.md", 20), ("docs/TOUR.md", 5)):
             outcome = doctest.testfile(str(ROOT / page), module_relative=False)
             self.assertEqual(outcome.failed, 0)
             self.assertGreaterEqual(outcome.attempted, least)

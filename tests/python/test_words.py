@@ -1,5 +1,5 @@
-"""One table of refusals: that of include/gougelily.h. The Python module, the man page, the README and tools/draw have the same rows. So it is with
-the version, and with the names of the functions.
+"""One table of refusals: that of include/gougelily.h. The Python module, the man page, docs/SPECIFICATION.md and tools/draw have the same rows. So it
+is with the version, and with the names of the functions.
 
     python3 -B tests/python/test_words.py
 """
@@ -14,7 +14,7 @@ from gougelily.library import FUNCTIONS
 
 HEADER = (ROOT / "include" / "gougelily.h").read_text()
 MANUAL = (ROOT / "docs" / "man" / "gougelily.3").read_text().replace("\\-", "-")
-README = (ROOT / "README.md").read_text()
+PAGE = (ROOT / "docs" / "SPECIFICATION.md").read_text()
 TABLE = {int(number): sentence for number, sentence in re.findall(r'^    ROW\(\w+, ([0-9]+), "(.*)"\)', HEADER, re.M)}
 
 
@@ -31,8 +31,8 @@ class Refusals(unittest.TestCase):
     def test_the_man_page(self):
         self.assertEqual({int(number): sentence for number, sentence in rows(MANUAL, "\n.SH REFUSALS\n", r"^ +([0-9]+)  (.*)$")}, TABLE)
 
-    def test_the_readme(self):
-        self.assertEqual([int(number) for number in rows(README, "\n## Refusals\n", r"^\| ([0-9]+) \|")], list(TABLE))
+    def test_the_specification(self):
+        self.assertEqual([int(number) for number in rows(PAGE, "\n## Refusals\n", r"^\| ([0-9]+) \|")], list(TABLE))
 
     def test_the_drawing_tool(self):
         told = (ROOT / "tools" / "draw" / "reading.py").read_text().split("REFUSALS = {", 1)[1].split("}", 1)[0]
