@@ -1,4 +1,4 @@
-"""Tests of draw, sets and growth. They read the layouts and recorded listings of examples/layouts, so that no other program is run.
+"""Tests of draw, sets, growth and layers. They read the layouts and recorded listings of examples/layouts, so that no other program is run.
 
     python3 -B tools/draw/test_draw.py
 """
@@ -217,6 +217,32 @@ class Sets(unittest.TestCase):
                 self.assertTrue(wrong.startswith("sets: "), wrong)
                 self.assertIn(words, wrong)
                 self.assertNotIn("Traceback", wrong)
+
+
+class Layers(unittest.TestCase):
+    listed = (HERE.parents[1] / "crates.txt").read_text()
+
+    def drawn(self, text):
+        with tempfile.TemporaryDirectory() as folder:
+            path = Path(folder, "crates.txt")
+            path.write_text(text)
+            ran = subprocess.run([sys.executable, "-B", str(HERE / "layers"), str(path)], capture_output=True, text=True, check=False)
+        return ran.returncode, ran.stdout, ran.stderr
+
+    def test_every_crate_is_drawn_once(self):
+        status, out, wrong = self.drawn(self.listed)
+        self.assertEqual((status, wrong), (0, ""))
+        labels = [text.text for text in ElementTree.fromstring(out).iter("{http://www.w3.org/2000/svg}text") if text.get("class") == "c"]
+        crates = [line.partition(":")[0] for line in self.listed.splitlines() if line and not line.startswith("#")]
+        self.assertEqual([label for label in labels if label in crates], crates)
+
+    def test_what_is_refused(self):
+        for old, new, words in (("wide: strided laws", "wide: strided laws mark", "wide of the layer numbers of two words uses mark, which is below it"),
+                                ("# plan\n", "# plans\n", "the layers are"), ("# definitions and laws\n", "", "strided is in no layer")):
+            self.assertIn(old, self.listed)
+            status, _, wrong = self.drawn(self.listed.replace(old, new))
+            self.assertEqual(status, 1)
+            self.assertIn(words, wrong)
 
 
 class Program(unittest.TestCase):
