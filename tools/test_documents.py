@@ -78,6 +78,9 @@ class Documents(unittest.TestCase):
                                 ("`check_layout`", "`check_layouts`", "no source has this word")):
             self.refused(words, ("docs/ARCHITECTURE.md", old, new))
 
+    def test_paths_of_a_machine(self):
+        self.refused("/tmp/gougelily is a path of one machine", ("README.md", "See ", "See /tmp/gougelily, "))
+
     def test_the_map(self):
         self.refused("definitions: laws is not there", ("docs/ARCHITECTURE.md", "`strided`, `laws`", "`strided`"))
         self.refused("walk: laws is not in that layer", ("docs/ARCHITECTURE.md", "`kernel`, `walk`", "`kernel`, `walk`, `laws`"))
