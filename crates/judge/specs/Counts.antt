@@ -1,17 +1,35 @@
 -- How often an index stands in a list of indices, and in lists joined: once exactly if at one place and at no other.
 -- Assumes nothing.
-use mathlib.Core.Path.{_≡_, refl, sym, ap, _∙_}
+use mathlib.Core.Path.{_≡_, refl, sym, ap, ap₂, _∙_}
 use mathlib.Core.Logic.{⊎-elim}
+use mathlib.Core.Bool.{Bool, true, false, cond, _&&_}
 use mathlib.Core.List.{List, [], _∷_, _++_, map}
 use mathlib.Core.Option.{some}
-use Prim.Native.Nat.{ℕ, zero, suc, _+_, _≤_, _<_}
+use Prim.Native.Nat.{ℕ, zero, suc, _+_, _*_, _≤_, _<_}
 use native.Mathlib.Omega.{arith}
+use lib.Dec.{eqb}
 use Rattle.strided.specs.Base.{over, nth, run}
 use Rattle.laws.specs.Base.Ranges.{below-or}
 use Rattle.laws.specs.Base.Sums.{sum-append, sum-pos, pos-sum, sum-twice}
 use Rattle.laws.specs.Base.Counting.{sameList, count, sameList-refl, sameList-pos}
+use Rattle.judge.specs.Judge.{same, often}
+
+-- `often` is the `count` of the laws
+same-is : (x y : List ℕ) → cond (same x y) 1 0 ≡ sameList x y
+same-is [] [] = refl
+same-is [] (y ∷ ys) = refl
+same-is (x ∷ xs) [] = refl
+same-is (x ∷ xs) (y ∷ ys) = go (eqb x y) (same-is xs ys)
+  where
+    go : (b : Bool) → cond (same xs ys) 1 0 ≡ sameList xs ys → cond (b && same xs ys) 1 0 ≡ cond b 1 0 * sameList xs ys
+    go true e = omega (arith, e)
+    go false e = omega arith
 
 module _ (x : List ℕ) where
+  pub often-count : (l : List (List ℕ)) → often x l ≡ count x l
+  often-count [] = refl
+  often-count (y ∷ l) = ap₂ (λ (a b : ℕ). a + b) (same-is x y) (often-count l)
+
   pub count-append : (l m : List (List ℕ)) → count x (l ++ m) ≡ count x l + count x m
   count-append l m = sum-append l m (sameList x)
 

@@ -14,7 +14,6 @@ use Rattle.strided.specs.Layout.{total, within}
 use Rattle.strided.specs.Refusals.{Row, refusedBy, row1, row5}
 use Rattle.strided.specs.declared.Refusal.{Refusal}
 use Rattle.strided.specs.declared.Refusal.the-variants.{TextTotal, Visits}
-use Rattle.laws.specs.Base.Counting.{count}
 use Rattle.judge.specs.Visits.{Visit, Formed, NotFormed}
 use Rattle.judge.specs.declared.Verdict.{Verdict}
 use Rattle.judge.specs.declared.Verdict.the-variants.{Accepted, Short, Double, Outside}
@@ -58,9 +57,20 @@ abbrev pub indexAt : List ℕ → ℕ → List ℕ
 indexAt [] n = []
 indexAt (e ∷ es) n = n % e ∷ indexAt es (n / e)
 
--- how often that index lies in the runs: `count x l` is how often x stands in l
+abbrev pub same : List ℕ → List ℕ → Bool
+same [] [] = true
+same [] (y ∷ ys) = false
+same (x ∷ xs) [] = false
+same (x ∷ xs) (y ∷ ys) = eqb x y && same xs ys
+
+-- how often the index x stands in a list of indices
+abbrev pub often : List ℕ → List (List ℕ) → ℕ
+often x [] = 0
+often x (y ∷ l) = cond (same x y) 1 0 + often x l
+
+-- how often the index of place n lies in the runs
 abbrev pub metAt : List ℕ → List Visit → ℕ → ℕ
-metAt es vs n = count (indexAt es n) (met vs)
+metAt es vs n = often (indexAt es n) (met vs)
 
 -- "an index comes again"; each index comes
 abbrev pub someAgain : List ℕ → List Visit → Bool

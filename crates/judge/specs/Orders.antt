@@ -16,7 +16,7 @@ use Rattle.strided.specs.declared.Refusal.{Refusal}
 use Rattle.laws.specs.Base.Counting.{count}
 use Rattle.judge.specs.Visits.{Visit, Formed, NotFormed}
 use Rattle.judge.specs.Judge.{cells, met, leaves, someLeaves, indexAt, metAt, verdict, marksOf, marksAfter, Judgement, judging, judgeRefused, Judges}
-use Rattle.judge.specs.Counts.{count-append}
+use Rattle.judge.specs.Counts.{often-count, count-append}
 use Rattle.judge.specs.declared.Judged.the-variants.{Told}
 use Rattle.judge.specs.declared.Verdict.the-variants.{Accepted, Short, Double, Outside}
 
@@ -67,10 +67,10 @@ judging-by es vs = refl
 -- VERDICT AND MARKS are those of any order
 pub order-free : (es : List ℕ) {vs ws : List Visit} → Reordered vs ws → judging es vs ≡ judging es ws
 order-free es {vs} {ws} r =
-    let often : metAt es vs ≡ metAt es ws = λ i n. met-reordered (indexAt es n) r i in
+    let alike : metAt es vs ≡ metAt es ws = λ i n. (let x = indexAt es n in (often-count x (met vs) ∙ met-reordered x r ∙ sym (often-count x (met ws))) i) in
     judging-by es vs
     ∙ ap (λ (b : Bool). judgedBy es b (metAt es vs)) (leaves-reordered es r)
-    ∙ ap (λ (f : ℕ → ℕ). judgedBy es (someLeaves es ws) f) often
+    ∙ ap (λ (f : ℕ → ℕ). judgedBy es (someLeaves es ws) f) alike
     ∙ sym (judging-by es ws)
 
 -- two judgements, each of a text and the same buffer: refused by a row alike, or each by its text

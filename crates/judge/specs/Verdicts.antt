@@ -19,7 +19,7 @@ use Rattle.laws.specs.Base.Ranges.{below-or, every-fails}
 use Rattle.laws.specs.Refusals.Operands.{some-of-where, some-of-at}
 use Rattle.judge.specs.Visits.{Visit}
 use Rattle.judge.specs.Judge.{moved, cells, met, allIn, leaves, someLeaves, indexAt, metAt, someAgain, allMet, verdict}
-use Rattle.judge.specs.Counts.{Stands, there, counted-stands, stands-counted, once-stands, stands-once, twice-stands, nth-run, run-nth}
+use Rattle.judge.specs.Counts.{Stands, often-count, there, counted-stands, stands-counted, once-stands, stands-once, twice-stands, nth-run, run-nth}
 use Rattle.judge.specs.Places.{place-below, index-place, index-within}
 use Rattle.judge.specs.Laying.{place}
 use Rattle.judge.specs.declared.Verdict.{Verdict}
@@ -157,12 +157,12 @@ not-every t (suc n) h = go (t (0 + n)) refl h (not-every t n)
 module _ (es : List ℕ) (vs : List Visit) where
   -- a place's count is its index's, and each index has a place
   at-place : (x : List ℕ) → Within es x → metAt es vs (place es x) ≡ count x (met vs)
-  at-place x w = ap (λ (y : List ℕ). count y (met vs)) (index-place es x w)
+  at-place x w = often-count (indexAt es (place es x)) (met vs) ∙ ap (λ (y : List ℕ). count y (met vs)) (index-place es x w)
 
   again-some : someAgain es vs ≡ true → (x : List ℕ) × Within es x × (1 < count x (met vs))
   again-some h =
       let r = some-of-where (λ n. ltb 1 (metAt es vs n)) (total es) h in
-      (indexAt es (r .0), index-within es (r .0) (r .1), ltb-true 1 (metAt es vs (r .0)) (r .2))
+      (indexAt es (r .0), index-within es (r .0) (r .1), omega (arith, ltb-true 1 (metAt es vs (r .0)) (r .2), often-count (indexAt es (r .0)) (met vs)))
 
   again-none : someAgain es vs ≡ false → (x : List ℕ) → Within es x → count x (met vs) ≤ 1
   again-none h x w =
@@ -178,7 +178,7 @@ module _ (es : List ℕ) (vs : List Visit) where
   met-not h =
       let r = not-every (λ n. ltb 0 (metAt es vs n)) (total es) h in
       let t : metAt es vs (r .0) ≤ 0 = ltb-false 0 (metAt es vs (r .0)) (r .2) in
-      (indexAt es (r .0), index-within es (r .0) (r .1), omega arith)
+      (indexAt es (r .0), index-within es (r .0) (r .1), omega (arith, t, often-count (indexAt es (r .0)) (met vs)))
 
   -- ---- WHAT EACH VERDICT MEANS, over indices alone
 
