@@ -1,6 +1,6 @@
 -- OUR OWN WALKS AS RUNS ALONG THEIR BLOCKS: where the cells of a block are told one after the other along one original axis, the blocks of a
--- walk followed to its end, each as one run along that axis, are accepted. `AlongAxis` says so of a walk, by the indices told; of which plans
--- it holds is not said here.
+-- walk followed to its end, each as one run along that axis, are accepted. `AlongAxis` says so of a walk, by the indices told; Along has plans
+-- of which it holds.
 -- Assumes nothing.
 use mathlib.Core.Path.{_≡_, refl, sym, ap, ap₂, _∙_, subst}
 use mathlib.Core.List.{List, [], _∷_, _++_, map, append-nil}

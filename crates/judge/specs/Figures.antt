@@ -1,16 +1,24 @@
--- Figures: verdicts and marks of short lists, a line as text, and the order of the rows, by computation on the definitions.
+-- Figures: verdicts and marks of short lists, a line as text, the order of the rows, and plans whose axis 0 is an original axis or is not, by
+-- computation on the definitions.
 -- Assumes nothing.
 use mathlib.Core.Path.{_≡_, refl}
 use mathlib.Core.List.{List, [], _∷_}
 use mathlib.Core.Option.{none, some}
-use Prim.Native.Nat.{ℕ}
+use Prim.Native.Nat.{ℕ, zero, suc}
+use native.Mathlib.Omega.{arith}
 use Rattle.strided.specs.Base.{every, some-of}
 use Rattle.strided.specs.Digits.{digitsOf}
 use Rattle.strided.specs.Rows.{numbers}
 use Rattle.strided.specs.declared.Refusal.the-variants.{Rank, Total, TextTotal, Visits}
+use lib.IntN.{ℤ, pos}
 use lib.ListN.{replicate}
+use Rattle.strided.specs.Order.{fusingOrder}
+use Rattle.strided.specs.Fuse.{planAxes}
+use Rattle.strided.specs.Index.{indexInPlan}
+use Rattle.strided.specs.declared.Purpose.{Purpose}
 use Rattle.judge.specs.Visits.{Visit, visitLine}
 use Rattle.judge.specs.Judge.{verdict, marksOf, marksAfter, judgeRows, judgeRefused}
+use Rattle.judge.specs.Along.{FirstAxis}
 use Rattle.judge.specs.declared.Verdict.{Verdict}
 use Rattle.judge.specs.declared.Verdict.the-variants.{Accepted, Short, Double, Outside}
 
@@ -73,3 +81,19 @@ pub rows-right : (judgeRefused (replicate 65 4294967296) 0 ≡ some Rank) × (ju
     × (judgeRefused (65536 ∷ []) 65536 ≡ none)
 unfolding judgeRefused
 rows-right = (refl, refl, refl, refl, refl, refl)
+
+-- two rows of three cells, apart from each other: axis 0 of the plan is axis 0. Five cells behind an axis of extent 1: it is axis 1. Packed rows: it
+-- is neither
+pub apart-first : (u : Purpose) → FirstAxis (3 ∷ 2 ∷ []) 1 (pos 1 ∷ pos 10 ∷ []) u 0
+unfolding planAxes fusingOrder indexInPlan
+apart-first u = record { there = omega arith; extent = refl; step = λ h. refl }
+
+pub behind-one : (u : Purpose) → FirstAxis (1 ∷ 5 ∷ []) 1 (pos 1 ∷ pos 1 ∷ []) u 1
+unfolding planAxes fusingOrder indexInPlan
+behind-one u = record { there = omega arith; extent = refl; step = λ h. refl }
+
+pub packed-none : (u : Purpose) (a : ℕ) → FirstAxis (3 ∷ 2 ∷ []) 1 (pos 1 ∷ pos 3 ∷ []) u a → ⊥
+unfolding planAxes fusingOrder
+packed-none u zero f = let e : _≡_ {A = ℕ} 6 3 = f .extent in absurd (omega arith)
+packed-none u (suc zero) f = let e : _≡_ {A = ℕ} 6 2 = f .extent in absurd (omega arith)
+packed-none u (suc (suc a)) f = absurd (omega (arith, f .there))

@@ -177,7 +177,7 @@ module _ (es sizes : List ℕ) (ss : List ℤ) (u : Purpose) (p : Plan) (steps :
 
   module _ (few : length es ≤ 64) (starts : List ℤ) (d : Demand3 es sizes ss u p steps starts) where
     -- at a place where x is met, x is told
-    told-met : (m k : ℕ) (x : List ℕ) (q : Meets es sizes ss u p steps m k x) → toldAt (q .by) k ≡ x
+    pub told-met : (m k : ℕ) (x : List ℕ) (q : Meets es sizes ss u p steps m k x) → toldAt (q .by) k ≡ x
     told-met m k x q =
         ap (λ (t : Index). take (length es) (t .index)) (d .tells m k x q) ∙ take-counted 0 64 (length es) x (within-length es x (q .inside)) few
 
