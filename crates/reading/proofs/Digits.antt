@@ -84,14 +84,18 @@ begins {u = u} {b = b} {v = v} {rest = rest} e h =
     inr (f, ap head q, ap tail q))
     (below-or v 1)
 
--- `0` stands alone
-module _ {t u : List ℕ} (e : t ≡ 48 ∷ u) where
-  zero-alone : goesOn u ≡ false → Here digitsOf FitU t 0 u
-  zero-alone g = record { fits = omega arith; form = e ∙ ap (λ (l : List ℕ). l ++ u) (sym (digits-small 0 (omega arith))); stops = g }
+-- one digit and no more
+digit-alone : (b : ℕ) {t u : List ℕ} → t ≡ b ∷ u → isDigit b ≡ true → goesOn u ≡ false → Here digitsOf FitU t (b - 48) u
+digit-alone b {t} {u} e d g =
+    let f = digit-of b d in
+    let one : digitsOf (b - 48) ≡ b ∷ [] = digits-small (b - 48) (f .0) ∙ ap (λ (x : ℕ). x ∷ []) (f .1) in
+    let small : b - 48 < 10 = f .0 in
+    record { fits = omega arith; form = e ∙ ap (λ (l : List ℕ). l ++ u) (sym one); stops = g }
 
-  zero-more : goesOn u ≡ true → (v : ℕ) (rest : List ℕ) → Here digitsOf FitU t v rest → ⊥
-  zero-more g v rest h =
-      ⊎-elim (λ z. true≢false (sym g ∙ ap goesOn (z .1) ∙ h .stops)) (λ f. omega arith) (begins e h)
+-- `0` stands alone
+zero-more : {t u : List ℕ} → t ≡ 48 ∷ u → goesOn u ≡ true → (v : ℕ) (rest : List ℕ) → Here digitsOf FitU t v rest → ⊥
+zero-more e g v rest h =
+    ⊎-elim (λ z. true≢false (sym g ∙ ap goesOn (z .1) ∙ h .stops)) (λ f. omega arith) (begins e h)
 
 -- another digit, and what more there is
 module _ (b : ℕ) {t u : List ℕ} (e : t ≡ b ∷ u) (above : 48 < b) (v : ℕ) (rest : List ℕ) where
@@ -127,24 +131,21 @@ module _ (b : ℕ) {t u : List ℕ} (e : t ≡ b ∷ u) (above : 48 < b) (v : �
 -- ---- the reader of a number, by its first digit
 
 module _ {s : List ℕ} {at b : ℕ} (d : DigitAt s at b) where
-  pub first-reads : (w : ℕ) {r : Number} → w ≡ b → 48 < b → ReadsMore (w - 48) s (at + 1) r → Reads digitsOf s at r
-  first-reads w {r} e h m =
-      let n : ReadsMore (b - 48) s (at + 1) r = rw e at m in
+  pub first-reads : {r : Number} → 48 < b → ReadsMore (b - 48) s (at + 1) r → Reads digitsOf s at r
+  first-reads h m =
       record {
-        value = λ v next q. first-here b (d .rest) h v (drop next s) (d .is) (n .value v next q);
-        bad = λ q v rest g. n .bad q v rest (first-more b (d .rest) h v rest g);
+        value = λ v next q. first-here b (d .rest) h v (drop next s) (d .is) (m .value v next q);
+        bad = λ q v rest g. m .bad q v rest (first-more b (d .rest) h v rest g);
       }
 
-  zero-rest : b ≤ 48 → drop at s ≡ 48 ∷ drop (at + 1) s
-  zero-rest h =
-      let e : b ≡ 48 = omega arith in
-      d .rest ∙ ap (λ (x : ℕ). x ∷ drop (at + 1) s) e
-
-  pub zero-reads : b ≤ 48 → goesOn (drop (at + 1) s) ≡ false → Reads digitsOf s at (Value 0 (at + 1))
-  zero-reads h g = is-value 0 (at + 1) (zero-alone (zero-rest h) g)
+  pub one-reads : goesOn (drop (at + 1) s) ≡ false → Reads digitsOf s at (Value (b - 48) (at + 1))
+  one-reads g = is-value (b - 48) (at + 1) (digit-alone b (d .rest) (d .is) g)
 
   pub zero-bad : b ≤ 48 → goesOn (drop (at + 1) s) ≡ true → Reads digitsOf s at Bad
-  zero-bad h g = is-bad (zero-more (zero-rest h) g)
+  zero-bad h g =
+      let low = d .low in
+      let e : b ≡ 48 = omega arith in
+      is-bad (zero-more (d .rest ∙ ap (λ (x : ℕ). x ∷ drop (at + 1) s) e) g)
 
 pub none-bad : (s : List ℕ) (at : ℕ) → goesOn (drop at s) ≡ false → Reads digitsOf s at Bad
 none-bad s at g = is-bad (number-none (drop at s) g)
