@@ -3,20 +3,21 @@
 -- Assumes nothing.
 use mathlib.Core.Path.{_≡_, refl, sym, ap, ap₂, _∙_, subst}
 use mathlib.Core.Bool.{Bool, true, false}
-use mathlib.Core.List.{List, [], _∷_}
+use mathlib.Core.List.{List, [], _∷_, _++_}
 use mathlib.Core.Option.{some}
-use Prim.Native.Nat.{ℕ, zero, suc, _+_, _*_, _≤_, _<_}
+use Prim.Native.Nat.{ℕ, zero, suc, _+_, _-_, _*_, _≤_, _<_}
 use native.Mathlib.Nat.{add-zero, zero-add}
 use native.Mathlib.Omega.{arith}
 use lib.Dec.{eqb}
 use lib.IntN.{ℤ}
 use lib.ListN.{length, getD, take, replicate, length-replicate}
-use Rattle.strided.specs.Base.{nth}
-use Rattle.strided.specs.Layout.{Axis, noAxis, Within, extents, axesOf}
+use Rattle.strided.specs.Base.{over, nth}
+use Rattle.strided.specs.Layout.{Axis, noAxis, Within, total, extents, axesOf}
 use Rattle.strided.specs.Order.{pick, fusingOrder}
 use Rattle.strided.specs.Fuse.{fuse, keep, planAxes}
 use Rattle.strided.specs.Index.{Raveled, ravel, ravelStep, pad, originalIndex, indexInPlan}
 use Rattle.strided.specs.Walk.{cellAt}
+use Rattle.strided.specs.Text.{Each, FitU}
 use Rattle.strided.specs.Plan.{planned}
 use Rattle.strided.specs.Begin.{begunAt}
 use Rattle.strided.specs.Demand3.{replaced, stepsFrom, Place, cellOf, Meets, Demand3}
@@ -24,16 +25,19 @@ use Rattle.strided.specs.declared.Machine.{Machine}
 use Rattle.strided.specs.declared.Purpose.{Purpose}
 use Rattle.strided.specs.declared.Plan.{Plan}
 use Rattle.strided.specs.declared.Stepped.{Stepped}
-use Rattle.strided.specs.declared.Outcome.the-variants.{Ended}
+use Rattle.strided.specs.declared.Outcome.{Outcome}
+use Rattle.strided.specs.declared.Outcome.the-variants.{Block, Ended, Rejected}
 use Rattle.strided.specs.declared.Answer.the-variants.{Served}
-use Rattle.laws.specs.Base.Layouts.{within-length, within-at, length-extents}
+use Rattle.laws.specs.Base.Layouts.{within-length, within-at, within-total, extent-le, length-extents}
 use Rattle.laws.specs.Order.Picked.{length-pick}
 use Rattle.laws.specs.Fuse.Maps.{plan-in, orig-plan}
 use Rattle.laws.specs.Demand3.Whole.{demand3-any}
-use Rattle.judge.specs.Judge.{moved, verdict}
-use Rattle.judge.specs.Own.{toldAt, told-met}
-use Rattle.judge.specs.Blocks.{AlongAxis, runsBefore, blocks-accepted}
+use Rattle.judge.specs.Visits.{Visit, visitLine, VisitFits, Formed}
+use Rattle.judge.specs.Judge.{moved, Judgement, Judges}
+use Rattle.judge.specs.Own.{each-fits, text-accepted, toldAt, taken, told-met}
+use Rattle.judge.specs.Blocks.{runBy, blockRun, runIn, runsBefore, AlongAxis, blocks-accepted}
 use Rattle.judge.specs.declared.Verdict.the-variants.{Accepted}
+use Rattle.judge.specs.declared.Judged.the-variants.{Told}
 
 -- the index with 0 on each of n axes
 abbrev pub origin : ℕ → List ℕ
@@ -111,9 +115,10 @@ moved-more a k [] = refl
 moved-more zero k (y ∷ x) = ap₂ (λ (n : ℕ) (l : List ℕ). n ∷ l) (let e : y + suc k ≡ y + k + (0 + 1) = omega arith in e) (sym (plus-origin x))
 moved-more (suc a) k (y ∷ x) = ap₂ (λ (n : ℕ) (l : List ℕ). n ∷ l) (sym (add-zero y)) (moved-more a k x)
 
-first-moved : (k : ℕ) (x : List ℕ) → 0 < length x → getD (moved 0 k x) 0 0 ≡ getD x 0 0 + k
-first-moved k [] h = absurd (omega arith)
-first-moved k (y ∷ x) h = refl
+moved-at : (a k : ℕ) (x : List ℕ) → a < length x → getD (moved a k x) a 0 ≡ getD x a 0 + k
+moved-at a k [] h = absurd (omega arith)
+moved-at zero k (y ∷ x) h = refl
+moved-at (suc a) k (y ∷ x) h = moved-at a k x (omega arith)
 
 moved-within : (es x : List ℕ) (a k : ℕ) → Within es x → a < length es → getD x a 0 + k < getD es a 0 → Within es (moved a k x)
 moved-within [] x a k w h l = absurd (omega arith)
@@ -187,11 +192,11 @@ module _ (es : List ℕ) (m : ℕ) (ss : List ℤ) (u : Purpose) where
         let some : 0 < length axes = rank (omega (arith, within-at es x a w (f .there))) in
         let x-long : 0 < length (inPlan x) = omega (arith, some, plan-length x w) in
         let z-long : 0 < length (inPlan (z .0)) = omega (arith, some, plan-length (z .0) (z .1)) in
-        let y-first : getD (inPlan y) 0 0 ≡ getD (inPlan x) 0 0 + suc k = ap (λ (l : List ℕ). getD l 0 0) e ∙ first-moved (suc k) (inPlan x) x-long in
+        let y-first : getD (inPlan y) 0 0 ≡ getD (inPlan x) 0 0 + suc k = ap (λ (l : List ℕ). getD l 0 0) e ∙ moved-at 0 (suc k) (inPlan x) x-long in
         let y-below : getD (inPlan y) 0 0 < getD (extents axes) 0 0 = within-at (extents axes) (inPlan y) 0 (plan-in es m ss u y v) (omega (arith, some, length-extents axes)) in
         let steps : 1 < getD es a 0 = omega (arith, y-first, y-below, f .extent) in
         let x-first : getD (inPlan x) 0 0 ≡ getD (inPlan (z .0)) 0 0 + n =
-        ap (λ (l : List ℕ). getD l 0 0) (ap inPlan (z .2) ∙ plan-moved steps n (z .0) (z .1)) ∙ first-moved n (inPlan (z .0)) z-long in
+        ap (λ (l : List ℕ). getD l 0 0) (ap inPlan (z .2) ∙ plan-moved steps n (z .0) (z .1)) ∙ moved-at 0 n (inPlan (z .0)) z-long in
         let inside : Within es (moved a (suc k) x) = moved-within es x a (suc k) w (f .there) (omega (arith, x-first, y-first, y-below, f .extent)) in
         same y (moved a (suc k) x) v inside (e ∙ sym (plan-moved steps (suc k) x w))
 
@@ -201,36 +206,98 @@ cell-moved : (c : List ℕ) (k : ℕ) → cellAt c k ≡ moved 0 k (cellAt c 0)
 cell-moved [] k = refl
 cell-moved (s ∷ c) k = ap (λ (n : ℕ). (n + k) ∷ c) (sym (add-zero s))
 
--- THE CELLS OF A BLOCK GO ALONG a
-pub first-along : (es sizes : List ℕ) (ss : List ℤ) (u : Purpose) (p : Plan) (steps : List Stepped) → length es ≤ 64
-    → (starts : List ℤ) → Demand3 es sizes ss u p steps starts → (a : ℕ) → FirstAxis es (length sizes) ss u a → AlongAxis es sizes ss u p steps a
-first-along es sizes ss u p steps few starts d a f m k s at =
-    let h : k < s .length = at .below in
-    let x = d .meets m 0 s (record { there = at .there; hands = at .hands; below = omega arith }) in
-    let y = d .meets m k s at in
-    told m k s at (y .0) (y .1)
-    ∙ plan-along es (length sizes) ss u a f (x .0) (y .0) k (x .1 .inside) (y .1 .inside)
-    (cell m k s at (y .0) (y .1) ∙ cell-moved (take (p .rank) (s .counters)) k ∙ ap (moved 0 k) (sym (cell m 0 s (record { there = at .there; hands = at .hands; below = omega arith }) (x .0) (x .1))))
-    ∙ ap (moved a k) (sym (told m 0 s (record { there = at .there; hands = at .hands; below = omega arith }) (x .0) (x .1)))
-  where
-    by-is : (m k : ℕ) (s : Stepped) → Place es sizes ss u p steps m k s → (x : List ℕ) (q : Meets es sizes ss u p steps m k x) → q .by ≡ s
-    by-is m k s at x q = let g = q .place .there in let h = at .there in cc (g, h)
+each-append : (P : Visit → Type 0) (vs ws : List Visit) → Each P vs → Each P ws → Each P (vs ++ ws)
+each-append P [] ws p q = q
+each-append P (v ∷ vs) ws p q = (p .0, each-append P vs ws (p .1) q)
 
-    cell : (m k : ℕ) (s : Stepped) → Place es sizes ss u p steps m k s → (x : List ℕ) → Meets es sizes ss u p steps m k x
-        → indexInPlan es (length sizes) ss u x ≡ cellOf es sizes ss u p steps k s
-    cell m k s at x q = q .index ∙ ap (cellOf es sizes ss u p steps k) (by-is m k s at x q)
+each-over : {A : Type 0} (P : Visit → Type 0) (f : A → List Visit) (l : List A) → ((i : ℕ) (x : A) → nth l i ≡ some x → Each P (f x)) → Each P (over l f)
+each-over P f [] h = tt
+each-over P f (x ∷ l) h = each-append P (f x) (over l f) (h 0 x refl) (each-over P f l (λ i y e. h (suc i) y e))
 
-    told : (m k : ℕ) (s : Stepped) → Place es sizes ss u p steps m k s → (x : List ℕ) → Meets es sizes ss u p steps m k x → toldAt es sizes ss u p steps s k ≡ x
-    told m k s at x q = ap (λ (t : Stepped). toldAt es sizes ss u p steps t k) (sym (by-is m k s at x q)) ∙ told-met es sizes ss u p steps few starts d m k x q
+module _ (es sizes : List ℕ) (ss : List ℤ) (u : Purpose) (p : Plan) (steps : List Stepped) (few : length es ≤ 64)
+    (starts : List ℤ) (d : Demand3 es sizes ss u p steps starts) (a : ℕ) (f : FirstAxis es (length sizes) ss u a) where
+  -- the index met at a place: it is told there, and its plan index is the cell's
+  record Met (s : Stepped) (k : ℕ) : Type 0 where
+    pub index : List ℕ
+    pub inside : Within es index
+    pub told : toldAt es sizes ss u p steps s k ≡ index
+    pub cell : indexInPlan es (length sizes) ss u index ≡ cellOf es sizes ss u p steps k s
 
--- OUR OWN WALKS, BLOCK BY BLOCK, where axis 0 of the plan is the original axis a
-pub first-accepted : (mc : Machine) (es sizes : List ℕ) (ss : List ℤ) (u : Purpose) → planned mc es sizes ss u .answer ≡ Served → length es ≤ 64
+  met-at : (m k : ℕ) (s : Stepped) → Place es sizes ss u p steps m k s → Met s k
+  met-at m k s at =
+      let w = d .meets m k s at in
+      let q : Meets es sizes ss u p steps m k (w .0) = w .1 in
+      let by-is : q .by ≡ s = let g = q .place .there in let h = at .there in cc (g, h) in
+      record {
+        index = w .0;
+        inside = q .inside;
+        told = ap (λ (t : Stepped). toldAt es sizes ss u p steps t k) (sym by-is) ∙ told-met es sizes ss u p steps few starts d m k (w .0) q;
+        cell = q .index ∙ ap (cellOf es sizes ss u p steps k) by-is;
+      }
+
+  -- THE CELLS OF A BLOCK GO ALONG a
+  pub first-along : AlongAxis es sizes ss u p steps a
+  first-along m k s at =
+      let h : k < s .length = at .below in
+      let x = met-at m 0 s (record { there = at .there; hands = at .hands; below = omega arith }) in
+      let y = met-at m k s at in
+      y .told
+      ∙ plan-along es (length sizes) ss u a f (x .index) (y .index) k (x .inside) (y .inside)
+      (y .cell ∙ cell-moved (take (p .rank) (s .counters)) k ∙ ap (moved 0 k) (sym (x .cell)))
+      ∙ ap (moved a k) (sym (x .told))
+
+  -- a block is a run that a line can say
+  run-fits : total es ≤ 65536 → (m : ℕ) (s : Stepped) → nth steps m ≡ some s → Each (VisitFits (length es)) (runIn es sizes ss u p steps a s)
+  run-fits t m s e = go (s .answer) refl
+    where
+      go : (o : Outcome) → s .answer ≡ o → Each (VisitFits (length es)) (runBy o (blockRun es sizes ss u p steps a s))
+      go Ended q = tt
+      go (Rejected r) q = tt
+      go Block q =
+          let some : 0 < s .length = d .order m s e q .4 in
+          let k : ℕ = s .length - 1 in
+          let x = met-at m 0 s (record { there = e; hands = q; below = some }) in
+          let at : Place es sizes ss u p steps m k s = record { there = e; hands = q; below = omega arith } in
+          let y = met-at m k s at in
+          let long : length (x .index) ≡ length es = within-length es (x .index) (x .inside) in
+          let moves : y .index ≡ moved a k (x .index) = sym (y .told) ∙ first-along m k s at ∙ ap (moved a k) (x .told) in
+          let last : getD (y .index) a 0 ≡ getD (x .index) a 0 + k = ap (λ (l : List ℕ). getD l a 0) moves ∙ moved-at a k (x .index) (omega (arith, long, f .there)) in
+          let below : getD (y .index) a 0 < getD es a 0 = within-at es (y .index) a (y .inside) (f .there) in
+          let extent : getD es a 0 ≤ total es = extent-le es a (within-total es (x .index) (x .inside)) in (
+            record {
+              there = f .there;
+              some = some;
+              count = ap length (x .told) ∙ long;
+              axisFits = omega (arith, f .there, few);
+              lenFits = omega (arith, last, below, extent, t);
+              indexFits = subst (Each FitU) (sym (x .told)) (each-fits es (x .index) t (x .inside));
+            },
+            tt,
+          )
+
+  pub runs-formed : total es ≤ 65536 → (m : ℕ) → Formed (length es) (over (runsBefore es sizes ss u p steps a m) visitLine) (runsBefore es sizes ss u p steps a m)
+  runs-formed t m =
+      record {
+        form = refl;
+        fits = each-over (VisitFits (length es)) (runIn es sizes ss u p steps a) (take m steps) (λ i s e. run-fits t i s (taken es sizes ss u p steps steps m i s e .1));
+      }
+
+-- OUR OWN WALKS, BLOCK BY BLOCK: as `own-accepted`, where axis 0 of the plan is the original axis a, with each block as one run along a
+pub first-accepted : (mc : Machine) (es sizes : List ℕ) (ss : List ℤ) (u : Purpose) → planned mc es sizes ss u .answer ≡ Served
+    → length es ≤ 64 → total es ≤ 65536 → (a : ℕ) → FirstAxis es (length sizes) ss u a
     → (bs : List ℕ) (starts : List ℤ) → begunAt (replaced (planned mc es sizes ss u .plan) bs) starts .answer ≡ Served
-    → (n a : ℕ) → FirstAxis es (length sizes) ss u a
+    → (n : ℕ)
     → let p : Plan = replaced (planned mc es sizes ss u .plan) bs in
     let steps : List Stepped = stepsFrom p n (begunAt p starts .walk) in
-    (m : ℕ) (s : Stepped) → nth steps m ≡ some s → s .answer ≡ Ended → verdict es (runsBefore es sizes ss u p steps a m) ≡ Accepted
-first-accepted mc es sizes ss u hp few bs starts hb n a f m s e h =
+    (m : ℕ) (s : Stepped) → nth steps m ≡ some s → s .answer ≡ Ended
+    → (marks : List ℕ) → length marks ≡ total es → (j : Judgement) → Judges es (over (runsBefore es sizes ss u p steps a m) visitLine) marks j → j .answer ≡ Told Accepted
+first-accepted mc es sizes ss u hp few t a f bs starts hb n m s e h marks k j g =
     let p : Plan = replaced (planned mc es sizes ss u .plan) bs in
     let steps : List Stepped = stepsFrom p n (begunAt p starts .walk) in
-    blocks-accepted mc es sizes ss u hp few bs starts hb n a (first-along es sizes ss u p steps few starts (demand3-any mc es sizes ss u hp bs starts hb n) a f) m s e h
+    let d : Demand3 es sizes ss u p steps starts = demand3-any mc es sizes ss u hp bs starts hb n in
+    let vs : List Visit = runsBefore es sizes ss u p steps a m in
+    let there : a < length es = f .there in
+    text-accepted es (over vs visitLine) marks vs
+    (runs-formed es sizes ss u p steps few starts d a f t m)
+    (blocks-accepted mc es sizes ss u hp few bs starts hb n a (first-along es sizes ss u p steps few starts d a f) m s e h)
+    (omega arith) few t k j g

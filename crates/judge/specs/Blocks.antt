@@ -55,7 +55,7 @@ map-run f g s (suc n) h =
 
 -- ---- the runs of a walk's blocks
 
-abbrev runBy : Outcome → Visit → List Visit
+abbrev pub runBy : Outcome → Visit → List Visit
 runBy Block v = v ∷ []
 runBy Ended v = []
 runBy (Rejected r) v = []

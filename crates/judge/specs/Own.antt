@@ -98,7 +98,7 @@ singles-accepted es xs h =
 
 -- ---- their text is in the form
 
-each-fits : (es x : List ℕ) → total es ≤ 65536 → Within es x → Each FitU x
+pub each-fits : (es x : List ℕ) → total es ≤ 65536 → Within es x → Each FitU x
 each-fits [] [] t w = tt
 each-fits [] (y ∷ x) t w = absurd w
 each-fits (e ∷ es) [] t w = absurd w
@@ -137,12 +137,12 @@ not-refused es room h r t e =
     let five : row5 es .applies ≡ false = row5-total es ∙ le-ltb maxU (total es) (omega arith) in
     rw (le-ltb 64 (length es) r, five, le-ltb 65536 (total es) t, ne-eqb (length es) 0 (λ z. absurd (omega arith)), eq-eqb room (total es) e)
 
--- THE ENTRY ACCEPTS the text of such a list
-pub text-accepted : (es : List ℕ) (xs : List (List ℕ)) (marks : List ℕ) → EachOnce es xs → 0 < length es → length es ≤ 64 → total es ≤ 65536 → length marks ≡ total es
-    → (j : Judgement) → Judges es (over (singles xs) visitLine) marks j → j .answer ≡ Told Accepted
-text-accepted es xs marks h r1 r2 t e j d =
-    let f = d .judged (not-refused es (length marks) r1 r2 t e) .formed (singles xs) (singles-formed es xs r1 t (h .inside)) in
-    ap (λ (k : Judgement). k .answer) f ∙ ap Told (singles-accepted es xs h)
+-- THE ENTRY ACCEPTS a text of runs that are accepted
+pub text-accepted : (es text marks : List ℕ) (vs : List Visit) → Formed (length es) text vs → verdict es vs ≡ Accepted
+    → 0 < length es → length es ≤ 64 → total es ≤ 65536 → length marks ≡ total es
+    → (j : Judgement) → Judges es text marks j → j .answer ≡ Told Accepted
+text-accepted es text marks vs f v r1 r2 t e j d =
+    ap (λ (k : Judgement). k .answer) (d .judged (not-refused es (length marks) r1 r2 t e) .formed vs f) ∙ ap Told v
 
 -- ---- the walk
 
@@ -236,7 +236,9 @@ pub own-accepted : (mc : Machine) (es sizes : List ℕ) (ss : List ℤ) (u : Pur
 own-accepted mc es sizes ss u hp r1 r2 t bs starts hb n m s e h marks k j d =
     let p : Plan = replaced (planned mc es sizes ss u .plan) bs in
     let steps : List Stepped = stepsFrom p n (begunAt p starts .walk) in
-    text-accepted es (toldBefore es sizes ss u p steps m) marks (walk-once es sizes ss u p steps r2 starts (demand3-any mc es sizes ss u hp bs starts hb n) m s e h) r1 r2 t k j d
+    let xs : List (List ℕ) = toldBefore es sizes ss u p steps m in
+    let each : EachOnce es xs = walk-once es sizes ss u p steps r2 starts (demand3-any mc es sizes ss u hp bs starts hb n) m s e h in
+    text-accepted es (over (singles xs) visitLine) marks (singles xs) (singles-formed es xs r1 t (each .inside)) (singles-accepted es xs each) r1 r2 t k j d
 
 -- and there is such a step: every walk comes to its end
 pub own-ends : (mc : Machine) (es sizes : List ℕ) (ss : List ℤ) (u : Purpose) → planned mc es sizes ss u .answer ≡ Served
