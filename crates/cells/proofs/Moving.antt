@@ -1,9 +1,8 @@
--- Bytes moved one by one: what the loops of `bytes` keep, and that a move goes on where one ended.
+-- Bytes moved one by one: what the loops of `bytes` keep.
 -- Assumes nothing.
-use mathlib.Core.Path.{_≡_, refl, sym, ap, _∙_}
+use mathlib.Core.Path.{_≡_, sym, ap, _∙_}
 use mathlib.Core.List.{List}
-use Prim.Native.Nat.{ℕ, zero, suc, _+_, _<_}
-use native.Mathlib.Nat.{add-zero}
+use Prim.Native.Nat.{ℕ, _+_, _<_}
 use native.Mathlib.Numerals.{add-one}
 use native.Mathlib.Omega.{arith}
 use lib.ListN.{length, getD, set}
@@ -32,23 +31,6 @@ pub held-at : (piece src : List ℕ) (s k i : ℕ) → Held piece src s k → i 
 unfolding Held
 held-at piece src s k i all h = all i h
 
-pub moved-none : (dst : List ℕ) (d : ℕ) (src : List ℕ) (s : ℕ) → dst ≡ moved dst d src s 0
-unfolding moved
-moved-none dst d src s = refl
-
 pub moved-more : (dst : List ℕ) (d : ℕ) (src : List ℕ) (s n : ℕ) → set (moved dst d src s n) (d + n) (getD src (s + n) 0) ≡ moved dst d src s (n + 1)
 unfolding moved
 moved-more dst d src s n = sym (ap (moved dst d src s) (add-one n))
-
--- a move goes on where one ended
-pub moved-add : (dst : List ℕ) (d : ℕ) (src : List ℕ) (s a b : ℕ) → moved (moved dst d src s a) (d + a) src (s + a) b ≡ moved dst d src s (a + b)
-unfolding moved
-moved-add dst d src s a zero = sym (ap (moved dst d src s) (add-zero a))
-moved-add dst d src s a (suc b) =
-    let e : d + a + b ≡ d + (a + b) = omega arith in
-    let e′ : s + a + b ≡ s + (a + b) = omega arith in
-    let e″ : suc (a + b) ≡ a + suc b = omega arith in
-    ap (λ (l : List ℕ). set l (d + a + b) (getD src (s + a + b) 0)) (moved-add dst d src s a b)
-    ∙ ap (λ (k : ℕ). set (moved dst d src s (a + b)) k (getD src (s + a + b) 0)) e
-    ∙ ap (λ (k : ℕ). set (moved dst d src s (a + b)) (d + (a + b)) (getD src k 0)) e′
-    ∙ ap (moved dst d src s) e″

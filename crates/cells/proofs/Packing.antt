@@ -13,7 +13,7 @@ use Rattle.cells.specs.declared.Side.{Side}
 use Rattle.cells.specs.Copy.{Pair, moved, copied}
 use Rattle.cells.specs.Patch.{spot, place, runCells, patchCells}
 use Rattle.cells.specs.Reaching.{runSpot, CellIn, PatchIn}
-use Rattle.cells.proofs.Moving.{moved-none, moved-add}
+use Rattle.cells.specs.Meaning.{moved-none, moved-add}
 use Rattle.cells.proofs.Running.{none-copied, cell-more, run-more}
 use Rattle.cells.proofs.Patching.{patch-cell, patch-start}
 

@@ -6,6 +6,7 @@ use mathlib.Core.Logic.{_⊎_, inl, inr, ⊎-elim, _↔_}
 use mathlib.Core.Bool.{Bool, true, false}
 use mathlib.Core.List.{List, [], _∷_, _++_}
 use Prim.Native.Nat.{ℕ, zero, suc, _+_, _-_, _≤_, _<_}
+use native.Mathlib.Nat.{add-zero}
 use native.Mathlib.Omega.{arith}
 use lib.Dec.{ltb}
 use lib.ListN.{length, getD, set, length-set}
@@ -49,6 +50,23 @@ moved-at dst d src s (suc n) k h f =
     ap (λ (m : ℕ). getD (set (moved dst d src s n) (d + n) (getD src (s + n) 0)) (d + m) 0) (sym e)
     ∙ getD-set-same (moved dst d src s n) (d + n) (getD src (s + n) 0) 0 r
     ∙ ap (λ (m : ℕ). getD src (s + m) 0) e)
+
+pub moved-none : (dst : List ℕ) (d : ℕ) (src : List ℕ) (s : ℕ) → dst ≡ moved dst d src s 0
+unfolding moved
+moved-none dst d src s = refl
+
+-- a move goes on where one ended
+pub moved-add : (dst : List ℕ) (d : ℕ) (src : List ℕ) (s a b : ℕ) → moved (moved dst d src s a) (d + a) src (s + a) b ≡ moved dst d src s (a + b)
+unfolding moved
+moved-add dst d src s a zero = sym (ap (moved dst d src s) (add-zero a))
+moved-add dst d src s a (suc b) =
+    let e : d + a + b ≡ d + (a + b) = omega arith in
+    let e′ : s + a + b ≡ s + (a + b) = omega arith in
+    let e″ : suc (a + b) ≡ a + suc b = omega arith in
+    ap (λ (l : List ℕ). set l (d + a + b) (getD src (s + a + b) 0)) (moved-add dst d src s a b)
+    ∙ ap (λ (k : ℕ). set (moved dst d src s (a + b)) k (getD src (s + a + b) 0)) e
+    ∙ ap (λ (k : ℕ). set (moved dst d src s (a + b)) (d + (a + b)) (getD src k 0)) e′
+    ∙ ap (moved dst d src s) e″
 
 -- ---- whether a byte is one of some cell
 

@@ -1,5 +1,6 @@
 -- Laws that belong to no one function.
 pub mod Bytes
 pub mod Copies
+pub mod Gaps
 pub mod Tests
 pub mod Ways

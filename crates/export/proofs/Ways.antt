@@ -1,13 +1,13 @@
--- The ways out of a copy that planning does not refuse: rows 8 and 9, rows 16 to 18, and the cells copied.
+-- The ways out of a copy that planning does not refuse: rows 8 and 9, rows 16 to 18, and the cells copied, at once or by the plan.
 -- Assumes nothing.
 use mathlib.Core.Path.{_≡_, refl, sym, ap, ap₂, _∙_, subst}
 use mathlib.Core.Bool.{Bool, true, false, cond, not}
 use mathlib.Core.List.{List, _∷_}
 use mathlib.Core.Option.{Option, none, some}
-use Prim.Native.Nat.{ℕ, _^_, _<_}
+use Prim.Native.Nat.{ℕ, _*_, _^_, _<_}
 use native.Mathlib.Omega.{arith}
 use lib.IntN.{ℤ, pos}
-use lib.ListN.{length, take, replicate}
+use lib.ListN.{length, getD, take, replicate}
 use borrow.Author.Tests.{eq-eqb, ne-eqb}
 use Rattle.strided.specs.Base.{padded}
 use Rattle.strided.specs.Layout.{strideRow, hasZero}
@@ -33,9 +33,11 @@ use Rattle.laws.specs.Refusals.Record.{planning-layout}
 use Rattle.laws.specs.Refusals.Rows.{served-none, refused-some}
 use Rattle.laws.specs.Walk.Steps.{served-walk}
 use Rattle.kernel.specs.Made.{Made}
-use Rattle.cells.specs.Copy.{copied}
+use Rattle.cells.specs.Copy.{moved, copied}
+use Rattle.cells.specs.Offsets.{placeAt}
 use Rattle.export.specs.Export.{widthOf, exported, cellRows, copyRefused, doneAt, doneOr, copyDone}
 use Rattle.export.specs.Rows.{copy-as-planning, copy-planned, Clean, clean}
+use Rattle.export.specs.Packed.{Plain, plain-row9, plain-exported}
 use Rattle.export.specs.Blocks.{walkCells, startsOf, Copyable}
 use Rattle.export.specs.Walks.{plan-copyable, walk-exported}
 
@@ -73,10 +75,18 @@ module _ (mc : Machine) (es sizes : List ℕ) (ss zs : List ℤ) (dst src : List
     pub no-starts : (length zs ≡ length sizes → ⊥) → doneAt (Refused StartCount) dst ≡ copyDone mc es sizes ss zs dst src
     no-starts n = by (some StartCount) (rest ∙ ap (λ (b : Bool). cond (not b) (some StartCount) (refusedBy (nine ∷ cells))) (ne-eqb (length zs) (length sizes) n))
 
-    module _ (many : length zs ≡ length sizes) (rank : ℕ) (E B : List ℕ) (S : List ℤ) (made : Made mc es sizes ss (PointwiseInto 0) rank E B S) where
-      eight : copyRefused mc es sizes ss zs (length dst) (length src) ≡ refusedBy (nine ∷ cells)
-      eight = rest ∙ ap (λ (b : Bool). cond (not b) (some StartCount) (refusedBy (nine ∷ cells))) (eq-eqb (length zs) (length sizes) many)
+    eight : length zs ≡ length sizes → copyRefused mc es sizes ss zs (length dst) (length src) ≡ refusedBy (nine ∷ cells)
+    eight many = rest ∙ ap (λ (b : Bool). cond (not b) (some StartCount) (refusedBy (nine ∷ cells))) (eq-eqb (length zs) (length sizes) many)
 
+    -- nothing is refused, and the cells lie without gaps
+    pub plain-done : {r : ℕ} → Plain es sizes ss zs (length dst) (length src) r → (out : List ℕ)
+        → out ≡ moved dst (placeAt (widthOf sizes) (getD zs 0 (pos 0))) src (placeAt (widthOf sizes) (getD zs 1 (pos 0))) (r * widthOf sizes)
+        → doneAt Served out ≡ copyDone mc es sizes ss zs dst src
+    plain-done p out o =
+        ap (doneAt Served) (o ∙ sym (plain-exported p dst src))
+        ∙ by none (eight (p .starts) ∙ ap (λ (b : Bool). cond b (some Offsets) (refusedBy cells)) (plain-row9 p) ∙ p .passes)
+
+    module _ (many : length zs ≡ length sizes) (rank : ℕ) (E B : List ℕ) (S : List ℤ) (made : Made mc es sizes ss (PointwiseInto 0) rank E B S) where
       abbrev P : Plan
       P = planned mc es sizes ss (PointwiseInto 0) .plan
 
@@ -91,7 +101,7 @@ module _ (mc : Machine) (es sizes : List ℕ) (ss zs : List ℤ) (dst src : List
         -- row 9
         pub offsets-leave : (r : Refusal) → a .answer ≡ Refused r → doneAt (Refused Offsets) dst ≡ copyDone mc es sizes ss zs dst src
         unfolding begunAt
-        offsets-leave r e = by (some Offsets) (eight ∙ go (nine .applies) refl)
+        offsets-leave r e = by (some Offsets) (eight many ∙ go (nine .applies) refl)
           where
             go : (b : Bool) → nine .applies ≡ b → cond (nine .applies) (some Offsets) (refusedBy cells) ≡ some Offsets
             go true q = ap (λ (b : Bool). cond b (some Offsets) (refusedBy cells)) q
@@ -104,7 +114,7 @@ module _ (mc : Machine) (es sizes : List ℕ) (ss zs : List ℤ) (dst src : List
           begins = served-walk (beginRefused P zs) _ (sym (ap (λ (b : Begun). b .answer) begun-is) ∙ serves)
 
           passes : copyRefused mc es sizes ss zs (length dst) (length src) ≡ refusedBy cells
-          passes = eight ∙ ap (λ (b : Bool). cond b (some Offsets) (refusedBy cells)) (begins-to mc es sizes ss (PointwiseInto 0) hp (P .blocks) zs begins .1)
+          passes = eight many ∙ ap (λ (b : Bool). cond b (some Offsets) (refusedBy cells)) (begins-to mc es sizes ss (PointwiseInto 0) hp (P .blocks) zs begins .1)
 
           module _ (x : Answer) (says : x ≡ answered (refusedBy (cellRows es sizes ss zs (length dst) (length src)))) where
             -- rows 16 to 18

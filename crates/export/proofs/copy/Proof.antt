@@ -15,8 +15,8 @@ enum-known-answer c = search needs
 enum-told : tie.Need-enum-told
 enum-told c = search needs
 
-copy-planned-requires : tie.Need-copy-planned-requires
-copy-planned-requires c κs = served-none _ (sym (c .before .before .before .check-planning .ensures) ∙ c .before .enum-told .given .1)
+copy-accepted-requires : tie.Need-copy-accepted-requires
+copy-accepted-requires c κs = served-none _ (sym (c .before .before .before .check-planning .ensures) ∙ c .before .enum-told .given .1)
 
 returns : tie.Need-returns
 returns c = not-planned _ _ _ _ _ _ _ (c .before .before .before .check-planning .result) (c .before .before .before .check-planning .ensures) _ (c .before .answer .given .1)
@@ -34,7 +34,7 @@ copy-spec =
     check-planning-requires
     enum-known-answer
     enum-told
-    copy-planned-requires
+    copy-accepted-requires
     returns
     same-length
     returns-2)

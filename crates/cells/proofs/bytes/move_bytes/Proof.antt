@@ -6,7 +6,8 @@ use native.Mathlib.Omega.{arith}
 use lib.ListN.{length, getD, set, length-set}
 use borrow.Author.Needs.{needs}
 use Rattle.cells.specs.Copy.{moved}
-use Rattle.cells.proofs.Moving.{Held, held-none, held-more, held-at, moved-none, moved-more}
+use Rattle.cells.specs.Meaning.{moved-none}
+use Rattle.cells.proofs.Moving.{Held, held-none, held-more, held-at, moved-more}
 use Rattle.cells.proofs.bytes.move_bytes.Statement.{statement}
 use Rattle.cells.proofs.bytes.move_bytes.Tie as tie
 use Rattle.cells.proofs.bytes.move_bytes.Reads as reads

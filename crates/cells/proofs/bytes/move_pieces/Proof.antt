@@ -6,8 +6,7 @@ use native.Mathlib.Omega.{arith}
 use lib.ListN.{length, getD, set, length-set}
 use borrow.Author.Needs.{needs}
 use Rattle.cells.specs.Copy.{moved}
-use Rattle.cells.proofs.Moving.{moved-none, moved-add}
-use Rattle.cells.specs.Meaning.{moved-length}
+use Rattle.cells.specs.Meaning.{moved-length, moved-none, moved-add}
 use Rattle.cells.proofs.bytes.move_pieces.Statement.{statement}
 use Rattle.cells.proofs.bytes.move_pieces.Tie as tie
 use Rattle.cells.proofs.bytes.move_pieces.Reads as reads
