@@ -1,17 +1,25 @@
 -- Strides held against the products of extents, axis by axis from axis 0 on.
 -- Assumes nothing.
 use mathlib.Core.Path.{_≡_, sym, ap, _∙_}
+use mathlib.Core.Bool.{false, false≢true}
 use mathlib.Core.List.{List, [], _∷_}
 use Prim.Native.Nat.{ℕ, zero, suc, _+_, _*_, _≤_, _<_}
 use native.Mathlib.Nat.{mul-assoc, mul-zero, le-mul-of-pos-right}
 use native.Mathlib.Numerals.{add-one}
 use native.Mathlib.Omega.{arith}
-use lib.IntN.{ℤ, pos}
+use lib.Dec.{T}
+use lib.IntN.{ℤ, pos, negsuc}
 use lib.ListN.{length, getD, drop, drop-of-length-le}
 use lib.Seq.{drop-cons, drop-length}
+use lib.Signed.{ltZ, nonNeg}
 use Rattle.strided.specs.Layout.{strideRow, total}
 use Rattle.laws.specs.Base.Rows.{stride-at, length-strides}
 use Rattle.export.specs.Packed.{packedFrom}
+
+-- a number that is not below 0
+pub not-below : (s : ℤ) → ltZ s (pos 0) ≡ false → T (nonNeg s)
+not-below (pos n) t = tt
+not-below (negsuc k) t = absurd (false≢true (sym t))
 
 -- the strides before axis i are right, so that all are where those from it on are, n apart on axis i
 unfoldable pub Rest : List ℕ → List ℤ → ℕ → ℕ → Type 0

@@ -37,7 +37,7 @@ use Rattle.cells.specs.Copy.{moved, copied}
 use Rattle.cells.specs.Offsets.{placeAt}
 use Rattle.export.specs.Export.{widthOf, exported, cellRows, copyRefused, doneAt, doneOr, copyDone}
 use Rattle.export.specs.Rows.{copy-as-planning, copy-planned, Clean, clean}
-use Rattle.export.specs.Packed.{Plain, plain-row9, plain-exported}
+use Rattle.export.specs.Packed.{Plain, plain-passes, plain-row9, plain-exported}
 use Rattle.export.specs.Blocks.{walkCells, startsOf, Copyable}
 use Rattle.export.specs.Walks.{plan-copyable, walk-exported}
 
@@ -84,7 +84,7 @@ module _ (mc : Machine) (es sizes : List ℕ) (ss zs : List ℤ) (dst src : List
         → doneAt Served out ≡ copyDone mc es sizes ss zs dst src
     plain-done p out o =
         ap (doneAt Served) (o ∙ sym (plain-exported p dst src))
-        ∙ by none (eight (p .starts) ∙ ap (λ (b : Bool). cond b (some Offsets) (refusedBy cells)) (plain-row9 p) ∙ p .passes)
+        ∙ by none (eight (p .starts) ∙ ap (λ (b : Bool). cond b (some Offsets) (refusedBy cells)) (plain-row9 p) ∙ plain-passes p)
 
     module _ (many : length zs ≡ length sizes) (rank : ℕ) (E B : List ℕ) (S : List ℤ) (made : Made mc es sizes ss (PointwiseInto 0) rank E B S) where
       abbrev P : Plan

@@ -2,34 +2,42 @@
 -- numbers from the start on. Where both operands lie so, the copy is one move of bytes.
 -- Assumes nothing.
 use mathlib.Core.Path.{_≡_, refl, sym, ap, ap₂, _∙_, subst}
-use mathlib.Core.Bool.{Bool, true, false, not, _&&_, false≢true}
+use mathlib.Core.Bool.{Bool, true, false, cond, not, _&&_, _||_, false≢true}
 use mathlib.Core.List.{List, [], _∷_, _++_, map, map-map, map-append}
 use mathlib.Core.Option.{none}
 use Prim.Native.Nat.{ℕ, zero, suc, _+_, _-_, _*_, _/_, _^_, _≤_, _<_}
-use native.Mathlib.Nat.{mul-zero, zero-mul, one-mul, suc-mul, zero-add, mul-comm, mul-assoc, add-mul, mul-le-mul-right, div-le-self, div-mul-le-self}
+use native.Mathlib.Nat.{mul-zero, zero-mul, one-mul, suc-mul, zero-add, mul-comm, mul-assoc, add-mul, mul-le-mul-right, div-le-self, div-mul-le-self, le-mul-of-pos-right, le-trans}
 use native.Mathlib.Numerals.{add-one}
 use native.Mathlib.Omega.{arith}
-use lib.Dec.{T, ltb}
-use lib.IntN.{ℤ, pos, negsuc, _+ℤ_, _-ℤ_, _*ℤ_, +ℤ-idr}
+use lib.Dec.{T, ltb, leb}
+use lib.IntN.{ℤ, pos, negsuc, natAbs, _+ℤ_, _-ℤ_, _*ℤ_, +ℤ-idr}
 use lib.ListN.{length, getD}
-use lib.Signed.{nonNeg}
-use borrow.Author.Tests.{ltb-true, lt-ltb, not-false}
-use Rattle.strided.specs.Base.{over, run}
-use Rattle.strided.specs.Layout.{strideRow, total, NoZero, dot, reach, reachDown, inI64}
+use lib.Signed.{nonNeg, pos-natAbs}
+use borrow.Author.Tests.{ltb-true, lt-ltb}
+use Rattle.strided.specs.Base.{over, run, some-of, unless}
+use Rattle.strided.specs.Layout.{strideRow, total, hasZero, NoZero, dot, reach, reachDown, inI64}
 use Rattle.strided.specs.Refusals.{refusedBy, row9, OffsetLeaves}
-use Rattle.laws.specs.Base.Tests.{and-both}
-use Rattle.laws.specs.Base.Lists.{over-last, over-map, run-append}
+use Rattle.strided.specs.Mark.{Shared, staysAt, Way, ways, exceeds, rises, exactMark, quickMark, markOf}
+use Rattle.strided.specs.declared.Mark.{Mark}
+use Rattle.strided.specs.declared.Mark.the-variants.{No, Yes, Undecided}
+use Rattle.laws.specs.Base.Tests.{both-and}
+use Rattle.laws.specs.Base.Lists.{All, over-last, over-map, run-append}
+use Rattle.laws.specs.Base.Refusals.{NoneApplies}
 use Rattle.laws.specs.Base.Rows.{length-strides}
+use Rattle.laws.specs.Mark.Exact.{apart-test}
+use Rattle.laws.specs.Mark.Marks.{stays-shared}
+use Rattle.laws.specs.Mark.Ordered.{Sorted, same}
+use Rattle.laws.specs.Mark.Rises.{rises-apart, any-order}
+use Rattle.laws.specs.Refusals.Rows.{none-refuses}
 use Rattle.laws.specs.Refusals.Zeros.{no-zero-test}
 use Rattle.laws.specs.Walk.Row9.{row9-leaves}
 use Rattle.span.specs.Span.{inCells, outside}
 use Rattle.cells.specs.Copy.{Pair, pair, moved, copied}
 use Rattle.cells.specs.Meaning.{copied-append, moved-none, moved-add}
 use Rattle.cells.specs.Offsets.{placeAt}
-use Rattle.export.specs.Export.{offsetOf, widthOf, indices, cellOf, cellsOf, exported, cellRows}
+use Rattle.export.specs.Export.{offsetOf, widthOf, indices, cellOf, cellsOf, exported, row16, isNo, cellRows}
 use Rattle.export.specs.Rows.{Clean, clean}
 use Rattle.export.specs.Meaning.{into-cells, from-cells}
-use Rattle.export.specs.Steps.{cell-number}
 
 -- the strides of cells without gaps, n apart on the first axis
 abbrev pub packedFrom : ℕ → List ℕ → List ℤ
@@ -42,13 +50,20 @@ pub record Gapless (es : List ℕ) (ss : List ℤ) (r : ℕ) : Type 0 where
   pub to : strideRow ss (length es) 0 ≡ packedFrom 1 es
   pub from : strideRow ss (length es) 1 ≡ packedFrom 1 es
 
--- and no row from 8 on refuses their copy
+-- n cells from the offset z on are among m
+pub record Room (z : ℤ) (n m : ℕ) : Type 0 where
+  pub from : T (nonNeg z)
+  pub to : natAbs z + n ≤ m
+
+-- and their cells lie in their buffers: what the code asks of a copy that is one move
 pub record Plain (es sizes : List ℕ) (ss zs : List ℤ) (to from r : ℕ) : Type 0 where
   pub some : NoZero es
   pub strides : length ss ≡ length es * length sizes
   pub starts : length zs ≡ length sizes
   pub gapless : Gapless es ss r
-  pub passes : refusedBy (cellRows es sizes ss zs to from) ≡ none
+  pub sixteen : row16 sizes .applies ≡ false
+  pub into : Room (getD zs 0 (pos 0)) r (to / getD sizes 0 0)
+  pub out : Room (getD zs 1 (pos 0)) r (from / getD sizes 1 0)
   pub into-fits : to < 2 ^ 63
   pub out-fits : from < 2 ^ 63
 
@@ -132,36 +147,98 @@ run-moved w a b dst src (suc n) =
     cell : ℕ → Pair
     cell i = pair ((a + i) * w) ((b + i) * w)
 
--- ---- the starts
+-- ---- row 17
 
 packed-down : (es : List ℕ) (n : ℕ) → reachDown es (packedFrom n es) ≡ 0
 packed-down [] n = refl
 packed-down (e ∷ es) n = zero-add (reachDown es (packedFrom (n * e) es)) ∙ packed-down es (n * e)
+
+last-one : (e n : ℕ) → 0 < e → (e - 1) * n + n ≡ n * e
+last-one e n h =
+    let b : suc (e - 1) * n ≡ (e - 1) * n + n = suc-mul (e - 1) n in
+    let q : suc (e - 1) ≡ e = omega arith in
+    sym b ∙ ap (λ (k : ℕ). k * n) q ∙ mul-comm e n
 
 packed-reach : (es : List ℕ) (n : ℕ) → NoZero es → n + reach es (packedFrom n es) ≡ n * total es
 packed-reach [] n h = omega arith
 packed-reach (e ∷ es) n h =
     let i : n * e + reach es (packedFrom (n * e) es) ≡ n * e * total es = packed-reach es (n * e) (h .1) in
     let a : n * e * total es ≡ n * (e * total es) = mul-assoc n e (total es) in
-    let b : suc (e - 1) * n ≡ (e - 1) * n + n = suc-mul (e - 1) n in
-    let c : suc (e - 1) * n ≡ n * e = (let q : suc (e - 1) ≡ e = (let z = h .0 in omega (arith, z)) in ap (λ (k : ℕ). k * n) q) ∙ mul-comm e n in
-    omega (arith, i, a, b, c)
+    let b : (e - 1) * n + n ≡ n * e = last-one e n (h .0) in
+    omega (arith, i, a, b)
 
--- an operand whose cells all lie in a buffer of n of them starts at one of them, with room for all
-start-in : (es : List ℕ) (t : List ℤ) (z : ℤ) (n : ℕ) → NoZero es → t ≡ packedFrom 1 es → outside es t z n ≡ false → (a : ℕ) × (z ≡ pos a) × (a + total es ≤ n)
+-- an operand with room for all its cells leaves nothing outside
+room-outside : (es : List ℕ) (t : List ℤ) (z : ℤ) (n : ℕ) → NoZero es → t ≡ packedFrom 1 es → Room z (total es) n → outside es t z n ≡ false
 unfolding outside
-start-in es t z n h e o =
-    let p = packedFrom 1 es in
-    let q : not (inCells n (z -ℤ pos (reachDown es t)) && inCells n (z +ℤ pos (reach es t - reachDown es t))) ≡ false = rw (no-zero-test es h) at o in
-    let b = and-both (inCells n (z -ℤ pos (reachDown es t))) (inCells n (z +ℤ pos (reach es t - reachDown es t))) (not-false _ q) in
+room-outside es t (negsuc a) n h e o = absurd (o .from)
+room-outside es t (pos a) n h e o =
+    let l : a + total es ≤ n = o .to in
     let d : reachDown es t ≡ 0 = ap (reachDown es) e ∙ packed-down es 1 in
-    let low : inCells n z ≡ true = ap (inCells n) (sym (+ℤ-idr z)) ∙ ap (λ (k : ℕ). inCells n (z -ℤ pos k)) (sym d) ∙ b .0 in
-    let m = cell-number n z low in
-    let r : 1 + reach es t ≡ total es = ap (λ (l : List ℤ). 1 + reach es l) e ∙ packed-reach es 1 h ∙ one-mul (total es) in
+    let r : 1 + reach es t ≡ total es = ap (λ (x : List ℤ). 1 + reach es x) e ∙ packed-reach es 1 h ∙ one-mul (total es) in
     let k : reach es t - reachDown es t ≡ reach es t = omega (arith, d) in
-    let high : ltb (m .0 + reach es t) n ≡ true = ap₂ (λ (x : ℤ) (j : ℕ). inCells n (x +ℤ pos j)) (sym (m .1)) (sym k) ∙ b .1 in
-    let g : m .0 + reach es t < n = ltb-true (m .0 + reach es t) n high in
-    (m .0, m .1, omega (arith, g, r))
+    let low : inCells n (pos a -ℤ pos (reachDown es t)) ≡ true = ap (λ (j : ℕ). inCells n (pos a -ℤ pos j)) d ∙ ap (inCells n) (+ℤ-idr (pos a)) ∙ lt-ltb a n (omega (arith, r, l)) in
+    let high : inCells n (pos a +ℤ pos (reach es t - reachDown es t)) ≡ true = ap (λ (j : ℕ). inCells n (pos a +ℤ pos j)) k ∙ lt-ltb (a + reach es t) n (omega (arith, r, l)) in
+    ap₂ (λ (x y : Bool). not (hasZero es) && not (x && y)) low high ∙ ap (λ (b : Bool). not b && false) (no-zero-test es h)
+
+-- ---- row 18: the strides rise as they stand, each above the reach of those before it
+
+ways-above : (es : List ℕ) (n m : ℕ) → NoZero es → m ≤ n → All (λ (q : Way). m ≤ q .size) (ways es (packedFrom n es))
+ways-above [] n m h l = tt
+ways-above (e ∷ es) n m h l = go (leb e 1) (ways-above es (n * e) m (h .1) (le-trans l (le-mul-of-pos-right n (h .0))))
+  where
+    go : (b : Bool) → All (λ (q : Way). m ≤ q .size) (ways es (packedFrom (n * e) es))
+        → All (λ (q : Way). m ≤ q .size) (unless b (record { extent = e; size = n }) (ways es (packedFrom (n * e) es)))
+    go true later = later
+    go false later = (l, later)
+
+ways-sorted : (es : List ℕ) (n : ℕ) → NoZero es → Sorted (ways es (packedFrom n es))
+unfolding Sorted
+ways-sorted [] n h = tt
+ways-sorted (e ∷ es) n h = go (leb e 1) (ways-sorted es (n * e) (h .1))
+  where
+    go : (b : Bool) → Sorted (ways es (packedFrom (n * e) es)) → Sorted (unless b (record { extent = e; size = n }) (ways es (packedFrom (n * e) es)))
+    go true later = later
+    go false later = (ways-above es (n * e) n (h .1) (le-mul-of-pos-right n (h .0)), later)
+
+ways-exceed : (es : List ℕ) (n w : ℕ) → NoZero es → w < n → exceeds w (ways es (packedFrom n es)) ≡ true
+unfolding exceeds
+ways-exceed [] n w h l = refl
+ways-exceed (e ∷ es) n w h l =
+    let m : (e - 1) * n + n ≡ n * e = last-one e n (h .0) in
+    go (leb e 1) (ways-exceed es (n * e) w (h .1) (omega (arith, l, m))) (ways-exceed es (n * e) (w + (e - 1) * n) (h .1) (omega (arith, l, m)))
+  where
+    go : (b : Bool) → exceeds w (ways es (packedFrom (n * e) es)) ≡ true → exceeds (w + (e - 1) * n) (ways es (packedFrom (n * e) es)) ≡ true
+        → exceeds w (unless b (record { extent = e; size = n }) (ways es (packedFrom (n * e) es))) ≡ true
+    go true less more = less
+    go false less more = both-and (ltb w n) (exceeds (w + (e - 1) * n) (ways es (packedFrom (n * e) es))) (lt-ltb w n l) more
+
+packed-length : (es : List ℕ) (n : ℕ) → length (packedFrom n es) ≡ length es
+packed-length [] n = refl
+packed-length (e ∷ es) n = ap suc (packed-length es (n * e))
+
+packed-rises : (es : List ℕ) → NoZero es → rises es (packedFrom 1 es) ≡ true
+packed-rises es h =
+    sym (any-order es (packedFrom 1 es) (ways es (packedFrom 1 es)) same (ways-sorted es 1 h)) ∙ ways-exceed es 1 0 h (omega arith)
+
+packed-apart : (es : List ℕ) → NoZero es → Shared es (packedFrom 1 es) → ⊥
+packed-apart es h = rises-apart es (packedFrom 1 es) (packed-length es 1) (packed-rises es h)
+
+pub packed-mark : (es : List ℕ) → NoZero es → markOf es (packedFrom 1 es) ≡ No
+unfolding markOf
+packed-mark es h = ap (λ (b : Bool). cond b No (cond (leb (total es) 4096) (exactMark es t) (quickMark es t))) (no-zero-test es h) ∙ go (leb (total es) 4096)
+  where
+    t : List ℤ
+    t = packedFrom 1 es
+
+    quick : (b : Bool) → some-of (staysAt es t) 0 (length es) ≡ b → cond b Yes (cond (rises es t) No Undecided) ≡ No
+    quick true e = absurd (packed-apart es h (stays-shared es t (packed-length es 1) h e))
+    quick false e = ap (λ (b : Bool). cond b No Undecided) (packed-rises es h)
+
+    go : (b : Bool) → cond b (exactMark es t) (quickMark es t) ≡ No
+    go true = ap (λ (b : Bool). cond b Yes No) (apart-test es t (packed-apart es h))
+    go false = quick (some-of (staysAt es t) 0 (length es)) refl
+
+-- ---- one move
 
 -- bytes of so many cells
 bytes-in : (a n w len : ℕ) → 0 < w → a + n ≤ len / w → a * w + n * w ≤ len
@@ -208,8 +285,28 @@ module _ {es sizes : List ℕ} {ss zs : List ℤ} {to from r : ℕ} (p : Plain e
   abbrev w : ℕ
   w = widthOf sizes
 
+  into-room : Room (getD zs 0 (pos 0)) (total es) (to / getD sizes 0 0)
+  into-room = subst (λ (n : ℕ). Room (getD zs 0 (pos 0)) n (to / getD sizes 0 0)) (p .gapless .cells) (p .into)
+
+  out-room : Room (getD zs 1 (pos 0)) (total es) (from / getD sizes 1 0)
+  out-room = subst (λ (n : ℕ). Room (getD zs 1 (pos 0)) n (from / getD sizes 1 0)) (p .gapless .cells) (p .out)
+
+  -- rows 16, 17 and 18
+  pub plain-passes : refusedBy (cellRows es sizes ss zs to from) ≡ none
+  unfolding NoneApplies
+  plain-passes =
+      none-refuses (cellRows es sizes ss zs to from) (
+        p .sixteen,
+        (
+          ap₂ (λ (a b : Bool). a || b)
+              (room-outside es (strideRow ss (length es) 0) (getD zs 0 (pos 0)) (to / getD sizes 0 0) (p .some) (p .gapless .to) into-room)
+              (room-outside es (strideRow ss (length es) 1) (getD zs 1 (pos 0)) (from / getD sizes 1 0) (p .some) (p .gapless .from) out-room),
+          (ap (λ (m : Mark). not (isNo m)) (ap (markOf es) (p .gapless .to) ∙ packed-mark es (p .some)), tt),
+        ),
+      )
+
   pub plain-clean : Clean es sizes ss zs to from
-  plain-clean = clean es sizes ss zs to from (p .passes)
+  plain-clean = clean es sizes ss zs to from plain-passes
 
   rows : (k : ℕ) → k < length sizes → length (strideRow ss (length es) k) ≡ length es
   rows k h = length-strides ss (length es) (length sizes) k (p .strides) h
@@ -233,34 +330,24 @@ module _ {es sizes : List ℕ} {ss zs : List ℤ} {to from r : ℕ} (p : Plain e
       go true e = absurd (none-leaves (row9-leaves es (length sizes) (strideRow ss (length es)) zs rows .0 e))
       go false e = e
 
-  -- where the bytes of both operands start, and that they lie in their buffers
-  into-start : (a : ℕ) × (getD zs 0 (pos 0) ≡ pos a) × (a + total es ≤ to / w)
-  into-start = start-in es (strideRow ss (length es) 0) (getD zs 0 (pos 0)) (to / w) (p .some) (p .gapless .to) (plain-clean .into)
-
-  out-start : (b : ℕ) × (getD zs 1 (pos 0) ≡ pos b) × (b + total es ≤ from / w)
-  out-start =
-      start-in es (strideRow ss (length es) 1) (getD zs 1 (pos 0)) (from / w) (p .some) (p .gapless .from)
-      (ap (λ (n : ℕ). outside es (strideRow ss (length es) 1) (getD zs 1 (pos 0)) (from / n)) (plain-clean .same) ∙ plain-clean .out)
-
+  -- the bytes of both operands lie in their buffers
   pub into-sign : T (nonNeg (getD zs 0 (pos 0)))
-  into-sign = subst (λ (z : ℤ). T (nonNeg z)) (sym (into-start .1)) tt
+  into-sign = p .into .from
 
   pub out-sign : T (nonNeg (getD zs 1 (pos 0)))
-  out-sign = subst (λ (z : ℤ). T (nonNeg z)) (sym (out-start .1)) tt
+  out-sign = p .out .from
 
   pub into-bytes : placeAt w (getD zs 0 (pos 0)) + r * w ≤ to
-  into-bytes =
-      subst (λ (z : ℤ). placeAt w z + r * w ≤ to) (sym (into-start .1))
-      (subst (λ (n : ℕ). into-start .0 * w + n * w ≤ to) (sym (p .gapless .cells)) (bytes-in (into-start .0) (total es) w to (plain-clean .some) (into-start .2)))
+  into-bytes = bytes-in (natAbs (getD zs 0 (pos 0))) r w to (plain-clean .some) (p .into .to)
 
   pub out-bytes : placeAt w (getD zs 1 (pos 0)) + r * w ≤ from
   out-bytes =
-      subst (λ (z : ℤ). placeAt w z + r * w ≤ from) (sym (out-start .1))
-      (subst (λ (n : ℕ). out-start .0 * w + n * w ≤ from) (sym (p .gapless .cells)) (bytes-in (out-start .0) (total es) w from (plain-clean .some) (out-start .2)))
+      bytes-in (natAbs (getD zs 1 (pos 0))) r w from (plain-clean .some)
+      (subst (λ (n : ℕ). natAbs (getD zs 1 (pos 0)) + r ≤ from / n) (sym (plain-clean .same)) (p .out .to))
 
   -- THE COPY of such operands
   pub plain-exported : (dst src : List ℕ) → exported es sizes ss zs dst src ≡ moved dst (placeAt w (getD zs 0 (pos 0))) src (placeAt w (getD zs 1 (pos 0))) (r * w)
   plain-exported dst src =
-      packed-exported es sizes ss zs (plain-clean .same) (p .gapless .to) (p .gapless .from) (into-start .0) (out-start .0) (into-start .1) (out-start .1) dst src
-      ∙ ap₂ (λ (x y : ℤ). moved dst (placeAt w x) src (placeAt w y) (total es * w)) (sym (into-start .1)) (sym (out-start .1))
+      packed-exported es sizes ss zs (plain-clean .same) (p .gapless .to) (p .gapless .from) (natAbs (getD zs 0 (pos 0))) (natAbs (getD zs 1 (pos 0)))
+      (sym (pos-natAbs (getD zs 0 (pos 0)) into-sign)) (sym (pos-natAbs (getD zs 1 (pos 0)) out-sign)) dst src
       ∙ ap (λ (n : ℕ). moved dst (placeAt w (getD zs 0 (pos 0))) src (placeAt w (getD zs 1 (pos 0))) (n * w)) (sym (p .gapless .cells))

@@ -20,7 +20,7 @@ diff-small x y (negsuc n) e = go (ltb x (suc n)) refl e
     go true q h = let z : _≡_ {A = Bool} false true = ap nonNeg h in absurd (false≢true z)
     go false q h = let l = ltb-false x (suc n) q in omega (arith, l)
 
-pub cell-number : (n : ℕ) (z : ℤ) → inCells n z ≡ true → (x : ℕ) × (z ≡ pos x) × (x < n)
+cell-number : (n : ℕ) (z : ℤ) → inCells n z ≡ true → (x : ℕ) × (z ≡ pos x) × (x < n)
 cell-number n (pos a) h = (a, refl, ltb-true a n h)
 cell-number n (negsuc a) h = absurd (false≢true h)
 

@@ -1,16 +1,15 @@
 // Operands whose cells lie without gaps, axis 0 quickest: the copy is then one move of bytes, and no plan is made for it.
 ghost use mathlib.Core.Path.{_≡_};
 ghost use mathlib.Core.Bool.{false};
-ghost use Prim.Native.Nat.{_*_, _<_, _^_};
+ghost use Prim.Native.Nat.{_*_, _/_, _<_, _^_};
 ghost use lib.IntN.{pos};
 ghost use lib.ListN.{length};
 ghost use Rattle.strided.specs.Layout.{total};
 ghost use Rattle.strided.specs.declared.Purpose.the-variants.{PointwiseInto};
 ghost use Rattle.laws.specs.Refusals.Accepted.{Accepted};
-ghost use Rattle.export.specs.Packed.{Gapless, Plain};
-use super::rows::check_cells;
+ghost use Rattle.export.specs.Packed.{Gapless, Room, Plain};
+use super::rows::sizes_wrong;
 use layout::has_zero;
-use strided::Answer;
 
 // Whether a stride is another number.
 fn differs(stride: i64, n: u64) -> bool
@@ -43,7 +42,23 @@ fn gapless<'a>(extents: &'a [u64], strides: &'a [i64]) -> u64
     n
 }
 
-// How many cells a copy has that is refused nothing and whose cells lie without gaps, in buffers of `to` and `from` bytes; else 0.
+// Whether some of so many cells, without gaps from the start on, lie outside a buffer of `len` bytes.
+fn beyond(start: i64, cells: u64, size: u64, len: usize) -> bool
+    requires { ⌜ 0 < size ⌝ }
+    ensures { λ r. ⌜ (r ≡ false → Room start cells (len / size)) ⌝ }
+{
+    if start < 0 {
+        return true;
+    }
+    let room = (len as u64) / size;
+    if room < cells {
+        return true;
+    }
+    room - cells < (start as u64)
+}
+
+// How many cells a copy has that is refused nothing and whose cells lie without gaps, in buffers of `to` and `from` bytes; else 0. The mark
+// need not be asked: where each stride exceeds the reach of those before it, it is no.
 pub fn plain_cells<'a, 'b>(
     extents: &'a [u64],
     sizes: &'a [u64],
@@ -56,7 +71,7 @@ pub fn plain_cells<'a, 'b>(
     requires { ⌜ (to < 2 ^ 63) × (from < 2 ^ 63) ⌝ }
     ensures { λ r. ⌜ (0 < r → Plain (now (extents .entry)) (now (sizes .entry)) (now (strides .entry)) (now (starts .entry)) to from r) ⌝ }
 {
-    if sizes.len() != 2 {
+    if sizes_wrong(sizes) {
         return 0;
     }
     if starts.len() != 2 {
@@ -69,9 +84,11 @@ pub fn plain_cells<'a, 'b>(
     if cells == 0 {
         return 0;
     }
-    let answer = check_cells(extents, sizes, strides, starts, to, from);
-    match answer {
-        Answer::Refused(refusal) => 0,
-        Answer::Served => cells,
+    if beyond(starts[0], cells, sizes[0], to) {
+        return 0;
     }
+    if beyond(starts[1], cells, sizes[1], from) {
+        return 0;
+    }
+    cells
 }

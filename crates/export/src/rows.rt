@@ -17,7 +17,7 @@ use strided::Mark;
 use strided::Refusal;
 
 // Row 16.
-fn sizes_wrong(sizes: &[u64]) -> bool
+pub fn sizes_wrong(sizes: &[u64]) -> bool
     ensures { λ r. ⌜ r ≡ row16 (now (sizes .entry)) .applies ⌝ }
 {
     if sizes.len() != 2 {
