@@ -2,8 +2,11 @@
 
 All columns take turns in one process. A turn warms up by one batch of calls and times a few; the best batch of all turns counts. A batch has as many
 calls as take about a millisecond. All but NumPy are called in batches by the Rust side, NumPy from here: a call costs it some 200 ns more.
-The last columns have the plain loop block by block, over the blocks of the plan that the copy follows (P, destination chosen) and over those of the
-F plan, which are not fitted to the L1 cache: what the fit gains. Every column's result is compared with NumPy's once. A ratio above its goal has a !.
+The last columns have the plain loop block by block: over the blocks of the plan that the copy follows (P, destination chosen), to which the copy is held,
+and over those of the F plan, which are not fitted to the L1 cache: what the fit gains. Every column's result is compared with NumPy's once. A ratio above
+its goal has a !.
+
+With --sizes it times square arrays of 8-byte cells from 4 KB to 256 MB, whole and transposed, and prints their rates.
 """
 
 import argparse
@@ -138,6 +141,13 @@ def blocked(case, purpose, to, source, record):
     return job, (rows, kept), plan
 
 
+def squares():
+    """Two square arrays of 8-byte cells for each size, of 4 KB to 256 MB; no side is a power of two."""
+    for power in range(12, 29, 2):
+        n = round((2**power / 8) ** 0.5)
+        yield filled((n, n), 8), filled((n, n), 8)
+
+
 def columns(case, record):
     """The name of each column, and a function that makes so many calls and answers the seconds."""
     to, kept = operand(case.to)
@@ -190,18 +200,32 @@ def measured(case, record, seconds):
             return best, plan
 
 
+def print_rates(record, seconds):
+    """GB/s for each size: an array's bytes over the time of its copy."""
+    print("## The copy, by size\n\n| bytes | whole, port | whole, NumPy | memcpy | transposed, port | transposed, NumPy |\n|---|---|---|---|---|---|")
+    for to, source in squares():
+        whole, _ = measured(Case("whole", to, source, memcpy=True), record, seconds)
+        turned, _ = measured(Case("transposed", to, source.T), record, seconds)
+        rates = [to.nbytes / time / 1e9 for time in (whole["port"], whole["NumPy"], whole["memcpy"], turned["port"], turned["NumPy"])]
+        print(f"| {to.nbytes} | {' | '.join(f'{rate:.3g}' for rate in rates)} |", flush=True)
+
+
 def main():
     options = argparse.ArgumentParser(description=__doc__, formatter_class=argparse.RawDescriptionHelpFormatter)
     options.add_argument("--seconds", type=float, default=2.0, help="for each layout (2)")
     options.add_argument("--only", default="", help="layouts whose name has this in it")
     options.add_argument("--quick", action="store_true", help="leave out what is above L3")
     options.add_argument("--machine", action="store_true", help="this machine's record in place of the fixed one")
+    options.add_argument("--sizes", action="store_true", help="the rates of arrays of 4 KB to 256 MB in place of the table")
     given = options.parse_args()
     if not hasattr(library(), "gougelily_copy"):
         sys.exit("bench/export: this library has no gougelily_copy")
     record = g.machine() if given.machine else g.FIXED
-    print("| layout | plan blocks | NumPy µs | to NumPy | goal | to memcpy | to the original | to the plain loop | plain loop, F blocks to P blocks |")
-    print("|---|---|---|---|---|---|---|---|---|")
+    if given.sizes:
+        print_rates(record, given.seconds)
+        return
+    print("## The copy\n\n| layout | plan blocks | NumPy µs | to NumPy | goal | to memcpy | to the original | to the plain loop | to it in P blocks | plain loop, F blocks to P blocks |")
+    print("|---|---|---|---|---|---|---|---|---|---|")
     for case in cases(given.quick):
         if given.only not in case.name:
             continue
@@ -212,7 +236,7 @@ def main():
         print(
             f"| {case.name} | {' x '.join(map(str, plan.blocks)) or '-'} | {best['NumPy'] * 1e6:.2f} | {port / best['NumPy']:.2f}"
             f" | {'-' if case.goal is None else f'{case.goal:.2f}'}{over} | {format(port / best['memcpy'], '.2f') if case.memcpy else '-'}"
-            f" | {port / best['original']:.2f} | {port / best['plain']:.2f} | {best['F'] / best['P']:.2f} |",
+            f" | {port / best['original']:.2f} | {port / best['plain']:.2f} | {port / best['P']:.2f} | {best['F'] / best['P']:.2f} |",
             flush=True,
         )
 
