@@ -1,6 +1,6 @@
 """The machine record of document 02, request 13, and its bounds."""
 
-from dataclasses import astuple, dataclass, fields, replace
+from dataclasses import dataclass, fields, replace
 
 
 @dataclass(frozen=True)
@@ -11,7 +11,7 @@ class Machine:
     live: int  # lines that may be live
 
     def numbers(self):
-        return astuple(self)
+        return self.line, self.cache, self.way, self.live
 
 
 NUMBERS = tuple(field.name for field in fields(Machine))

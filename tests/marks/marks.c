@@ -155,8 +155,12 @@ static void draw(uint64_t low, uint64_t around, uint64_t high)
         compare(rank, extents, strides);
 }
 
-int main(void)
+/* The count of each sort of seeded layouts, and the seed, may be given. */
+int main(int argc, char **argv)
 {
+    const uint64_t draws = argc > 1 ? strtoull(argv[1], NULL, 10) : 10000;
+    if (argc > 2)
+        state = strtoull(argv[2], NULL, 10) * 2 + 1;
     for (size_t rank = 0; rank <= 3; rank++) {
         uint64_t extents[3];
         int64_t strides[3];
@@ -164,9 +168,9 @@ int main(void)
     }
     uint64_t small = small_met[0] + small_met[1] + near_met[0] + near_met[1];
     near_met[0] = near_met[1] = 0;
-    for (int i = 0; i < 10000; i++)
+    for (uint64_t i = 0; i < draws; i++)
         draw(3500, LIMIT, 4700);
-    for (int i = 0; i < 10000; i++)
+    for (uint64_t i = 0; i < draws; i++)
         draw(56, 64, 72);
     printf("%" PRIu64 " small layouts, and %" PRIu64 " no, %" PRIu64 " yes from 56 cells on; then up to %d cells %" PRIu64 " no, %" PRIu64 " yes; above %" PRIu64 " no, %" PRIu64 " yes, %" PRIu64 " undecided\n",
            small, near_met[0], near_met[1], LIMIT, at_limit_met[0], at_limit_met[1], above_met[0], above_met[1], above_met[2]);

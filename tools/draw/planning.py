@@ -4,6 +4,7 @@ Ranks, weights, loop order and fusing are here. Block sizes are not: they are ta
 the 64-bit limits of the rules are written out.
 """
 
+from bisect import bisect_left
 from dataclasses import dataclass
 from math import prod
 
@@ -22,7 +23,8 @@ class PlanAxis:
 
 def ranks(strides):
     """1 for a stride of 0, else 1 + the count of nonzero strides of smaller size."""
-    return [1 if s == 0 else 1 + sum(0 < abs(t) < abs(s) for t in strides) for s in strides]
+    sizes = sorted(abs(t) for t in strides if t != 0)
+    return [1 if s == 0 else 1 + bisect_left(sizes, abs(s)) for s in strides]
 
 
 def try_weights(layout, lead, width, cap):

@@ -17,6 +17,8 @@ pub struct Task {
     pub whole: bool,
     /// Single steps of the original's cutting at most.
     pub steps: u64,
+    /// Blocks of a walk at most.
+    pub blocks: usize,
 }
 
 impl Task {

@@ -31,6 +31,7 @@ differential: compares the port with the original on seeded layouts
   --count N    how many layouts of each kind (20000)
   --steps N    most single steps of the original's cutting; a layout that takes
                more is compared with the model (20000)
+  --blocks N   most blocks of a walk that are compared (300)
   --help       this text
 ";
 
@@ -91,6 +92,7 @@ fn run() -> Result<(), String> {
         kinds: Vec::new(),
         whole: false,
         steps: 20_000,
+        blocks: 300,
     };
     let mut subjects: Vec<&Subject> = Vec::new();
     let mut options = Options::of_process()?;
@@ -106,6 +108,7 @@ fn run() -> Result<(), String> {
             "--seed" => task.seed = options.number(&option)?,
             "--count" => task.count = options.number(&option)?,
             "--steps" => task.steps = options.number(&option)?,
+            "--blocks" => task.blocks = options.number(&option)? as usize,
             "--help" => return stdout().write_all(HELP.as_bytes()).map_err(unwritable),
             _ => return Err(unknown(&option)),
         }

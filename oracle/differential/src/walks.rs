@@ -14,8 +14,6 @@ use strided_basic as original;
 use tools::generate::Random;
 use tools::layout::Walk;
 
-/// Most blocks of a walk.
-const BLOCKS: usize = 300;
 /// Walks are made of one layout of so many.
 const LAYOUTS: u64 = 4;
 /// Calls of many steps over the blocks of a walk.
@@ -27,7 +25,7 @@ const TURNS: u64 = 1000;
 const COUNTED: [&str; 49] = [
     "walks",
     "walks to the end",
-    "walks left after 300 blocks",
+    "walks left before their end",
     "walks without a block: zero extent",
     "blocks",
     "many steps: along an axis in a tile",
@@ -277,10 +275,11 @@ fn compare_end(walk: &Walk, plan: &Plan, state: &mut State) -> Result<(), String
     Ok(())
 }
 
-/// Compares a walk from its beginning to its end, or to a number of blocks.
+/// Compares a walk from its beginning to its end, or to so many blocks.
 fn compare_walk(
     walk: &Walk,
     behind: u64,
+    most: usize,
     random: &mut Random,
     met: &mut Counts,
 ) -> Result<(), String> {
@@ -308,13 +307,13 @@ fn compare_walk(
         return compare_end(walk, &plan, &mut state);
     }
     same_state(&state, &state_of(walk, Some(&vec![0; walk.extents.len()])))?;
-    let (blocks, ended) = original_blocks(walk, BLOCKS)?;
+    let (blocks, ended) = original_blocks(walk, most)?;
     let counters = compare_blocks(walk, &plan, &mut state, &blocks)?;
     met.add_many("blocks", blocks.len() as u64);
     same("the model has ended", counters.is_none(), ended)?;
     compare_many(walk, &plan, &blocks, ended, random, met)?;
     if !ended {
-        met.add("walks left after 300 blocks");
+        met.add("walks left before their end");
         return Ok(());
     }
     met.add("walks to the end");
@@ -382,7 +381,7 @@ pub fn compare(task: &Task, report: &mut String) -> Result<(), String> {
             for walk in walks(layout, random, &mut met) {
                 let told = |error| format!("{error}\n{walk}from");
                 let behind = random.pick(&[0, HELD]);
-                compare_walk(&walk, behind, random, &mut met).map_err(told)?;
+                compare_walk(&walk, behind, task.blocks, random, &mut met).map_err(told)?;
                 compare_wrong_starts(&walk, behind, &mut met).map_err(told)?;
                 compare_states(&walk, behind, random, &mut met).map_err(told)?;
                 if walk.refusal().is_none() {
