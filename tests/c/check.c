@@ -1,12 +1,14 @@
 /*
- * The library as a C program meets it, to be run under the sanitizers. Every
- * argument that is a pointer is lent from memory of its own, with guard bytes on
- * one side and a page that cannot be touched on the other. Checked are:
+ * The library as a C program meets it, to be run under the sanitizers or under
+ * valgrind. calls.h lends the memory of each call, and compares the function on
+ * structs with the raw one. Every function of the header is called with numbers
+ * that are good, wrong, at the limits and at random. Checked are:
  * - known layouts and texts, and one call for each refusal; a layout's check is
  *   what planning it for the fixed machine answers; the words of a refusal;
  * - layouts at random: a walk meets every cell once, at the offsets that its
  *   original index tells, and the index maps are inverse; many steps in one call
  *   hand out the blocks of single steps; windows have the offsets of their cells;
+ * - layouts as texts: what is printed is their plan and their walk; and damaged;
  * - lists of visits at random, judged;
  * - descriptions of arrays at random, read and written again;
  * - layouts at random, copied: the destination's cells are the source's, and
@@ -17,127 +19,12 @@
  * - sessions at random: operands join and leave, and after each call the session
  *   is one begun with its present layout, and its plan that of planning; with one
  *   number changed it is refused, unless it is such a session again;
- * - plans and states at random, whatever they hold: a call ends with an answer.
- * After every call its inputs are as they were, after a refusal its outputs too.
+ * - layouts, plans and states at random, whatever they hold: a call ends with an
+ *   answer.
  */
-#define _DEFAULT_SOURCE
-#include <inttypes.h>
-#include <stdio.h>
-#include <stdlib.h>
-#include <string.h>
-#include <sys/mman.h>
-#include <unistd.h>
+#include "calls.h"
 
-#include "gougelily.h"
-
-static unsigned long long round_number;
-
-static void fail(const char *what)
-{
-    fprintf(stderr, "round %llu: %s\n", round_number, what);
-    exit(1);
-}
-
-#define CHECK(fact) ((fact) ? (void)0 : fail(#fact))
-
-/* ------------------------------------------------------------ lent memory */
-
-enum { ROOM = 8192, GUARD = 0xa5, MOST_AREAS = 18 };
-
-static struct area {
-    unsigned char *bytes; /* ROOM bytes between two pages that cannot be touched */
-    unsigned char *array; /* at the first or at the last of them */
-    size_t size;
-    unsigned char held[ROOM]; /* the bytes before the call */
-} areas[MOST_AREAS];
-
-static size_t lent_now;
-static int at_end;
-
-static void make_areas(void)
-{
-    const size_t page = (size_t)sysconf(_SC_PAGESIZE);
-    for (size_t i = 0; i < MOST_AREAS; i++) {
-        unsigned char *all = mmap(NULL, ROOM + 2 * page, PROT_NONE, MAP_PRIVATE | MAP_ANONYMOUS, -1, 0);
-        if (all == MAP_FAILED || mprotect(all + page, ROOM, PROT_READ | PROT_WRITE) != 0)
-            fail("no memory");
-        areas[i].bytes = all + page;
-    }
-}
-
-static void *lend(const void *value, size_t size)
-{
-    struct area *a = &areas[lent_now++];
-    memset(a->bytes, GUARD, ROOM);
-    a->array = at_end ? a->bytes + ROOM - size : a->bytes;
-    a->size = size;
-    if (size > 0)
-        memcpy(a->array, value, size);
-    memcpy(a->held, a->bytes, ROOM);
-    return a->array;
-}
-
-/* After a call whose areas from `output` on may have been written if `served`. Other bytes are as they were. */
-static void settle(size_t output, int served)
-{
-    for (size_t i = 0; i < lent_now; i++) {
-        struct area *a = &areas[i];
-        if (i >= output && served)
-            memcpy(a->held + (a->array - a->bytes), a->array, a->size);
-        CHECK(memcmp(a->bytes, a->held, ROOM) == 0);
-    }
-    lent_now = 0;
-    at_end = !at_end;
-}
-
-#define LEND(name) lend(&(name), sizeof(name))
-#define TAKE(name, from) memcpy(&(name), from, sizeof(name))
-
-/* ------------------------------------------------------------ the calls */
-
-/* Room for counts that are refused, too. */
-struct layout {
-    uint64_t extents[70], sizes[10], purpose, chosen;
-    int64_t strides[700];
-    size_t rank, operands, stride_count;
-};
-
-static gougelily_layout_t view(const struct layout *l)
-{
-    gougelily_layout_t v = {l->extents, l->rank,         l->sizes,   l->operands,
-                            l->strides, l->stride_count, l->purpose, l->chosen};
-    return v;
-}
-
-static const gougelily_machine_t fixed = GOUGELILY_FIXED_MACHINE;
-
-static int64_t plan_on(const struct layout *l, gougelily_machine_t m, gougelily_plan_t *p)
-{
-    const uint64_t *e = lend(l->extents, l->rank * 8), *z = lend(l->sizes, l->operands * 8);
-    const int64_t *s = lend(l->strides, l->stride_count * 8);
-    size_t *rank = LEND(p->rank), *operands = LEND(p->operands);
-    uint64_t *extents = LEND(p->extents), *blocks = LEND(p->blocks);
-    int64_t *strides = LEND(p->strides);
-    int64_t answer = gougelily_plan(e, l->rank, z, l->operands, s, l->stride_count, l->purpose, l->chosen, m.line,
-                                    m.cache, m.way, m.live, rank, operands, extents, blocks, strides);
-    TAKE(p->rank, rank), TAKE(p->operands, operands), TAKE(p->extents, extents), TAKE(p->blocks, blocks);
-    TAKE(p->strides, strides);
-    CHECK(answer <= 0 && (answer >= -7 || answer == -24));
-    settle(3, answer == 0);
-    return answer;
-}
-
-static int64_t check_of(const struct layout *l)
-{
-    const gougelily_layout_t v = view(l);
-    const uint64_t *e = lend(l->extents, l->rank * 8), *z = lend(l->sizes, l->operands * 8);
-    const int64_t *s = lend(l->strides, l->stride_count * 8);
-    int64_t answer = gougelily_check_layout(e, l->rank, z, l->operands, s, l->stride_count, l->purpose, l->chosen);
-    CHECK(answer <= 0 && answer >= -7 && answer == gougelily_check(&v));
-    settle(3, 0);
-    return answer;
-}
-
+/* The plan for the fixed machine, which the check of the layout foretells. */
 static int64_t plan_of(const struct layout *l, gougelily_plan_t *p)
 {
     int64_t answer = plan_on(l, fixed, p);
@@ -145,330 +32,20 @@ static int64_t plan_of(const struct layout *l, gougelily_plan_t *p)
     return answer;
 }
 
-/* The lists of a window, with room for counts that are refused. */
-struct window {
-    uint64_t firsts[70], counts[70];
-    int64_t steps[70];
-    size_t first_count, count_count, step_count;
-};
+/* Calls with strings. */
+static int64_t text_is(const char *text, char *room, size_t size) { return text_of(text, strlen(text), room, size); }
 
-static int64_t window_of(const struct layout *l, const struct window *n, gougelily_windowed_t *made)
+static int64_t judge_is(const uint64_t *extents, size_t rank, const char *text, uint8_t *marks, size_t count)
 {
-    const uint64_t *e = lend(l->extents, l->rank * 8), *z = lend(l->sizes, l->operands * 8);
-    const int64_t *s = lend(l->strides, l->stride_count * 8);
-    const uint64_t *f = lend(n->firsts, n->first_count * 8), *c = lend(n->counts, n->count_count * 8);
-    const int64_t *d = lend(n->steps, n->step_count * 8);
-    uint64_t *extents = LEND(made->extents);
-    int64_t *strides = LEND(made->strides), *shifts = LEND(made->shifts);
-    int64_t answer = gougelily_window(e, l->rank, z, l->operands, s, l->stride_count, f, n->first_count, c,
-                                      n->count_count, d, n->step_count, extents, strides, shifts);
-    TAKE(made->extents, extents), TAKE(made->strides, strides), TAKE(made->shifts, shifts);
-    CHECK(answer == 0 || answer == -15 || (answer <= -1 && answer >= -6 && answer != -4));
-    settle(6, answer == 0);
-    return answer;
+    return judge_of(extents, rank, text, strlen(text), marks, count);
 }
 
-static int64_t index_of(const struct layout *l, int original, const uint64_t *counters, size_t count,
-                        gougelily_index_t *x)
+static int64_t described_is(const char *text, struct described *d) { return described_of(text, strlen(text), d); }
+
+/* The mark of one operand of a layout. */
+static int64_t operand_mark(const struct layout *l, size_t operand)
 {
-    const uint64_t *e = lend(l->extents, l->rank * 8), *z = lend(l->sizes, l->operands * 8);
-    const int64_t *s = lend(l->strides, l->stride_count * 8);
-    const uint64_t *c = lend(counters, count * 8);
-    size_t *number = LEND(x->count);
-    uint64_t *places = LEND(x->places);
-    int64_t answer = (original ? gougelily_original_index : gougelily_plan_index)(
-        e, l->rank, z, l->operands, s, l->stride_count, l->purpose, l->chosen, c, count, number, places);
-    TAKE(x->count, number), TAKE(x->places, places);
-    CHECK(answer <= 0 && (answer >= -7 || answer == -11));
-    settle(4, answer == 0);
-    return answer;
-}
-
-static int64_t begin_of(const gougelily_plan_t *p, const int64_t *starts, size_t count, gougelily_walk_t *w)
-{
-    const uint64_t *e = LEND(p->extents), *b = LEND(p->blocks);
-    const int64_t *s = LEND(p->strides), *z = lend(starts, count * 8);
-    uint64_t *ended = LEND(w->ended), *counters = LEND(w->counters);
-    int64_t *offsets = LEND(w->offsets);
-    int64_t answer = gougelily_begin(p->rank, p->operands, e, b, s, z, count, ended, counters, offsets);
-    TAKE(w->ended, ended), TAKE(w->counters, counters), TAKE(w->offsets, offsets);
-    CHECK(answer <= 0 && answer >= -9 && answer != -3 && answer != -4 && answer != -7);
-    settle(4, answer == 0);
-    return answer;
-}
-
-static int64_t step_of(const gougelily_plan_t *p, gougelily_walk_t *w, gougelily_block_t *k)
-{
-    const uint64_t *e = LEND(p->extents), *b = LEND(p->blocks);
-    const int64_t *s = LEND(p->strides);
-    uint64_t *ended = LEND(w->ended), *counters = LEND(w->counters);
-    int64_t *offsets = LEND(w->offsets);
-    uint64_t *block_counters = LEND(k->counters), *length = LEND(k->length);
-    int64_t *block_offsets = LEND(k->offsets), *block_strides = LEND(k->strides);
-    int64_t answer = gougelily_step(p->rank, p->operands, e, b, s, ended, counters, offsets, block_counters, length,
-                                    block_offsets, block_strides);
-    TAKE(w->ended, ended), TAKE(w->counters, counters), TAKE(w->offsets, offsets);
-    TAKE(k->counters, block_counters), TAKE(k->length, length);
-    TAKE(k->offsets, block_offsets), TAKE(k->strides, block_strides);
-    CHECK(answer == 1 || answer == 0 || answer == -1 || answer == -2 || answer == -10);
-    settle(3, answer == 1);
-    return answer;
-}
-
-static int64_t visit_of(const struct layout *l, const gougelily_plan_t *p, gougelily_walk_t *w, gougelily_visit_t *v)
-{
-    const uint64_t *x = lend(l->extents, l->rank * 8), *z = lend(l->sizes, l->operands * 8);
-    const int64_t *d = lend(l->strides, l->stride_count * 8);
-    const uint64_t *e = LEND(p->extents), *b = LEND(p->blocks);
-    const int64_t *s = LEND(p->strides);
-    uint64_t *ended = LEND(w->ended), *counters = LEND(w->counters);
-    int64_t *offsets = LEND(w->offsets);
-    uint64_t *number = LEND(v->number), *block_counters = LEND(v->block.counters), *length = LEND(v->block.length);
-    int64_t *block_offsets = LEND(v->block.offsets), *block_strides = LEND(v->block.strides);
-    size_t *count = LEND(v->first.count);
-    uint64_t *places = LEND(v->first.places);
-    int64_t answer = gougelily_visit(x, l->rank, z, l->operands, d, l->stride_count, l->purpose, l->chosen, p->rank,
-                                     p->operands, e, b, s, ended, counters, offsets, number, block_counters, length,
-                                     block_offsets, block_strides, count, places);
-    TAKE(w->ended, ended), TAKE(w->counters, counters), TAKE(w->offsets, offsets);
-    TAKE(v->number, number), TAKE(v->block.counters, block_counters), TAKE(v->block.length, length);
-    TAKE(v->block.offsets, block_offsets), TAKE(v->block.strides, block_strides);
-    TAKE(v->first.count, count), TAKE(v->first.places, places);
-    CHECK(answer == 1 || answer == 0 || (answer < 0 && answer >= -6) || answer == -10 || answer == -11);
-    settle(6, answer == 1);
-    return answer;
-}
-
-/* Both views are what the record says, over memory that held anything. */
-static void see(const gougelily_visit_t *v, gougelily_student_t *student)
-{
-    gougelily_block_t block;
-    const size_t count = v->first.count < 64 ? v->first.count : 64;
-    memset(&block, 0x77, sizeof block), memset(student, 0x77, sizeof *student);
-    CHECK(gougelily_engineer_view(v, &block) == 0 && memcmp(&block, &v->block, sizeof block) == 0);
-    CHECK(gougelily_student_view(v, student) == 0 && student->number == v->number && student->length == v->block.length);
-    CHECK(student->first.count == count && memcmp(student->first.places, v->first.places, 8 * count) == 0);
-    for (size_t i = count; i < GOUGELILY_MAX_RANK; i++)
-        CHECK(student->first.places[i] == 0);
-}
-
-/* Room for some blocks, whatever the number of operands. */
-enum { MOST_BLOCKS = 16, MOST_OFFSETS = MOST_BLOCKS * GOUGELILY_MAX_OPERANDS };
-
-struct many {
-    uint64_t lengths[MOST_BLOCKS];
-    int64_t offsets[MOST_OFFSETS];
-};
-
-static int64_t many_of(const gougelily_plan_t *p, gougelily_walk_t *w, struct many *m, size_t lengths, size_t offsets)
-{
-    const uint64_t *e = LEND(p->extents), *b = LEND(p->blocks);
-    const int64_t *s = LEND(p->strides);
-    uint64_t *ended = LEND(w->ended), *counters = LEND(w->counters);
-    int64_t *walk_offsets = LEND(w->offsets);
-    uint64_t *block_lengths = lend(m->lengths, lengths * 8);
-    int64_t *block_offsets = lend(m->offsets, offsets * 8);
-    int64_t answer = gougelily_step_many(p->rank, p->operands, e, b, s, ended, counters, walk_offsets, block_lengths,
-                                         lengths, block_offsets, offsets);
-    TAKE(w->ended, ended), TAKE(w->counters, counters), TAKE(w->offsets, walk_offsets);
-    memcpy(m->lengths, block_lengths, lengths * 8);
-    memcpy(m->offsets, block_offsets, offsets * 8);
-    CHECK(answer == -1 || answer == -2 || answer == -10 || (answer >= 0 && (uint64_t)answer <= lengths));
-    settle(3, answer > 0);
-    return answer;
-}
-
-static int64_t mark_of(const struct layout *l, size_t operand)
-{
-    const uint64_t *e = lend(l->extents, l->rank * 8);
-    const int64_t *s = lend(l->strides + operand * l->rank, l->rank * 8);
-    int64_t answer = gougelily_repeat_mark(e, l->rank, s, l->rank);
-    CHECK(answer == -1 || answer == -5 || answer == -6 || (answer >= 0 && answer <= GOUGELILY_MARK_UNDECIDED));
-    settle(2, 0);
-    return answer;
-}
-
-static int64_t text_of(const char *text, char *room, size_t size)
-{
-    const size_t length = strlen(text);
-    const uint8_t *t = lend(text, length);
-    uint8_t *r = lend(room, size);
-    int64_t answer = gougelily_walklist(t, length, r, size);
-    if (size > 0)
-        memcpy(room, r, size);
-    CHECK(answer <= (int64_t)size && answer >= -14 && answer != -3 && (answer >= -7 || answer <= -12));
-    settle(1, answer >= 0);
-    return answer;
-}
-
-static int64_t judge_of(const uint64_t *extents, size_t rank, const char *text, uint8_t *marks, size_t count)
-{
-    const size_t length = strlen(text);
-    const uint64_t *e = lend(extents, rank * 8);
-    const uint8_t *t = lend(text, length);
-    uint8_t *m = lend(marks, count);
-    int64_t answer = gougelily_judge(e, rank, t, length, m, count);
-    if (count > 0)
-        memcpy(marks, m, count);
-    CHECK(answer <= GOUGELILY_OUTSIDE && (answer >= -1 || answer == -5 || answer == -13 || answer == -23));
-    settle(2, answer >= 0);
-    return answer;
-}
-
-/* What a description says: the memory handed out is `d`'s. */
-struct described {
-    uint64_t size[1], extents[64];
-    int64_t strides[64];
-    size_t rank[1];
-};
-
-static int64_t described_of(const char *text, struct described *d)
-{
-    const size_t length = strlen(text);
-    const uint8_t *t = lend(text, length);
-    uint64_t *size = lend(d->size, sizeof d->size), *extents = lend(d->extents, sizeof d->extents);
-    int64_t *strides = lend(d->strides, sizeof d->strides);
-    size_t *rank = lend(d->rank, sizeof d->rank);
-    const int64_t answer = gougelily_from_numpy(t, length, size, rank, extents, strides);
-    memcpy(d->size, size, sizeof d->size), memcpy(d->rank, rank, sizeof d->rank);
-    memcpy(d->extents, extents, sizeof d->extents), memcpy(d->strides, strides, sizeof d->strides);
-    CHECK(answer == 0 || answer == -1 || answer == -12 || answer == -19);
-    settle(1, answer >= 0);
-    return answer;
-}
-
-static int64_t description_of(uint64_t size, const uint64_t *extents, size_t rank, const int64_t *strides, size_t count,
-                              char *room, size_t length)
-{
-    const uint64_t *e = lend(extents, rank * 8);
-    const int64_t *s = lend(strides, count * 8);
-    uint8_t *r = lend(room, length);
-    const int64_t answer = gougelily_to_numpy(size, e, rank, s, count, r, length);
-    if (length > 0)
-        memcpy(room, r, length);
-    CHECK(answer <= (int64_t)length && (answer >= -1 || answer == -3 || answer == -14 || answer == -19));
-    settle(2, answer >= 0);
-    return answer;
-}
-
-static int64_t copy_of(const struct layout *l, gougelily_machine_t m, const int64_t *starts, size_t count, uint8_t *to,
-                       size_t to_len, const uint8_t *from, size_t from_len)
-{
-    const uint64_t *e = lend(l->extents, l->rank * 8), *z = lend(l->sizes, l->operands * 8);
-    const int64_t *s = lend(l->strides, l->stride_count * 8), *o = lend(starts, count * 8);
-    const uint8_t *f = lend(from, from_len);
-    uint8_t *t = lend(to, to_len);
-    int64_t answer = gougelily_copy(e, l->rank, z, l->operands, s, l->stride_count, m.line, m.cache, m.way, m.live, o,
-                                    count, t, to_len, f, from_len);
-    if (to_len > 0)
-        memcpy(to, t, to_len);
-    CHECK(answer == 0 || answer == -24 || (answer <= -16 && answer >= -18) ||
-          (answer < 0 && answer >= -9 && answer != -4 && answer != -7));
-    settle(5, answer == 0);
-    return answer;
-}
-
-static int64_t summary_of(const struct layout *l, gougelily_machine_t m, int64_t start, const double *cells, size_t count,
-                          gougelily_summary_t *y)
-{
-    const uint64_t *e = lend(l->extents, l->rank * 8);
-    const int64_t *s = lend(l->strides, l->stride_count * 8);
-    const double *c = lend(cells, count * 8);
-    double *sum = LEND(y->sum), *least = LEND(y->least), *greatest = LEND(y->greatest);
-    uint64_t *n = LEND(y->count), *nans = LEND(y->nans), *extremes = LEND(y->extremes);
-    int64_t answer = gougelily_summary(e, l->rank, s, l->stride_count, m.line, m.cache, m.way, m.live, start, c, count,
-                                       sum, least, greatest, n, nans, extremes);
-    TAKE(y->sum, sum), TAKE(y->least, least), TAKE(y->greatest, greatest);
-    TAKE(y->count, n), TAKE(y->nans, nans), TAKE(y->extremes, extremes);
-    CHECK(answer == 0 || answer == -1 || answer == -3 || answer == -24 || answer == -5 || answer == -6 || answer == -9 ||
-          answer == -22);
-    settle(3, answer == 0);
-    return answer;
-}
-
-/* A session but for its extents, each part lent by itself. */
-struct lent_session {
-    uint64_t *purpose, *chosen, *machine, *sizes, *ranks, *weights, *costs, *plan_extents, *blocks;
-    size_t *rank, *operands, *plan_counts;
-    int64_t *strides, *plan_strides;
-};
-
-static struct lent_session lend_session(const gougelily_session_t *s)
-{
-    const size_t counts[2] = {s->plan.rank, s->plan.operands};
-    struct lent_session at;
-    at.purpose = LEND(s->purpose), at.chosen = LEND(s->chosen), at.machine = LEND(s->machine);
-    at.rank = LEND(s->rank), at.operands = LEND(s->operands), at.sizes = LEND(s->sizes), at.strides = LEND(s->strides);
-    at.ranks = LEND(s->ranks), at.weights = LEND(s->weights), at.costs = LEND(s->costs);
-    at.plan_counts = LEND(counts), at.plan_extents = LEND(s->plan.extents), at.blocks = LEND(s->plan.blocks);
-    at.plan_strides = LEND(s->plan.strides);
-    return at;
-}
-
-static void take_session(gougelily_session_t *s, const struct lent_session *at)
-{
-    TAKE(s->purpose, at->purpose), TAKE(s->chosen, at->chosen), TAKE(s->machine, at->machine);
-    TAKE(s->rank, at->rank), TAKE(s->operands, at->operands), TAKE(s->sizes, at->sizes), TAKE(s->strides, at->strides);
-    TAKE(s->ranks, at->ranks), TAKE(s->weights, at->weights), TAKE(s->costs, at->costs);
-    TAKE(s->plan.rank, at->plan_counts), TAKE(s->plan.operands, at->plan_counts + 1);
-    TAKE(s->plan.extents, at->plan_extents), TAKE(s->plan.blocks, at->blocks), TAKE(s->plan.strides, at->plan_strides);
-}
-
-/* The function on the struct did the same. */
-static void same_session(int64_t answer, const gougelily_session_t *s, int64_t struct_answer,
-                         const gougelily_session_t *by_struct)
-{
-    CHECK(answer == struct_answer && memcmp(s, by_struct, sizeof *s) == 0);
-}
-
-static int64_t session_of(const struct layout *l, gougelily_machine_t m, gougelily_session_t *s)
-{
-    const gougelily_layout_t v = view(l);
-    gougelily_session_t by_struct = *s;
-    const int64_t struct_answer = gougelily_session_begin(&v, &m, &by_struct);
-    const uint64_t *e = lend(l->extents, l->rank * 8), *z = lend(l->sizes, l->operands * 8);
-    const int64_t *t = lend(l->strides, l->stride_count * 8);
-    uint64_t *extents = LEND(s->extents);
-    const struct lent_session at = lend_session(s);
-    const int64_t answer = gougelily_begin_session(
-        e, l->rank, z, l->operands, t, l->stride_count, l->purpose, l->chosen, m.line, m.cache, m.way, m.live, at.purpose,
-        at.chosen, at.machine, at.rank, at.operands, extents, at.sizes, at.strides, at.ranks, at.weights, at.costs,
-        at.plan_counts, at.plan_extents, at.blocks, at.plan_strides);
-    take_session(s, &at), TAKE(s->extents, extents);
-    settle(3, answer == 0);
-    same_session(answer, s, struct_answer, &by_struct);
-    return answer;
-}
-
-static int64_t join_of(gougelily_session_t *s, uint64_t size, const int64_t *strides, size_t count)
-{
-    gougelily_session_t by_struct = *s;
-    const int64_t struct_answer = gougelily_session_join(&by_struct, size, strides, count);
-    const uint64_t *extents = LEND(s->extents);
-    const int64_t *t = lend(strides, count * 8);
-    const struct lent_session at = lend_session(s);
-    const int64_t answer =
-        gougelily_join_session(at.purpose, at.chosen, at.machine, at.rank, at.operands, extents, at.sizes, at.strides, at.ranks,
-                               at.weights, at.costs, at.plan_counts, at.plan_extents, at.blocks, at.plan_strides, size, t, count);
-    take_session(s, &at);
-    settle(2, answer == 0);
-    same_session(answer, s, struct_answer, &by_struct);
-    return answer;
-}
-
-static int64_t leave_of(gougelily_session_t *s, uint64_t operand)
-{
-    gougelily_session_t by_struct = *s;
-    const int64_t struct_answer = gougelily_session_leave(&by_struct, operand);
-    const uint64_t *extents = LEND(s->extents);
-    const struct lent_session at = lend_session(s);
-    const int64_t answer =
-        gougelily_leave_session(at.purpose, at.chosen, at.machine, at.rank, at.operands, extents, at.sizes, at.strides, at.ranks,
-                                at.weights, at.costs, at.plan_counts, at.plan_extents, at.blocks, at.plan_strides, operand);
-    take_session(s, &at);
-    settle(1, answer == 0);
-    same_session(answer, s, struct_answer, &by_struct);
-    return answer;
+    return mark_of(l->extents, l->rank, l->strides + operand * l->rank, l->rank);
 }
 
 /* ------------------------------------------------------------ known answers */
@@ -553,7 +130,7 @@ static void known_refusals(void)
     gougelily_index_t x = {0};
     struct layout l = one(5, 1, 8);
     l.rank = 65;
-    CHECK(plan_of(&l, &p) == -GOUGELILY_RANK && mark_of(&l, 0) == -GOUGELILY_RANK);
+    CHECK(plan_of(&l, &p) == -GOUGELILY_RANK && operand_mark(&l, 0) == -GOUGELILY_RANK);
     l.rank = 1, l.operands = 9;
     CHECK(plan_of(&l, &p) == -GOUGELILY_OPERANDS);
     l.operands = 1, l.stride_count = 2;
@@ -614,25 +191,25 @@ static void known_texts(void)
     const size_t length = sizeof output - 1;
     char room[100];
     memset(room, '#', sizeof room);
-    CHECK(text_of(text, room, sizeof room) == (int64_t)length && memcmp(room, output, length) == 0);
+    CHECK(text_is(text, room, sizeof room) == (int64_t)length && memcmp(room, output, length) == 0);
     for (size_t i = length; i < sizeof room; i++)
         CHECK(room[i] == '#');
     /* Every length of the room, from none to past the output. */
     for (size_t size = 0; size <= length + 16; size++) {
         const size_t kept = size < length ? 0 : length;
         memset(room, '#', sizeof room);
-        CHECK(text_of(text, room, size) == (size < length ? -GOUGELILY_ROOM : (int64_t)length));
+        CHECK(text_is(text, room, size) == (size < length ? -GOUGELILY_ROOM : (int64_t)length));
         for (size_t i = kept; i < size; i++)
             CHECK(room[i] == '#');
     }
     CHECK(gougelily_walklist((const uint8_t *)text, sizeof text - 1, NULL, 0) == -GOUGELILY_ROOM);
     CHECK(gougelily_walklist(NULL, 0, NULL, 0) == -GOUGELILY_FORM);
-    CHECK(text_of("L,P,0,0,-\nE\n", room, sizeof room) == -GOUGELILY_OPERANDS);
-    CHECK(text_of("L,F,0,1,1\nE\nO,8\n", room, sizeof room) == -GOUGELILY_CHOSEN);
-    CHECK(text_of("L,P,1,1,-\nE,1048577\nO,8,1\n", room, sizeof room) == -GOUGELILY_TEXT_TOTAL);
-    CHECK(text_of("L,P,1,1,-\nE,1048576\nO,8,1\n", room, sizeof room) > 0);
-    CHECK(text_of("L,P,1,1,-\nE,1048577\nO,8,9223372036854775807\n", room, sizeof room) == -GOUGELILY_REACH);
-    CHECK(text_of("L,P,1,1,-\nE,02\nO,8,1\n", room, sizeof room) == -GOUGELILY_FORM);
+    CHECK(text_is("L,P,0,0,-\nE\n", room, sizeof room) == -GOUGELILY_OPERANDS);
+    CHECK(text_is("L,F,0,1,1\nE\nO,8\n", room, sizeof room) == -GOUGELILY_CHOSEN);
+    CHECK(text_is("L,P,1,1,-\nE,1048577\nO,8,1\n", room, sizeof room) == -GOUGELILY_TEXT_TOTAL);
+    CHECK(text_is("L,P,1,1,-\nE,1048576\nO,8,1\n", room, sizeof room) > 0);
+    CHECK(text_is("L,P,1,1,-\nE,1048577\nO,8,9223372036854775807\n", room, sizeof room) == -GOUGELILY_REACH);
+    CHECK(text_is("L,P,1,1,-\nE,02\nO,8,1\n", room, sizeof room) == -GOUGELILY_FORM);
 }
 
 #define MARKED(list) (memcmp(marks, list, 7) == 0)
@@ -642,25 +219,25 @@ static void known_judging(void)
     static const uint64_t extents[65] = {3, 2}, none[2] = {3, 0}, many[1] = {65537}, far[2] = {UINT64_MAX, 2};
     uint8_t marks[7];
     memset(marks, 7, sizeof marks);
-    CHECK(judge_of(extents, 2, "V,0,3,0,1\nV,0,3,0,0\n", marks, 6) == GOUGELILY_ACCEPTED && MARKED("\1\1\1\1\1\1\7"));
-    CHECK(judge_of(extents, 2, "V,1,2,1,0\n", marks, 6) == GOUGELILY_SHORT && MARKED("\0\1\0\0\1\0\7"));
-    CHECK(judge_of(extents, 2, "V,0,3,0,0\nV,1,2,1,0\n", marks, 6) == GOUGELILY_DOUBLE && MARKED("\1\1\1\0\1\0\7"));
-    CHECK(judge_of(extents, 2, "V,0,3,0,0\nV,0,2,2,1\n", marks, 6) == GOUGELILY_OUTSIDE && MARKED("\0\0\0\0\0\0\7"));
-    CHECK(judge_of(extents, 2, "V,0,18446744073709551615,1,0\n", marks, 6) == GOUGELILY_OUTSIDE);
-    CHECK(judge_of(extents, 2, "", marks, 6) == GOUGELILY_SHORT);
-    CHECK(judge_of(none, 2, "", marks, 0) == GOUGELILY_ACCEPTED);
-    CHECK(judge_of(none, 2, "V,0,1,0,0\n", marks, 0) == GOUGELILY_OUTSIDE);
+    CHECK(judge_is(extents, 2, "V,0,3,0,1\nV,0,3,0,0\n", marks, 6) == GOUGELILY_ACCEPTED && MARKED("\1\1\1\1\1\1\7"));
+    CHECK(judge_is(extents, 2, "V,1,2,1,0\n", marks, 6) == GOUGELILY_SHORT && MARKED("\0\1\0\0\1\0\7"));
+    CHECK(judge_is(extents, 2, "V,0,3,0,0\nV,1,2,1,0\n", marks, 6) == GOUGELILY_DOUBLE && MARKED("\1\1\1\0\1\0\7"));
+    CHECK(judge_is(extents, 2, "V,0,3,0,0\nV,0,2,2,1\n", marks, 6) == GOUGELILY_OUTSIDE && MARKED("\0\0\0\0\0\0\7"));
+    CHECK(judge_is(extents, 2, "V,0,18446744073709551615,1,0\n", marks, 6) == GOUGELILY_OUTSIDE);
+    CHECK(judge_is(extents, 2, "", marks, 6) == GOUGELILY_SHORT);
+    CHECK(judge_is(none, 2, "", marks, 0) == GOUGELILY_ACCEPTED);
+    CHECK(judge_is(none, 2, "V,0,1,0,0\n", marks, 0) == GOUGELILY_OUTSIDE);
     memset(marks, 7, sizeof marks);
     for (size_t count = 0; count <= 7; count++)
-        CHECK(count == 6 || judge_of(extents, 2, "", marks, count) == -GOUGELILY_VISITS);
-    CHECK(judge_of(extents, 2, "V,0,0,0,0\n", marks, 6) == -GOUGELILY_VISITS);
-    CHECK(judge_of(extents, 2, "V,2,1,0,0\n", marks, 6) == -GOUGELILY_VISITS);
-    CHECK(judge_of(extents, 2, "V,0,3,0,0\nV,0,3,0,1", marks, 6) == -GOUGELILY_VISITS);
-    CHECK(judge_of(extents, 2, "V,0,18446744073709551616,0,0\n", marks, 6) == -GOUGELILY_VISITS);
-    CHECK(judge_of(extents, 0, "", marks, 1) == -GOUGELILY_VISITS);
-    CHECK(judge_of(many, 1, "", marks, 1) == -GOUGELILY_TEXT_TOTAL);
-    CHECK(judge_of(far, 2, "", marks, 1) == -GOUGELILY_TOTAL);
-    CHECK(judge_of(extents, 65, "", marks, 1) == -GOUGELILY_RANK);
+        CHECK(count == 6 || judge_is(extents, 2, "", marks, count) == -GOUGELILY_VISITS);
+    CHECK(judge_is(extents, 2, "V,0,0,0,0\n", marks, 6) == -GOUGELILY_VISITS);
+    CHECK(judge_is(extents, 2, "V,2,1,0,0\n", marks, 6) == -GOUGELILY_VISITS);
+    CHECK(judge_is(extents, 2, "V,0,3,0,0\nV,0,3,0,1", marks, 6) == -GOUGELILY_VISITS);
+    CHECK(judge_is(extents, 2, "V,0,18446744073709551616,0,0\n", marks, 6) == -GOUGELILY_VISITS);
+    CHECK(judge_is(extents, 0, "", marks, 1) == -GOUGELILY_VISITS);
+    CHECK(judge_is(many, 1, "", marks, 1) == -GOUGELILY_TEXT_TOTAL);
+    CHECK(judge_is(far, 2, "", marks, 1) == -GOUGELILY_TOTAL);
+    CHECK(judge_is(extents, 65, "", marks, 1) == -GOUGELILY_RANK);
     CHECK(MARKED("\7\7\7\7\7\7\7"));
     CHECK(gougelily_judge(none, 2, NULL, 0, NULL, 0) == GOUGELILY_ACCEPTED);
     CHECK(gougelily_judge(NULL, 0, NULL, 0, NULL, 0) == -GOUGELILY_VISITS);
@@ -672,19 +249,19 @@ static void known_descriptions(void)
     struct described d, same;
     char room[27] = "..........................";
     memset(&d, 7, sizeof d), memset(&same, 7, sizeof same);
-    CHECK(described_of("N,8,1\nS,3", &d) == -GOUGELILY_FORM);
-    CHECK(described_of("N,8,1\nS,3\nT,8\n\n", &d) == -GOUGELILY_FORM);
-    CHECK(described_of("N,8,1\nS,18446744073709551616\n", &d) == -GOUGELILY_FORM);
-    CHECK(described_of("N,0,0\nS\n", &d) == -GOUGELILY_BYTE_STRIDES);
-    CHECK(described_of("N,8,1\nS,3\nT,12\n", &d) == -GOUGELILY_BYTE_STRIDES);
-    CHECK(described_of("N,1,2\nS,1,9223372036854775808\n", &d) == -GOUGELILY_BYTE_STRIDES);
+    CHECK(described_is("N,8,1\nS,3", &d) == -GOUGELILY_FORM);
+    CHECK(described_is("N,8,1\nS,3\nT,8\n\n", &d) == -GOUGELILY_FORM);
+    CHECK(described_is("N,8,1\nS,18446744073709551616\n", &d) == -GOUGELILY_FORM);
+    CHECK(described_is("N,0,0\nS\n", &d) == -GOUGELILY_BYTE_STRIDES);
+    CHECK(described_is("N,8,1\nS,3\nT,12\n", &d) == -GOUGELILY_BYTE_STRIDES);
+    CHECK(described_is("N,1,2\nS,1,9223372036854775808\n", &d) == -GOUGELILY_BYTE_STRIDES);
     CHECK(memcmp(&d, &same, sizeof d) == 0);
-    CHECK(described_of(text, &d) == 0 && d.size[0] == 8 && d.rank[0] == 2);
+    CHECK(described_is(text, &d) == 0 && d.size[0] == 8 && d.rank[0] == 2);
     CHECK(d.extents[0] == 4 && d.extents[1] == 3 && d.strides[0] == 1 && d.strides[1] == -4);
     for (int i = 2; i < 64; i++)
         CHECK(d.extents[i] == 0 && d.strides[i] == 0);
-    CHECK(described_of("N,8,2\nS,3,4\n", &d) == 0 && d.strides[0] == 1 && d.strides[1] == 4);
-    CHECK(described_of("N,16,0\nS\nT\n", &d) == 0 && d.rank[0] == 0 && d.extents[0] == 0);
+    CHECK(described_is("N,8,2\nS,3,4\n", &d) == 0 && d.strides[0] == 1 && d.strides[1] == 4);
+    CHECK(described_is("N,16,0\nS\nT\n", &d) == 0 && d.rank[0] == 0 && d.extents[0] == 0);
     const uint64_t extents[65] = {4, 3};
     const int64_t strides[2] = {1, -4}, far[1] = {INT64_MIN};
     for (size_t length = 0; length < sizeof text - 1; length++)
@@ -907,12 +484,16 @@ static struct layout tame(void)
     l.rank = below(5);
     if (below(8) == 0) /* from rank 9 on the walk has a rule of its own */
         l.rank = 5 + below(7), most = 3;
-    l.operands = 1 + below(3);
+    if (below(16) == 0) /* up to the most, nearly all of extent 1 */
+        l.rank = 12 + below(53), most = 1;
+    l.operands = below(8) == 0 ? 1 + below(8) : 1 + below(3);
     l.purpose = below(3);
     l.chosen = below(l.operands);
     l.stride_count = l.rank * l.operands;
     for (size_t i = 0; i < l.rank; i++)
-        l.extents[i] = below(20) == 0 ? 0 : 1 + below(most);
+        l.extents[i] = below(20 + l.rank) == 0 ? 0 : 1 + below(most);
+    for (size_t i = 0; l.rank > 11 && i < 6; i++)
+        l.extents[below(l.rank)] += below(3);
     for (size_t k = 0; k < l.operands; k++) {
         int64_t *row = l.strides + k * l.rank, next = 1;
         size_t turn = below(4);
@@ -970,7 +551,7 @@ static int machine_allowed(gougelily_machine_t m)
            m.way % m.line == 0 && m.way >= m.line && m.way <= m.cache && m.live >= 1 && m.live <= 16;
 }
 
-static uint64_t cells_met, blocks_met, windows_met, lists_judged, descriptions_met, copies_made, cells_summed, sessions_met, refusals_met,
+static uint64_t cells_met, blocks_met, windows_met, texts_met, lists_judged, descriptions_met, copies_made, cells_summed, sessions_met, refusals_met,
     records_refused;
 
 /* "array places behind the counts are 0" */
@@ -1044,7 +625,7 @@ static void walk_layout(const struct layout *l)
     gougelily_plan_t p = {0}, again = {0};
     gougelily_walk_t w = {0};
     gougelily_block_t b = {0};
-    const int64_t starts[3] = {7, -1000, INT64_C(1) << 40};
+    const int64_t starts[8] = {7, -1000, INT64_C(1) << 40, 0, 1, -1, -(INT64_C(1) << 40), 5};
     uint64_t total = 1, cells = 0;
     for (size_t i = 0; i < l->rank; i++)
         total *= l->extents[i];
@@ -1163,12 +744,114 @@ static void any_visits(void)
         at += sprintf(at, "V,%d,%d,%d,%d\n", (int)below(2), 1 + (int)below(2), (int)below(2), (int)below(2));
     if (below(4) == 0 && at > text)
         text[below((uint64_t)(at - text))] = "V,0123\n"[below(7)];
-    const int64_t answer = judge_of(extents, 2, text, marks, 4);
+    const int64_t answer = judge_is(extents, 2, text, marks, 4);
     for (int i = 0; i < 4; i++)
         CHECK(answer < 0 ? marks[i] == 9 : marks[i] <= (answer != GOUGELILY_OUTSIDE));
     CHECK(answer != GOUGELILY_ACCEPTED || memcmp(marks, "\1\1\1\1", 4) == 0);
     refusals_met += answer < 0;
     lists_judged++;
+}
+
+/* The product of the extents, at most 2^64 - 1. */
+static uint64_t total_of(const uint64_t *extents, size_t rank)
+{
+    uint64_t total = 1;
+    for (size_t i = 0; i < rank; i++)
+        total = extents[i] && total > UINT64_MAX / extents[i] ? UINT64_MAX : total * extents[i];
+    return total;
+}
+
+/* Any extents, and lines of any numbers. */
+static void garbage_visits(void)
+{
+    static uint8_t marks[ROOM];
+    char text[400] = "", *at = text;
+    uint64_t extents[66];
+    const size_t rank = below(8) ? 1 + below(3) : below(66);
+    make_wild(extents, rank);
+    for (size_t i = 0; i < rank && below(4); i++)
+        extents[i] = 1 + extents[i] % 40;
+    for (uint64_t lines = below(4); lines > 0 && rank < 4; lines--) {
+        at += sprintf(at, "V,%d,%" PRIu64, (int)below(rank + 1), wild());
+        for (size_t i = 0; i < rank; i++)
+            at += sprintf(at, ",%" PRIu64, below(2) ? wild() : below(40));
+        at += sprintf(at, "\n");
+    }
+    const uint64_t total = total_of(extents, rank);
+    memset(marks, 9, sizeof marks);
+    const size_t room = total <= ROOM && below(8) ? (size_t)total : below(100);
+    const int64_t answer = judge_is(extents, rank, text, marks, room);
+    if (rank <= 64 && rank > 0 && room == total)
+        CHECK(answer >= 0 || answer == -GOUGELILY_VISITS);
+    refusals_met += answer < 0;
+    lists_judged++;
+}
+
+/* The text that the numbers of a layout make; its length. */
+static size_t write_text(const struct layout *l, char *text)
+{
+    char *at = text;
+    at += sprintf(at, "L,%c,%zu,%zu,", l->purpose > 1 ? 'F' : 'P', l->rank, l->operands);
+    at += l->purpose == 0 ? sprintf(at, "-\nE") : sprintf(at, "%" PRIu64 "\nE", l->chosen);
+    for (size_t i = 0; i < l->rank; i++)
+        at += sprintf(at, ",%" PRIu64, l->extents[i]);
+    for (size_t k = 0; k < l->operands; k++) {
+        at += sprintf(at, "\nO,%" PRIu64, l->sizes[k]);
+        for (size_t i = 0; i < l->rank; i++)
+            at += sprintf(at, ",%" PRId64, l->strides[k * l->rank + i]);
+    }
+    at += sprintf(at, "\n");
+    return (size_t)(at - text);
+}
+
+/* The lines of a layout that is planned: of its plan, and of the blocks of its walk. What is longer than the room is cut. */
+static size_t write_lines(const struct layout *l, char *lines)
+{
+    const int64_t starts[GOUGELILY_MAX_OPERANDS] = {0};
+    const gougelily_layout_t v = view(l);
+    gougelily_plan_t p;
+    gougelily_walk_t w;
+    gougelily_block_t b;
+    char *at = lines;
+    uint64_t blocks = 0, cells = 0;
+    CHECK(gougelily_plan_layout(&v, &fixed, &p) == 0 && gougelily_begin_walk(&p, starts, p.operands, &w) == 0);
+    at += sprintf(at, "K,%zu\n", p.rank);
+    for (size_t i = 0; i < p.rank; i++) {
+        at += sprintf(at, "A,%zu,%" PRIu64 ",%" PRIu64, i, p.extents[i], p.blocks[i]);
+        for (size_t k = 0; k < p.operands; k++)
+            at += sprintf(at, ",%" PRId64, p.strides[64 * k + i]);
+        at += sprintf(at, "\n");
+    }
+    for (; at - lines <= ROOM && gougelily_step_walk(&p, &w, &b) == 1; blocks++, cells += b.length) {
+        at += sprintf(at, "B,%" PRIu64 ",%" PRIu64, blocks, b.length);
+        for (size_t k = 0; k < p.operands; k++)
+            at += sprintf(at, ",%" PRId64, b.offsets[k]);
+        at += sprintf(at, "\n");
+    }
+    at += sprintf(at, "Z,%" PRIu64 ",%" PRIu64 "\n", blocks, cells);
+    return (size_t)(at - lines);
+}
+
+/* A layout as text: the lines of its plan and its walk. Then with a byte changed. */
+static void any_text(struct layout l)
+{
+    static char text[ROOM], room[ROOM], lines[2 * ROOM];
+    l.stride_count = l.rank * l.operands;
+    size_t length = write_text(&l, text);
+    const int64_t checked = check_of(&l), answer = text_of(text, length, room, ROOM);
+    if (length > 16384)
+        CHECK(answer == -GOUGELILY_FORM);
+    else if (checked < 0)
+        CHECK(answer == checked);
+    else if (total_of(l.extents, l.rank) > 1048576)
+        CHECK(answer == -GOUGELILY_TEXT_TOTAL);
+    else {
+        const size_t due = write_lines(&l, lines);
+        CHECK(due > ROOM ? answer == -GOUGELILY_ROOM : answer == (int64_t)due && memcmp(room, lines, due) == 0);
+    }
+    texts_met++;
+    text[below(length)] = "LEOPF,-0189\n"[below(12)];
+    refusals_met += (answer < 0) + (text_of(text, length - below(8) / 7, room, below(2) ? ROOM : below(300)) < 0);
 }
 
 /* Any numbers as a description, and what it says read again; then with a byte changed. */
@@ -1191,10 +874,10 @@ static void any_description(void)
     if (answer < 0)
         return;
     room[answer] = '\0';
-    CHECK(described_of(room, &d) == 0 && d.size[0] == size && d.rank[0] == rank);
+    CHECK(described_is(room, &d) == 0 && d.size[0] == size && d.rank[0] == rank);
     CHECK(memcmp(d.extents, extents, rank * 8) == 0 && memcmp(d.strides, strides, rank * 8) == 0);
     room[below((uint64_t)answer)] = "NST,-0189\n"[below(10)];
-    refusals_met += described_of(room, &again) < 0;
+    refusals_met += described_is(room, &again) < 0;
     descriptions_met++;
 }
 
@@ -1210,7 +893,8 @@ static int next_index(const struct layout *l, uint64_t *x)
 /* Operands 0 and 1 of a layout, copied between buffers that are as long as their cells ask, or a little shorter or longer. */
 static void copy_layout(struct layout l)
 {
-    static uint8_t to[ROOM], due[ROOM], from[ROOM];
+    enum { MOST_BYTES = 8192 };
+    static uint8_t to[MOST_BYTES], due[MOST_BYTES], from[MOST_BYTES];
     int64_t starts[2], length[2];
     int zero = 0;
     if (l.operands < 2)
@@ -1226,10 +910,10 @@ static void copy_layout(struct layout l)
         }
         starts[k] = -low + (int64_t)below(2);
         length[k] = (starts[k] + high + 1) * (int64_t)l.sizes[k] + (below(4) == 0 ? (int64_t)below(5) - 2 : 0);
-        if (length[k] < 0 || length[k] > ROOM)
+        if (length[k] < 0 || length[k] > MOST_BYTES)
             return;
     }
-    for (size_t i = 0; i < ROOM; i++)
+    for (size_t i = 0; i < MOST_BYTES; i++)
         to[i] = due[i] = (uint8_t)random64(), from[i] = (uint8_t)random64();
     const gougelily_machine_t m = below(4) == 0 ? any_machine() : fixed;
     const int64_t answer = copy_of(&l, m, starts, 2, to, (size_t)length[0], from, (size_t)length[1]);
@@ -1246,7 +930,7 @@ static void copy_layout(struct layout l)
             if (answer == 0 && !outside)
                 memcpy(due + at[0] * (int64_t)l.sizes[0], from + at[1] * (int64_t)l.sizes[1], l.sizes[0]);
         } while (next_index(&l, x));
-    CHECK(memcmp(to, due, ROOM) == 0);
+    CHECK(memcmp(to, due, MOST_BYTES) == 0);
     if (!machine_allowed(m))
         CHECK(answer == -GOUGELILY_RECORD);
     else if (zero)
@@ -1254,7 +938,7 @@ static void copy_layout(struct layout l)
     else if (outside)
         CHECK(answer == -GOUGELILY_BUFFER);
     else
-        CHECK(answer == (mark_of(&l, 0) == GOUGELILY_MARK_NO ? 0 : -GOUGELILY_REPEATS));
+        CHECK(answer == (operand_mark(&l, 0) == GOUGELILY_MARK_NO ? 0 : -GOUGELILY_REPEATS));
     copies_made += answer == 0;
     refusals_met += answer < 0;
 }
@@ -1326,6 +1010,20 @@ static void any_summary(const struct layout *from)
     cells_summed += due.count;
 }
 
+/* Any numbers. A sum of very many visits takes its time: that call is one that is refused. */
+static void garbage_summary(const struct layout *l)
+{
+    double cells[64];
+    gougelily_summary_t y = {9, 9, 9, 9, 9, 9};
+    for (size_t i = 0; i < 64; i++)
+        cells[i] = (double)i;
+    const int64_t start = total_of(l->extents, l->rank) > ROOM ? -1 : below(2) ? (int64_t)below(64) : signed64(wild());
+    struct layout one_operand = *l;
+    if (below(8))
+        one_operand.stride_count = l->rank;
+    refusals_met += summary_of(&one_operand, any_machine(), start, cells, below(65), &y) < 0;
+}
+
 /* ------------------------------------------------------------ sessions at random */
 
 /* The layout that a session says, if its counts have room. */
@@ -1366,7 +1064,7 @@ static void any_session(const struct layout *l)
     for (int call = 0; call < 3; call++) {
         before = s;
         if (below(2)) {
-            int64_t strides[16];
+            int64_t strides[64];
             for (size_t i = 0; i < l->rank; i++)
                 strides[i] = (int64_t)below(9) - 4;
             CHECK(join_of(&s, below(9), strides, l->rank) == (before.operands < 8 ? 0 : -GOUGELILY_NINTH));
@@ -1388,6 +1086,18 @@ static void any_session(const struct layout *l)
     const int64_t joined = join_of(&changed, 8, NULL, 0);
     CHECK((joined == -GOUGELILY_STATE) == !right);
     refusals_met += joined < 0;
+}
+
+/* A session begins with what planning takes. */
+static void garbage_session(const struct layout *l)
+{
+    static gougelily_session_t s;
+    gougelily_plan_t p;
+    const gougelily_machine_t m = any_machine();
+    make_wild(&s, sizeof s / 8), make_wild(&p, sizeof p / 8);
+    const int64_t answer = session_of(l, m, &s);
+    CHECK(answer == plan_on(l, m, &p) && (answer < 0 || memcmp(&p, &s.plan, sizeof p) == 0));
+    refusals_met += answer < 0;
 }
 
 /* ------------------------------------------------------------ plans and states at random */
@@ -1464,7 +1174,7 @@ static void one_number_changed(const struct layout *l)
     gougelily_plan_t p = {0};
     gougelily_walk_t w = {0};
     gougelily_block_t b = {0};
-    const int64_t starts[3] = {0, 0, 0};
+    const int64_t starts[8] = {0};
     CHECK(plan_of(l, &p) == 0 && begin_of(&p, starts, p.operands, &w) == 0);
     for (uint64_t n = below(3); n > 0; n--)
         step_of(&p, &w, &b);
@@ -1518,20 +1228,26 @@ int main(int argc, char **argv)
         cut_layout(&l);
         garbage_window(&g);
         any_visits();
+        garbage_visits();
+        any_text(l);
+        any_text(g);
         any_description();
         copy_layout(l);
         garbage_copy(&g);
         any_summary(&l);
+        garbage_summary(&g);
         any_session(&l);
+        garbage_session(&g);
         one_number_changed(&l);
         garbage_plan(below(2) ? &l : &g);
         refusals_met += plan_of(&g, &p) < 0;
         refusals_met += plan_on(&g, any_machine(), &p) < 0;
         make_wild(counters, 4);
         size_t count = below(5);
-        refusals_met += index_of(&g, (int)below(2), counters, count, &x) < 0;
-        if (l.rank > 0)
-            mark_of(&l, below(l.operands));
+        refusals_met += index_of(&g, 0, counters, count, &x) < 0;
+        refusals_met += index_of(&g, 1, counters, count, &x) < 0;
+        operand_mark(&l, below(l.operands));
+        refusals_met += mark_of(g.extents, g.rank, g.strides, below(8) ? g.rank : g.stride_count) < 0;
     }
     const struct {
         const char *what;
@@ -1540,6 +1256,7 @@ int main(int argc, char **argv)
         {"blocks", blocks_met},
         {"cells", cells_met},
         {"windows", windows_met},
+        {"texts", texts_met},
         {"judged lists", lists_judged},
         {"descriptions", descriptions_met},
         {"copies", copies_made},
