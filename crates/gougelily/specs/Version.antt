@@ -9,7 +9,7 @@ abbrev pub minor : ℕ
 minor = 0
 
 abbrev pub patch : ℕ
-patch = 0
+patch = 1
 
 -- as one number, which grows with the version
 abbrev pub version : ℕ
