@@ -6,7 +6,9 @@ The last columns have the plain loop block by block: over the blocks of the plan
 and over those of the F plan, which are not fitted to the L1 cache: what the fit gains. Every column's result is compared with NumPy's once. A ratio above
 its goal has a !.
 
-With --sizes it times square arrays of 8-byte cells from 4 KB to 256 MB, whole and transposed, and prints their rates.
+With --sizes it times square arrays of 8-byte cells from 4 KB to 256 MB, whole and transposed, and prints their rates. With --kernels it times some
+transposes with other loops inside the plan's blocks: eight runs at once, and, where a cell has 1, 2 or 4 bytes, tiles of cells turned in registers by
+masks.
 """
 
 import argparse
@@ -49,6 +51,8 @@ for timed, arguments in {
     "time_original": [ctypes.POINTER(Job), ctypes.c_size_t],
     "time_plain": [ctypes.POINTER(Job), ctypes.c_size_t],
     "time_blocks": [ctypes.POINTER(Job), ctypes.c_size_t],
+    "time_words": [ctypes.POINTER(Job), ctypes.c_size_t],
+    "time_eight": [ctypes.POINTER(Job), ctypes.c_size_t],
     "time_memcpy": [ctypes.c_void_p, ctypes.c_void_p, ctypes.c_size_t, ctypes.c_size_t],
 }.items():
     getattr(RUST, timed).argtypes = arguments
@@ -148,7 +152,7 @@ def squares():
         yield filled((n, n), 8), filled((n, n), 8)
 
 
-def columns(case, record):
+def columns(case, record, kernels=False):
     """The name of each column, and a function that makes so many calls and answers the seconds."""
     to, kept = operand(case.to)
     source, kept_too = operand(case.source)
@@ -173,13 +177,17 @@ def columns(case, record):
         "P": lambda calls: RUST.time_blocks(p_job, calls),
         "F": lambda calls: RUST.time_blocks(f_job, calls),
     }
+    if kernels:
+        made["eight"] = lambda calls: RUST.time_eight(p_job, calls)
+        if case.to.itemsize <= 4:
+            made["words"] = lambda calls: RUST.time_words(p_job, calls)
     if case.memcpy:
         made["memcpy"] = lambda calls: RUST.time_memcpy(to.bytes, source.bytes, to.len, calls)
     return made, plan, keep
 
 
-def measured(case, record, seconds):
-    made, plan, keep = columns(case, record)
+def measured(case, record, seconds, kernels=False):
+    made, plan, keep = columns(case, record, kernels)
     want = case.source.tobytes()
     calls = {}
     for name, run in made.items():
@@ -200,6 +208,16 @@ def measured(case, record, seconds):
             return best, plan
 
 
+def print_kernels(record, seconds):
+    """Ratios to NumPy of the copy, a plain loop, and loops inside the plan's blocks."""
+    print("| layout | plan blocks | NumPy µs | copy | plain loop | plain loop in the blocks | eight runs at once | turned in registers |")
+    print("|---|---|---|---|---|---|---|---|")
+    for n, width in ((256, 1), (256, 2), (256, 4), (1024, 1), (1000, 1), (1000, 8), (1000, 12), (1000, 16)):
+        best, plan = measured(Case(f"transpose {n} x {n}, {width} bytes", filled((n, n), width), filled((n, n), width).T), record, seconds, True)
+        ratios = [f"{best[way] / best['NumPy']:.2f}" if way in best else "-" for way in ("port", "plain", "P", "eight", "words")]
+        print(f"| {n} x {n}, {width} bytes | {' x '.join(map(str, plan.blocks))} | {best['NumPy'] * 1e6:.2f} | {' | '.join(ratios)} |", flush=True)
+
+
 def print_rates(record, seconds):
     """GB/s for each size: an array's bytes over the time of its copy."""
     print("## The copy, by size\n\n| bytes | whole, port | whole, NumPy | memcpy | transposed, port | transposed, NumPy |\n|---|---|---|---|---|---|")
@@ -216,11 +234,15 @@ def main():
     options.add_argument("--only", default="", help="layouts whose name has this in it")
     options.add_argument("--quick", action="store_true", help="leave out what is above L3")
     options.add_argument("--machine", action="store_true", help="this machine's record in place of the fixed one")
+    options.add_argument("--kernels", action="store_true", help="transposes with other loops in place of the table")
     options.add_argument("--sizes", action="store_true", help="the rates of arrays of 4 KB to 256 MB in place of the table")
     given = options.parse_args()
     if not hasattr(library(), "gougelily_copy"):
         sys.exit("bench/export: this library has no gougelily_copy")
     record = g.machine() if given.machine else g.FIXED
+    if given.kernels:
+        print_kernels(record, given.seconds)
+        return
     if given.sizes:
         print_rates(record, given.seconds)
         return

@@ -1,11 +1,12 @@
 //! What gougelily_copy is timed beside, for bench/export: the original's `replay_copy_raw`, a plain double loop, the
-//! same loop block by block, and memcpy. Each function makes a number of calls and answers the seconds that they took,
+//! same loop block by block, other loops of transposes, and memcpy. Each function makes a number of calls and answers the seconds that they took,
 //! so that no call from Python is in the times. `stand_ins` has what the original's file names and is not published.
 
 include!(concat!(env!("OUT_DIR"), "/originals.rs"));
 
 mod plain;
 mod stand_ins;
+mod turned;
 
 pub use inline::{InlineVec, OperandVec};
 pub use stand_ins::{
@@ -175,6 +176,48 @@ pub unsafe extern "C" fn time_plain(job: &Job, calls: usize) -> f64 {
 #[no_mangle]
 pub unsafe extern "C" fn time_blocks(job: &Job, calls: usize) -> f64 {
     by_width!(job.width, plainly(job, job.list(job.blocks), calls))
+}
+
+unsafe fn turning(job: &Job, calls: usize, kernel: unsafe fn(&turned::Turn)) -> f64 {
+    let (to, from) = (job.list(job.to.strides), job.list(job.from.strides));
+    assert!(job.rank == 2 && to[0] == 1 && from[1] == 1, "not a transpose");
+    let bytes = |cells: isize| cells * job.width as isize;
+    let turn = turned::Turn {
+        extents: job.list(job.extents),
+        blocks: job.list(job.blocks),
+        to: bytes(to[1]),
+        from: bytes(from[0]),
+        destination: job.to.bytes.offset(bytes(job.to.start)),
+        source: job.from.bytes.offset(bytes(job.from.start)),
+    };
+    seconds(calls, || kernel(std::hint::black_box(&turn)))
+}
+
+/// # Safety
+/// As `time_blocks`; the job is a transpose.
+#[no_mangle]
+pub unsafe extern "C" fn time_words(job: &Job, calls: usize) -> f64 {
+    match job.width {
+        1 => turning(job, calls, turned::by_words::<1, 8>),
+        2 => turning(job, calls, turned::by_words::<2, 4>),
+        4 => turning(job, calls, turned::by_words::<4, 2>),
+        _ => f64::NAN,
+    }
+}
+
+/// # Safety
+/// As `time_words`.
+#[no_mangle]
+pub unsafe extern "C" fn time_eight(job: &Job, calls: usize) -> f64 {
+    match job.width {
+        1 => turning(job, calls, turned::eight::<1>),
+        2 => turning(job, calls, turned::eight::<2>),
+        4 => turning(job, calls, turned::eight::<4>),
+        8 => turning(job, calls, turned::eight::<8>),
+        12 => turning(job, calls, turned::eight::<12>),
+        16 => turning(job, calls, turned::eight::<16>),
+        _ => f64::NAN,
+    }
 }
 
 /// # Safety
