@@ -73,11 +73,13 @@ pub unsafe fn by_words<const W: usize, const G: usize>(t: &Turn) {
             for x in (j..j + 16).step_by(G) {
                 let mut words = [0u64; G];
                 for (k, word) in words.iter_mut().enumerate() {
-                    *word = (t.source.offset((i + k) as isize * t.from).add(x * W) as *const u64).read_unaligned();
+                    *word = (t.source.offset((i + k) as isize * t.from).add(x * W) as *const u64)
+                        .read_unaligned();
                 }
                 turn(&mut words);
                 for (k, word) in words.iter().enumerate() {
-                    (t.destination.offset((x + k) as isize * t.to).add(i * W) as *mut u64).write_unaligned(*word);
+                    (t.destination.offset((x + k) as isize * t.to).add(i * W) as *mut u64)
+                        .write_unaligned(*word);
                 }
             }
             i += G;
