@@ -1,4 +1,5 @@
-// Whether arrays hold the same numbers, or 0 alone. No place ends a loop early: so the compiler takes several places in one step.
+// Whether arrays hold the same numbers, or 0 alone. The bits that differ are gathered over all places, and looked at once, behind the loop: so
+// the compiler takes several places in one step.
 ghost use mathlib.Core.Path.{_≡_};
 ghost use lib.ListN.{length};
 ghost use Rattle.strided.specs.Step.{blank, blankZ};
@@ -9,13 +10,13 @@ pub fn same<'a>(a: &'a [u64], b: &'a [u64]) -> bool
     requires { ⌜ length (now a) ≡ length (now b) ⌝ }
     ensures { λ r. ⌜ r ≡ sameNats (now (a .entry)) (now (b .entry)) ⌝ }
 {
-    let mut alike = true;
+    let mut differing: u64 = 0;
     let mut i: usize = 0;
     while i < a.len() {
-        alike = alike & (a[i] == b[i]);
+        differing = differing | (a[i] ^ b[i]);
         i += 1;
     }
-    alike
+    differing == 0
 }
 
 // The same of signed numbers.
@@ -23,37 +24,37 @@ pub fn same_signed<'a>(a: &'a [i64], b: &'a [i64]) -> bool
     requires { ⌜ length (now a) ≡ length (now b) ⌝ }
     ensures { λ r. ⌜ r ≡ sameInts (now (a .entry)) (now (b .entry)) ⌝ }
 {
-    let mut alike = true;
+    let mut differing: i64 = 0;
     let mut i: usize = 0;
     while i < a.len() {
-        alike = alike & (a[i] == b[i]);
+        differing = differing | (a[i] ^ b[i]);
         i += 1;
     }
-    alike
+    differing == 0
 }
 
 // Whether each number is 0.
 pub fn all_zero(numbers: &[u64]) -> bool
     ensures { λ r. ⌜ r ≡ blank (now (numbers .entry)) ⌝ }
 {
-    let mut zero = true;
+    let mut seen: u64 = 0;
     let mut i: usize = 0;
     while i < numbers.len() {
-        zero = zero & (numbers[i] == 0);
+        seen = seen | numbers[i];
         i += 1;
     }
-    zero
+    seen == 0
 }
 
 // The same of signed numbers.
 pub fn all_zero_signed(numbers: &[i64]) -> bool
     ensures { λ r. ⌜ r ≡ blankZ (now (numbers .entry)) ⌝ }
 {
-    let mut zero = true;
+    let mut seen: i64 = 0;
     let mut i: usize = 0;
     while i < numbers.len() {
-        zero = zero & (numbers[i] == 0);
+        seen = seen | numbers[i];
         i += 1;
     }
-    zero
+    seen == 0
 }

@@ -2,6 +2,7 @@
 use mathlib.Core.Path.{_≡_, refl}
 use Prim.Native.Nat.{_-_, _≤_}
 use native.Mathlib.Omega.{arith}
+use lib.Dec.{eqb}
 use lib.ListN.{length, drop}
 use mathlib.Core.Bool.{_&&_}
 use Rattle.strided.specs.Step.{blank}
@@ -11,19 +12,19 @@ use Rattle.session.proofs.compare.all_zero.Statement.{statement}
 use Rattle.session.proofs.compare.all_zero.Tie as tie
 
 abbrev Inv-loop : tie.InvT-loop
-Inv-loop numbers zero₀ i₀ zero i = (i ≤ length numbers) × ((zero && blank (drop i numbers)) ≡ blank numbers)
+Inv-loop numbers seen₀ i₀ seen i = (i ≤ length numbers) × ((eqb seen 0 && blank (drop i numbers)) ≡ blank numbers)
 
 abbrev μ-loop : tie.MeasureT-loop
-μ-loop numbers zero₀ i₀ zero i = length numbers - i
+μ-loop numbers seen₀ i₀ seen i = length numbers - i
 
 loop-holds : tie.Need-loop-holds Inv-loop μ-loop
 loop-holds c = (omega arith, refl)
 
-mul-zero : tie.Need-mul-zero Inv-loop μ-loop
-mul-zero c = search needs
+mul-seen : tie.Need-mul-seen Inv-loop μ-loop
+mul-seen c = search needs
 
-shared-slice-read-zero : tie.Need-shared-slice-read-zero Inv-loop μ-loop
-shared-slice-read-zero c = search needs
+shared-slice-read-seen : tie.Need-shared-slice-read-seen Inv-loop μ-loop
+shared-slice-read-seen c = search needs
 
 add-i : tie.Need-add-i Inv-loop μ-loop
 add-i c = search needs
@@ -32,10 +33,10 @@ loop-less : tie.Need-loop-less Inv-loop μ-loop
 loop-less c = search needs
 
 loop-again : tie.Need-loop-again Inv-loop μ-loop
-loop-again c = let s = c .before .before .before in let l = c .before .before .loop in (omega arith, zero-next (s .args .numbers .now) (l .i) (l .zero) (c .before .loop-test .taken) (l .inv .1))
+loop-again c = let s = c .before .before .before in let l = c .before .before .loop in (omega arith, zero-next (s .args .numbers .now) (l .i) (l .seen) (c .before .loop-test .taken) (l .inv .1))
 
 returns : tie.Need-returns Inv-loop μ-loop
-returns c = let s = c .before .before in let l = c .before .loop in zero-over (s .args .numbers .now) (l .i) (l .zero) (c .loop-test .left) (l .inv .1)
+returns c = let s = c .before .before in let l = c .before .loop in zero-over (s .args .numbers .now) (l .i) (l .seen) (c .loop-test .left) (l .inv .1)
 
 pub all-zero-spec : {M : Type 1} → statement M
 all-zero-spec =
@@ -44,8 +45,8 @@ all-zero-spec =
     Inv-loop
     μ-loop
     loop-holds
-    mul-zero
-    shared-slice-read-zero
+    mul-seen
+    shared-slice-read-seen
     add-i
     loop-less
     loop-again
