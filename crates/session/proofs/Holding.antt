@@ -1,27 +1,29 @@
 -- Row 10's test, part by part: what each part decides, and that all of them decide whether the session is right. Assumes nothing.
-use mathlib.Core.Path.{_≡_, refl, sym, ap, _∙_}
+use mathlib.Core.Path.{_≡_, refl, sym, ap, ap₂, _∙_, subst}
 use mathlib.Core.Bool.{Bool, true, false, _&&_, _||_, not, cond, false≢true}
-use mathlib.Core.List.{List}
+use mathlib.Core.List.{List, [], _∷_, _++_}
 use mathlib.Core.Logic.{⊎-elim}
 use mathlib.Core.Option.{Option, none}
-use Prim.Native.Nat.{ℕ, zero, suc, _-_, _*_, _≤_}
+use Prim.Native.Nat.{ℕ, zero, suc, _+_, _-_, _*_, _≤_, _<_}
 use native.Mathlib.Omega.{arith}
 use lib.Dec.{ltb, leb, eqb}
 use lib.IntN.{ℤ, pos}
-use lib.ListN.{length, take, drop, length-take, length-drop}
-use lib.Seq.{length-take-le, take-all}
+use lib.ListN.{length, getD, take, drop, length-take, length-drop}
+use lib.Seq.{length-take-le, take-all, take-add}
 use borrow.Author.Tests.{eqb-true, eqb-false, eq-eqb, ne-eqb, le-leb, leb-true, leb-false, ltb-true}
 use native.Mathlib.Nat.{zero-mul}
 use Rattle.layout.specs.Laid.{rowAt}
-use Rattle.strided.specs.Base.{padded, some-of}
-use Rattle.strided.specs.Layout.{lead, hasZero, reach, maxI}
+use Rattle.strided.specs.Base.{padded, over, run, some-of}
+use Rattle.strided.specs.Layout.{total, lead, hasZero, reach, maxI, row, extents as extentsOf}
 use Rattle.strided.specs.Memory.{purposeOf}
 use Rattle.strided.specs.Step.{blank, blankZ}
 use Rattle.strided.specs.Fuse.{planAxes}
 use Rattle.strided.specs.Weights.{weights}
 use Rattle.strided.specs.Costs.{costs}
-use Rattle.strided.specs.Plan.{planFrom, strideTable}
-use Rattle.laws.specs.Plan.Places.{plan-extents, plan-blocks, plan-strides}
+use Rattle.strided.specs.Plan.{planFrom, strideTable, cutBlocks}
+use Rattle.laws.specs.Fuse.Maps.{plan-short}
+use Rattle.laws.specs.Plan.Places.{blocks-length}
+use Rattle.kernel.proofs.Plans.{plannable}
 use Rattle.strided.specs.Refusals.{answered, planningRefused, row1, row2, row6}
 use Rattle.strided.specs.declared.Purpose.{Purpose}
 use Rattle.strided.specs.declared.Purpose.the-variants.{PointwiseInto, Fold}
@@ -29,15 +31,19 @@ use Rattle.strided.specs.declared.Answer.{Answer}
 use Rattle.strided.specs.declared.Answer.the-variants.{Served}
 use Rattle.strided.specs.declared.Plan.{Plan}
 use Rattle.strided.specs.declared.Refusal.{Refusal}
-use Rattle.laws.specs.Base.Arrays.{blank-ℕ, blank-ℤ, blank-behind, padded-take, length-padded}
+use Rattle.laws.specs.Base.Arrays.{blank-ℕ, blank-ℤ, blank-behind, padded-take, length-padded, take-counted}
+use Rattle.laws.specs.Base.Rows.{length-over}
 use Rattle.laws.specs.Base.Tests.{and-both, both-and, or-cases}
 use Rattle.laws.specs.Refusals.Rows.{served-none}
 use Rattle.session.specs.declared.Numbers.{Numbers}
 use Rattle.session.specs.declared.Session.{Session}
 use Rattle.session.specs.Session.{Given, refusedOf, ranksOf, weightsOf, costsOf, planOf, kindOf, freshOf, sameNats, sameInts, Right}
 use Rattle.session.specs.Same.{Decides, same-nats, nats-same, same-ints, ints-same}
-use Rattle.session.specs.Afresh.{taken-of, few-strides}
-use Rattle.session.specs.Made.{KeptIn, Places, Keeps, LayoutRight, givenIn, sessionAt}
+use Rattle.session.specs.Afresh.{taken-of, allowed-of, few-strides}
+use Rattle.session.specs.Made.{Even, rowsOf, ranksIn, TableOf, AxesIn, AxesAt, Cuttable, BlocksAt, KeptIn, Keeps, LayoutRight, Laid, withPlan, givenIn, sessionAt}
+use Rattle.session.specs.Tabled.{Tabled}
+use Rattle.session.proofs.Tabling.{own-tabled, exact-ranks}
+use Rattle.session.proofs.Laying.{rows-more}
 
 -- ---- tests and claims
 
@@ -187,43 +193,201 @@ module _ (n : Numbers) (E Z : List ℕ) (S : List ℤ) (e : length E ≡ 64) (z 
         (λ q. record { axes = axes; few = few; kind = q .0 .0; chosen = q .0 .1; extents = q .1 .0 .0; sizes = q .1 .0 .1 .0; strides = q .1 .0 .1 .1; accepted = q .1 .1 })
         (λ r. ((r .kind, r .chosen), ((r .extents, (r .sizes, r .strides)), r .accepted)))
 
+-- ---- the ranks
+
+-- two rows more are compared
+same-append : (ps bs xs ys : List ℕ) → length ps ≡ length xs → sameNats (ps ++ bs) (xs ++ ys) ≡ (sameNats ps xs && sameNats bs ys)
+same-append [] bs [] ys e = refl
+same-append [] bs (x ∷ xs) ys e = absurd (omega (arith, e))
+same-append (a ∷ ps) bs [] ys e = absurd (omega (arith, e))
+same-append (a ∷ ps) bs (x ∷ xs) ys e =
+    ap (λ (r : Bool). eqb a x && r) (same-append ps bs xs ys (omega (arith, e))) ∙ sym (and-assoc (eqb a x) (sameNats ps xs) (sameNats bs ys))
+  where
+    and-assoc : (p q r : Bool) → ((p && q) && r) ≡ (p && (q && r))
+    and-assoc true q r = refl
+    and-assoc false q r = refl
+
+module _ (table : List (List ℕ)) (R : List ℕ) (even : Even table) (long : length R ≡ 512) where
+  rows-long : (k : ℕ) → k ≤ 8 → length (rowsOf table k) ≡ k * 64
+  rows-long k h = length-over 64 (λ j. getD table j []) k 0 (λ j a b. even .rows j (omega arith) .long)
+
+  -- the rows so far are the same
+  pub row-next : (k : ℕ) → k < 8 → (alike row : Bool) → alike ≡ sameNats (take (k * 64) R) (rowsOf table k) → row ≡ sameNats (take (k * 64 + 64 - k * 64) (drop (k * 64) R)) (getD table k [])
+      → (alike && row) ≡ sameNats (take ((k + 1) * 64) R) (rowsOf table (k + 1))
+  row-next k h alike row p q =
+      let w : k * 64 + 64 - k * 64 ≡ 64 = omega arith in
+      let m : (k + 1) * 64 ≡ k * 64 + 64 = omega arith in
+      let front : length (take (k * 64) R) ≡ k * 64 = length-take-le (k * 64) R (omega (arith, long, h)) in
+      sym (ap₂ sameNats (ap (λ (n : ℕ). take n R) m ∙ take-add (k * 64) 64 R) (rows-more (λ j. getD table j []) k)
+      ∙ same-append (take (k * 64) R) (take 64 (drop (k * 64) R)) (rowsOf table k) (getD table k []) (front ∙ sym (rows-long k (omega (arith, h))))
+      ∙ ap₂ (λ (x y : Bool). x && y) (sym p) (sym (q ∙ ap (λ (n : ℕ). sameNats (take n (drop (k * 64) R)) (getD table k [])) w)))
+
+  -- and 0 behind them
+  pub ranks-decide : (m : ℕ) → m ≤ 8 → {alike rest : Bool} → alike ≡ sameNats (take (m * 64) R) (rowsOf table m) → rest ≡ blank (drop (m * 64) R)
+      → Decides (alike && rest) (R ≡ ranksIn table m)
+  ranks-decide m few {alike} {rest} p q =
+      decides-as
+      (decides-both alike rest (decides-is p (decides-nats (take (m * 64) R) (rowsOf table m))) (decides-is q (decides-blank 512 (m * 64) R long (omega (arith, few)))))
+      (λ e. e .1 ∙ ap (padded 512 0) (e .0))
+      (λ e.
+      let front : take (m * 64) R ≡ rowsOf table m = ap (take (m * 64)) e ∙ take-counted 0 512 (m * 64) (rowsOf table m) (rows-long m few) (omega (arith, few)) in
+      (front, e ∙ ap (padded 512 0) (sym front)))
+
 -- ---- the kept parts
 
-module _ (g : Given) (n : Numbers) (rank : ℕ) (W C E B W′ C′ E′ B′ : List ℕ) (S S′ : List ℤ) (fresh : KeptIn g rank W C E B S)
-    {w c e b s : Bool} (iw : w ≡ sameNats W W′) (ic : c ≡ sameNats C C′) (ie : e ≡ sameNats E E′) (ib : b ≡ sameNats B B′) (is : s ≡ sameInts S S′) where
-  abbrev Same : Type 0
-  Same = ((rank ≡ n .«plan_rank») × (length (g .sizes) ≡ n .«plan_operands»)) × (((W ≡ W′) × (C ≡ C′)) × (((E ≡ E′) × (B ≡ B′)) × (S ≡ S′)))
-
-  same-keeps : Same → Keeps g n W′ C′ E′ B′ S′
-  same-keeps q =
-      let r = q .0 .0 in let e = q .1 .1 .0 .0 in let b = q .1 .1 .0 .1 in let s = q .1 .1 .1 in
-      record {
-        parts = record {
+-- weights and axes: the fresh ones are compared with those that are there
+module _ (es : List ℕ) (m : ℕ) (ss : List ℤ) (u : Purpose) {rank : ℕ} {W E : List ℕ} {S : List ℤ} (fresh : AxesIn es m ss u rank W E S)
+    (po o rank′ : ℕ) (W′ E′ : List ℕ) (S′ : List ℤ) {w e s : Bool} (iw : w ≡ sameNats W W′) (ie : e ≡ sameNats E E′) (is : s ≡ sameInts S S′) where
+  pub axes-decides : Decides ((eqb po o && eqb rank rank′) && ((w && e) && s)) ((po ≡ o) × AxesIn es m ss u rank′ W′ E′ S′)
+  axes-decides =
+      decides-as
+      (decides-both (eqb po o && eqb rank rank′) ((w && e) && s)
+      (decides-both (eqb po o) (eqb rank rank′) (decides-eqb po o) (decides-eqb rank rank′))
+      (decides-both (w && e) s (decides-both w e (decides-is iw (decides-nats W W′)) (decides-is ie (decides-nats E E′))) (decides-is is (decides-ints S S′))))
+      (λ q. (
+        q .0 .0,
+        record {
           weights = sym (q .1 .0 .0) ∙ fresh .weights;
-          costs = sym (q .1 .0 .1) ∙ fresh .costs;
-          plan = sym (λ i. record { rank = r i; operands = length (g .sizes); extents = e i; blocks = b i; strides = s i }) ∙ fresh .plan;
-        };
-        operands = sym (q .0 .1);
+          count = sym (q .0 .1) ∙ fresh .count;
+          extents = sym (q .1 .0 .1) ∙ fresh .extents;
+          strides = sym (q .1 .1) ∙ fresh .strides;
+        },
+      ))
+      (λ q. let a = q .1 in (
+        (q .0, fresh .count ∙ sym (a .count)),
+        ((fresh .weights ∙ sym (a .weights), fresh .extents ∙ sym (a .extents)), fresh .strides ∙ sym (a .strides)),
+      ))
+
+-- the fresh arrays have their places still
+pub axes-places : (es : List ℕ) (m : ℕ) (ss : List ℤ) (u : Purpose) {rank : ℕ} {W E : List ℕ} {S : List ℤ} → AxesIn es m ss u rank W E S → (length W ≡ 64) × (length E ≡ 64) × (length S ≡ 512)
+axes-places es m ss u a = (
+  ap length (a .weights) ∙ length-padded 0 64 (weights es m ss (lead u)),
+  ap length (a .extents) ∙ length-padded 0 64 (extentsOf (planAxes es m ss u)),
+  ap length (a .strides) ∙ length-padded (pos 0) 512 (over (run 0 m) (λ k. padded 64 (pos 0) (row k (planAxes es m ss u)))),
+)
+
+pub blocks-places : (n : Numbers) (E Z PE : List ℕ) (PS : List ℤ) {C B : List ℕ} → length PE ≡ 64 → BlocksAt n E Z PE PS C B → (length C ≡ 64) × (length B ≡ 64)
+blocks-places n E Z PE PS e b = (
+  ap length (b .costs) ∙ length-padded 0 64 (costs PS (n .operands) (n .«plan_rank»)),
+  ap length (b .blocks) ∙ go (leb (total (take (n .rank) E)) 1024),
+)
+  where
+    go : (t : Bool) → length (cond t PE (cutBlocks (n .machine) (take (n .operands) Z) PE PS (n .«plan_rank») (purposeOf (n .purpose) (n .chosen)))) ≡ 64
+    go true = e
+    go false = blocks-length (n .machine) (take (n .operands) Z) PE PS (n .«plan_rank») (purposeOf (n .purpose) (n .chosen)) ∙ e
+
+-- costs and blocks
+pub blocks-decide : (n : Numbers) (E Z PE : List ℕ) (PS : List ℤ) {C B : List ℕ} → BlocksAt n E Z PE PS C B → (C′ B′ : List ℕ) {c b : Bool} → c ≡ sameNats C C′ → b ≡ sameNats B B′
+    → Decides (c && b) (BlocksAt n E Z PE PS C′ B′)
+blocks-decide n E Z PE PS {C} {B} fresh C′ B′ {c} {b} ic ib =
+    decides-as (decides-both c b (decides-is ic (decides-nats C C′)) (decides-is ib (decides-nats B B′)))
+    (λ q. record { costs = sym (q .0) ∙ fresh .costs; blocks = sym (q .1) ∙ fresh .blocks })
+    (λ a. (fresh .costs ∙ sym (a .costs), fresh .blocks ∙ sym (a .blocks)))
+
+-- the arrays of a layout that is right
+module _ (n : Numbers) (E Z : List ℕ) (S : List ℤ) (l : LayoutRight n E Z S) where
+  pub extents-long : length E ≡ 64
+  extents-long = ap length (l .extents) ∙ length-padded 0 64 (take (n .rank) E)
+
+  pub sizes-long : length Z ≡ 8
+  sizes-long = ap length (l .sizes) ∙ length-padded 0 8 (take (n .operands) Z)
+
+  pub strides-long : length S ≡ 512
+  strides-long = ap length (l .strides) ∙ length-padded (pos 0) 512 (take (n .rank * n .operands) S)
+
+  pub g-rank : length (take (n .rank) E) ≡ n .rank
+  g-rank = length-take-le (n .rank) E (let a = l .axes in let e = extents-long in omega (arith, a, e))
+
+  pub g-operands : length (take (n .operands) Z) ≡ n .operands
+  g-operands = length-take-le (n .operands) Z (let a = l .few in let e = sizes-long in omega (arith, a, e))
+
+  abbrev lg : Given
+  lg = givenIn n E Z S
+
+  -- by the number of its operands, or by the length of its sizes
+  axes-as : {rank : ℕ} {W PE : List ℕ} {PS : List ℤ} → AxesAt n E S rank W PE PS → AxesIn (lg .extents) (length (lg .sizes)) (lg .strides) (lg .purpose) rank W PE PS
+  axes-as {rank} {W} {PE} {PS} a = subst (λ (m : ℕ). AxesIn (lg .extents) m (lg .strides) (lg .purpose) rank W PE PS) (sym g-operands) a
+
+  -- what cutting asks for
+  pub cuttable : (r : Numbers) {W PE : List ℕ} {PS : List ℤ} → r ≡ withPlan n (r .«plan_rank») → AxesAt n E S (r .«plan_rank») W PE PS → Cuttable r E Z PE PS
+  cuttable r {W} {PE} {PS} q a = subst (λ (x : Numbers). Cuttable x E Z PE PS) (sym q) (
+      let acc = taken-of lg (l .accepted) in
+      let x = axes-as a in
+      let one = acc .one in
+      record {
+        machine = allowed-of lg (l .accepted);
+        axes = l .axes;
+        one = let g = g-operands in omega (arith, one, g);
+        few = l .few;
+        plan = let c = x .count in let p = plan-short (lg .extents) (length (lg .sizes)) (lg .strides) (lg .purpose) in let f = acc .axes in omega (arith, c, p, f);
+        extents = extents-long;
+        sizes = sizes-long;
+        places = ap length (x .extents) ∙ length-padded 0 64 (extentsOf (planAxes (lg .extents) (length (lg .sizes)) (lg .strides) (lg .purpose)));
+        cut = plannable (lg .extents) (lg .sizes) (lg .strides) (lg .purpose) acc (r .«plan_rank») PE PS (x .count) (x .extents) (x .strides);
+      })
+
+  -- all of them are what the layout gives
+  pub parts-kept : (r : Numbers) {W PE C B : List ℕ} {PS : List ℤ} → r ≡ withPlan n (r .«plan_rank») → AxesAt n E S (r .«plan_rank») W PE PS → BlocksAt r E Z PE PS C B
+      → KeptIn lg (r .«plan_rank») W C PE B PS
+  unfolding weightsOf costsOf planOf planFrom
+  parts-kept r {W} {PE} {C} {B} {PS} q a b =
+      let x = axes-as a in
+      let k : BlocksAt (withPlan n (r .«plan_rank»)) E Z PE PS C B = subst (λ (y : Numbers). BlocksAt y E Z PE PS C B) q b in
+      let axs = planAxes (lg .extents) (length (lg .sizes)) (lg .strides) (lg .purpose) in
+      let er = x .count in let ee = x .extents in let es = x .strides in
+      let eb : B ≡ cond (leb (total (lg .extents)) 1024) (padded 64 0 (extentsOf axs))
+      (cutBlocks (n .machine) (lg .sizes) (padded 64 0 (extentsOf axs)) (strideTable axs (length (lg .sizes))) (length axs) (lg .purpose)) =
+      k .blocks ∙ (λ i. cond (leb (total (lg .extents)) 1024) (ee i) (cutBlocks (n .machine) (lg .sizes) (ee i) (es i) (er i) (lg .purpose))) in
+      record {
+        weights = x .weights;
+        costs = k .costs ∙ (λ i. padded 64 0 (costs (es i) (sym g-operands i) (er i)));
+        plan = λ i. record { rank = er i; operands = length (lg .sizes); extents = ee i; blocks = eb i; strides = es i };
       }
 
-  keeps-same : Keeps g n W′ C′ E′ B′ S′ → Same
-  keeps-same k =
-      let p = fresh .plan ∙ sym (k .parts .plan) in (
-        (ap (λ (x : Plan). x .rank) p, sym (k .operands)),
-        (
-          (fresh .weights ∙ sym (k .parts .weights), fresh .costs ∙ sym (k .parts .costs)),
-          ((ap (λ (x : Plan). x .extents) p, ap (λ (x : Plan). x .blocks) p), ap (λ (x : Plan). x .strides) p),
-        ),
-      )
+  -- and the other way
+  module _ {W PE C B : List ℕ} {PS : List ℤ} (k : Keeps lg n W C PE B PS) where
+    pub keeps-axes : (n .«plan_operands» ≡ n .operands) × AxesAt n E S (n .«plan_rank») W PE PS
+    unfolding weightsOf planOf planFrom
+    keeps-axes =
+        let p = k .parts .plan in (
+          k .operands ∙ g-operands,
+          subst (λ (m : ℕ). AxesIn (lg .extents) m (lg .strides) (lg .purpose) (n .«plan_rank») W PE PS) g-operands
+              (record {
+                weights = k .parts .weights;
+                count = ap (λ (y : Plan). y .rank) p;
+                extents = ap (λ (y : Plan). y .extents) p;
+                strides = ap (λ (y : Plan). y .strides) p;
+              }),
+        )
 
-  pub keeps-decides : Decides ((eqb rank (n .«plan_rank») && eqb (length (g .sizes)) (n .«plan_operands»)) && ((w && c) && ((e && b) && s))) (Keeps g n W′ C′ E′ B′ S′)
-  keeps-decides =
-      decides-as
-      (decides-both (eqb rank (n .«plan_rank») && eqb (length (g .sizes)) (n .«plan_operands»)) ((w && c) && ((e && b) && s))
-      (decides-both (eqb rank (n .«plan_rank»)) (eqb (length (g .sizes)) (n .«plan_operands»)) (decides-eqb _ _) (decides-eqb _ _))
-      (decides-both (w && c) ((e && b) && s) (decides-both w c (decides-is iw (decides-nats W W′)) (decides-is ic (decides-nats C C′)))
-      (decides-both (e && b) s (decides-both e b (decides-is ie (decides-nats E E′)) (decides-is ib (decides-nats B B′))) (decides-is is (decides-ints S S′)))))
-      same-keeps keeps-same
+    pub keeps-blocks : BlocksAt n E Z PE PS C B
+    unfolding costsOf planOf planFrom
+    keeps-blocks =
+        let p = k .parts .plan in
+        let x = axes-as (keeps-axes .1) in
+        let er = x .count in let ee = x .extents in let es = x .strides in
+        record {
+          costs = k .parts .costs ∙ (λ i. padded 64 0 (costs (sym es i) (g-operands i) (sym er i)));
+          blocks = ap (λ (y : Plan). y .blocks) p ∙ (λ i. cond (leb (total (lg .extents)) 1024) (sym ee i) (cutBlocks (n .machine) (lg .sizes) (sym ee i) (sym es i) (sym er i) (lg .purpose)));
+        }
+
+  pub keeps-of : {W PE C B : List ℕ} {PS : List ℤ} → n .«plan_operands» ≡ n .operands → AxesAt n E S (n .«plan_rank») W PE PS → BlocksAt n E Z PE PS C B → Keeps lg n W C PE B PS
+  keeps-of {W} {PE} {C} {B} {PS} q a b =
+      record {
+        parts = parts-kept n (λ i. record { purpose = n .purpose; chosen = n .chosen; machine = n .machine; rank = n .rank; operands = n .operands; «plan_rank» = n .«plan_rank»; «plan_operands» = q i }) a b;
+        operands = q ∙ sym g-operands;
+      }
+
+  -- the table of ranks, laid out
+  pub laid-of : (table : List (List ℕ)) → TableOf (take (n .rank * n .operands) S) (n .rank) (n .operands) table → Laid n E S table
+  laid-of table t = record { axes = l .axes; few = l .few; extents = extents-long; strides = strides-long; ranks = t }
+
+  pub own-ranks : (table : List (List ℕ)) → TableOf (take (n .rank * n .operands) S) (n .rank) (n .operands) table → ranksIn table (n .operands) ≡ ranksOf lg
+  own-ranks table t =
+      ap (ranksIn table) (sym g-operands)
+      ∙ exact-ranks (n .machine) (lg .extents) (lg .sizes) (lg .strides) (lg .purpose) table
+      (subst (λ (m : ℕ). Tabled (lg .extents) (lg .strides) table m) (sym g-operands)
+      (own-tabled (n .rank) (n .operands) (l .axes) (l .few) S strides-long E extents-long table (t .is)))
 
 -- ---- the session
 
@@ -310,17 +474,3 @@ new-far es ts rank e h =
     let z : 0 * rank ≡ 0 = zero-mul rank in
     let r : rowAt es ts rank 0 ≡ ts = ap (λ (n : ℕ). take (length es) (drop n ts)) z ∙ take-all (length es) ts (omega (arith, e, h)) in
     ap (λ (l : List ℤ). not (hasZero es) && cond (ltb maxI (reach es l)) true false) r
-
--- what is made has the places of a session's arrays
-pub kept-places : {g : Given} {rank : ℕ} {W C E B : List ℕ} {S : List ℤ} → KeptIn g rank W C E B S → Places W C E B S
-unfolding weightsOf costsOf planOf
-kept-places {g} k =
-    let p = k .plan in
-    let axs = planAxes (g .extents) (length (g .sizes)) (g .strides) (g .purpose) in
-    record {
-      weights = ap length (k .weights) ∙ length-padded {A = ℕ} 0 64 (weights (g .extents) (length (g .sizes)) (g .strides) (lead (g .purpose)));
-      costs = ap length (k .costs) ∙ length-padded {A = ℕ} 0 64 (costs (strideTable axs (length (g .sizes))) (length (g .sizes)) (length axs));
-      extents = ap (λ (x : Plan). length (x .extents)) p ∙ plan-extents (g .machine) (g .extents) (g .sizes) axs (g .purpose);
-      blocks = ap (λ (x : Plan). length (x .blocks)) p ∙ plan-blocks (g .machine) (g .extents) (g .sizes) axs (g .purpose);
-      strides = ap (λ (x : Plan). length (x .strides)) p ∙ plan-strides (g .machine) (g .extents) (g .sizes) axs (g .purpose);
-    }

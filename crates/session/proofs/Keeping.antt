@@ -1,6 +1,5 @@
--- The kept parts out of the arrays that the planner's functions fill: the order by the weights is that of fusing, and weights, costs and plan
--- are those of the layout. Assumes nothing.
-use mathlib.Core.Path.{_≡_, ap, _∙_}
+-- The order by the weights is that of fusing. Assumes nothing.
+use mathlib.Core.Path.{_≡_, ap, _∙_, subst}
 use mathlib.Core.Bool.{cond, _&&_, _||_}
 use mathlib.Core.List.{List}
 use Prim.Native.Nat.{ℕ, _≤_}
@@ -12,16 +11,10 @@ use Rattle.strided.specs.Base.{padded, run}
 use Rattle.strided.specs.Layout.{total, lead}
 use Rattle.strided.specs.Weights.{weights}
 use Rattle.strided.specs.Order.{follows, orderTo, loopOrder, fusingOrder}
-use Rattle.strided.specs.Fuse.{planAxes}
-use Rattle.strided.specs.Costs.{costs}
-use Rattle.strided.specs.Plan.{strideTable}
-use Rattle.strided.specs.declared.Machine.{Machine}
 use Rattle.strided.specs.declared.Purpose.{Purpose}
 use Rattle.laws.specs.Base.Filling.{read-padded}
 use Rattle.laws.specs.Order.Tries.{weights-long}
-use Rattle.kernel.specs.Made.{Made}
-use Rattle.session.specs.Session.{given, weightsOf, costsOf, planOf}
-use Rattle.session.specs.Made.{KeptIn}
+use Rattle.session.specs.Made.{AxesIn}
 
 -- axes are compared by the array's weights as by the list's
 order-padded : (ws es : List ℕ) (n : ℕ) → length ws ≤ 64 → orderTo (follows (padded 64 0 ws) es) n ≡ orderTo (follows ws es) n
@@ -38,17 +31,6 @@ order-is es m ss u few less W is =
     ap (λ (o : List ℕ). padded 64 0 (cond (leb (total es) 1024) (run 0 (length es)) o))
     (ap (λ (w : List ℕ). orderTo (follows w es) (length es)) is ∙ order-padded ws es (length es) long)
 
--- what the arrays hold
-module _ (mc : Machine) (es sizes : List ℕ) (ss : List ℤ) (u : Purpose) (rank : ℕ) {W C E B : List ℕ} {S : List ℤ}
-    (w : W ≡ padded 64 0 (weights es (length sizes) ss (lead u))) (count : rank ≡ length (planAxes es (length sizes) ss u))
-    (long : S ≡ strideTable (planAxes es (length sizes) ss u) (length sizes)) (c : C ≡ padded 64 0 (costs S (length sizes) rank)) where
-  pub kept-made : Made mc es sizes ss u rank E B S → KeptIn (given mc es sizes ss u) rank W C E B S
-  unfolding weightsOf costsOf planOf
-  kept-made m =
-      record {
-        weights = w;
-        costs =
-            c ∙ ap (λ (s : List ℤ). padded 64 0 (costs s (length sizes) rank)) long
-            ∙ ap (λ (n : ℕ). padded 64 0 (costs (strideTable (planAxes es (length sizes) ss u) (length sizes)) (length sizes) n)) count;
-        plan = m .is;
-      }
+-- a purpose in other words
+pub axes-for : (es : List ℕ) (m : ℕ) (ss : List ℤ) {u v : Purpose} {rank : ℕ} {W E : List ℕ} {S : List ℤ} → u ≡ v → AxesIn es m ss u rank W E S → AxesIn es m ss v rank W E S
+axes-for es m ss {u} {v} {rank} {W} {E} {S} e a = subst (λ (x : Purpose). AxesIn es m ss x rank W E S) e a

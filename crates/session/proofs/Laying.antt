@@ -89,13 +89,14 @@ module _ {A : Type 0} (n : ℕ) (z d : A) (table : List A) (m : ℕ) (is : table
   row-added v =
       ap₂ (λ (t : List A) (i : ℕ). set t i v) is (sym counted) ∙ set-behind z n (take m table) v (omega (arith, counted))
 
--- rows of r places each, one behind the other: the next one is put behind those that stand
+-- rows one behind the other: the next one is behind those that stand
+pub rows-more : {A : Type 0} (f : ℕ → List A) (m : ℕ) → over (run 0 (m + 1)) f ≡ over (run 0 m) f ++ f m
+rows-more f m = ap (λ (l : List ℕ). over l f) (run-append m 1 0) ∙ over-last (run 0 m) (0 + m) f ∙ ap (λ (i : ℕ). over (run 0 m) f ++ f i) (let e : 0 + m ≡ m = omega arith in e)
+
+-- and is put there, where each has r places
 module _ {A : Type 0} (n : ℕ) (z : A) (r b : ℕ) (f : ℕ → List A) (even : (j : ℕ) → j < b → length (f j) ≡ r) where
   rows-long : (m : ℕ) → m ≤ b → length (over (run 0 m) f) ≡ m * r
   rows-long m h = length-over r f m 0 (λ j a l. even j (omega arith))
-
-  rows-more : (m : ℕ) → over (run 0 (m + 1)) f ≡ over (run 0 m) f ++ f m
-  rows-more m = ap (λ (l : List ℕ). over l f) (run-append m 1 0) ∙ over-last (run 0 m) (0 + m) f ∙ ap (λ (i : ℕ). over (run 0 m) f ++ f i) (let e : 0 + m ≡ m = omega arith in e)
 
   module _ (m : ℕ) (h : m ≤ b) (room : m * r ≤ n) (out : List A) (is : out ≡ padded n z (over (run 0 m) f)) where
     front-is : take (m * r) out ≡ over (run 0 m) f
@@ -105,4 +106,4 @@ module _ {A : Type 0} (n : ℕ) (z : A) (r b : ℕ) (f : ℕ → List A) (even :
     rows-front = is ∙ ap (padded n z) (sym front-is)
 
     pub rows-next : {new row : List A} → row ≡ f m → new ≡ padded n z (take (m * r) out ++ row) → new ≡ padded n z (over (run 0 (m + 1)) f)
-    rows-next e q = q ∙ ap (padded n z) (ap₂ _++_ front-is e ∙ sym (rows-more m))
+    rows-next e q = q ∙ ap (padded n z) (ap₂ _++_ front-is e ∙ sym (rows-more f m))

@@ -1,5 +1,5 @@
--- The layout in a session's arrays with an operand more or less: what the arrays hold is the layout that the definition names, planning accepts
--- it, its table of ranks is at hand, and with the kept parts the session is made. Assumes nothing.
+-- The operands of a layout in a session's arrays, with one more or one less: what the arrays hold is what the definition names. Where planning
+-- accepts the layout that stands there, everything else follows. Assumes nothing.
 use mathlib.Core.Path.{_≡_, refl, sym, ap, ap₂, _∙_, subst}
 use mathlib.Core.List.{List, [], _∷_, _++_, map}
 use mathlib.Core.Option.{none}
@@ -9,122 +9,128 @@ use native.Mathlib.Omega.{arith}
 use lib.IntN.{ℤ, pos}
 use lib.ListN.{length, getD, take, drop, set, length-append}
 use lib.Seq.{length-take-le, take-take}
-use Rattle.strided.specs.Base.{padded, run}
-use Rattle.strided.specs.Layout.{strideRow}
-use Rattle.strided.specs.Ranks.{ranks}
+use Rattle.strided.specs.Base.{padded, over, run}
+use Rattle.strided.specs.Layout.{lead, strideRow}
+use Rattle.strided.specs.Memory.{purposeOf}
+use Rattle.strided.specs.Ranks.{ranks, rankTable}
 use Rattle.strided.specs.declared.Machine.{Machine}
+use Rattle.strided.specs.declared.Plan.{Plan}
 use Rattle.strided.specs.declared.Purpose.{Purpose}
-use Rattle.laws.specs.Base.Arrays.{length-padded, take-counted}
-use Rattle.laws.specs.Base.Filling.{length-rows}
-use Rattle.laws.specs.Base.Rows.{row-fits}
+use Rattle.laws.specs.Base.Arrays.{length-padded, take-padded, take-counted}
+use Rattle.laws.specs.Base.Filling.{length-rows, fill-at}
+use Rattle.laws.specs.Base.Lists.{over-last}
+use Rattle.laws.specs.Base.Rows.{row-fits, length-over}
+use Rattle.laws.specs.Order.Ranks.{table-rows}
+use Rattle.auxiliary.specs.Fitting.{Fitting}
 use Rattle.session.specs.declared.Numbers.{Numbers}
-use Rattle.session.specs.Session.{Given, refusedOf, withOperand, oldPlace, sizesWithout, stridesWithout, withoutOperand}
-use Rattle.session.specs.Afresh.{few-strides, join-accepted, leave-accepted, old-there, length-without}
-use Rattle.session.specs.Made.{TableOf, KeptAll, Ready, LayoutRight, givenIn, givenFrom, Made, Joining, Leaving}
+use Rattle.session.specs.Session.{Given, given, refusedOf, ranksOf, weightsOf, costsOf, planOf, kindOf, freshOf, oldPlace, sizesWithout, stridesWithout}
+use Rattle.session.specs.Afresh.{few-strides, old-there, length-without, purpose-back, taken-of, row-new}
+use Rattle.session.specs.Tables.{table-joined}
+use Rattle.session.specs.Made.{Even, rowsOf, ranksIn, TableOf, KeptIn, LayoutRight, Standing, givenIn, sessionAt, withPlan}
 use Rattle.session.proofs.Laying.{row-added}
-use Rattle.session.proofs.Tabling.{zeroRow, tableOf, over-agree, table-more, table-less}
+use Rattle.session.proofs.Tabling.{zeroRow, tableOf, over-agree, rows-laid, table-even, table-more, table-less, exact-ranks}
+use Rattle.session.proofs.Holding.{g-operands, sizes-long, strides-long}
 
--- the arrays of a layout that is right
-module _ (n : Numbers) (E Z : List ℕ) (S : List ℤ) (l : LayoutRight n E Z S) where
-  pub extents-long : length E ≡ 64
-  extents-long = ap length (l .extents) ∙ length-padded 0 64 (take (n .rank) E)
+-- ---- what stands in the arrays
 
-  pub sizes-long : length Z ≡ 8
-  sizes-long = ap length (l .sizes) ∙ length-padded 0 8 (take (n .operands) Z)
+-- the operands of a layout that is right
+pub right-standing : (n : Numbers) (E Z : List ℕ) (S : List ℤ) → LayoutRight n E Z S → {R : List ℕ} {table : List (List ℕ)}
+    → TableOf (take (n .rank * n .operands) S) (n .rank) (n .operands) table → R ≡ ranksIn table (n .operands)
+    → Standing (n .rank) (take (n .operands) Z) (take (n .rank * n .operands) S) Z S R table
+right-standing n E Z S l {R} {table} t r =
+    let m = sym (g-operands n E Z S l) in
+    record {
+      fits =
+          record {
+            rank-few = l .axes;
+            operands-few = let f = l .few in omega (arith, f, m);
+            strides-all =
+                length-take-le (n .rank * n .operands) S (let f = few-strides (n .rank) (n .operands) (l .axes) (l .few) in let e = strides-long n E Z S l in omega (arith, f, e))
+                ∙ ap (λ (x : ℕ). n .rank * x) m;
+          };
+      sizes = l .sizes;
+      strides = l .strides;
+      rows = subst (λ (x : ℕ). TableOf (take (n .rank * n .operands) S) (n .rank) x table) m t;
+      ranks = r ∙ ap (ranksIn table) m;
+    }
 
-  pub strides-long : length S ≡ 512
-  strides-long = ap length (l .strides) ∙ length-padded (pos 0) 512 (take (n .rank * n .operands) S)
+-- how many there are, in arrays of 8 and 512
+module _ (rank m : ℕ) (Z : List ℕ) (S : List ℤ) (R : List ℕ) (table : List (List ℕ)) (few : m ≤ 8)
+    (st : Standing rank (take m Z) (take (rank * m) S) Z S R table) where
+  pub stand-operands : length (take m Z) ≡ m
+  stand-operands = length-take-le m Z (let e = ap length (st .sizes) ∙ length-padded 0 8 (take m Z) in omega (arith, e, few))
+
+  pub stand-strides : length (take (rank * m) S) ≡ rank * m
+  stand-strides = st .fits .strides-all ∙ ap (λ (x : ℕ). rank * x) stand-operands
+
+  pub stand-table : table ≡ tableOf (take (rank * m) S) rank m
+  stand-table = st .rows .is ∙ ap (tableOf (take (rank * m) S) rank) stand-operands
+
+  pub stand-ranks : R ≡ ranksIn table m
+  stand-ranks = st .ranks ∙ ap (ranksIn table) stand-operands
+
+  pub stand-places : length Z ≡ 8
+  stand-places = ap length (st .sizes) ∙ length-padded 0 8 (take m Z)
+
+  pub stand-long : length S ≡ 512
+  stand-long = ap length (st .strides) ∙ length-padded (pos 0) 512 (take (rank * m) S)
+
+  abbrev zs : List ℕ
+  zs = take m Z
 
   abbrev ss : List ℤ
-  ss = take (n .rank * n .operands) S
+  ss = take (rank * m) S
 
-  pub g-rank : length (take (n .rank) E) ≡ n .rank
-  g-rank = length-take-le (n .rank) E (let a = l .axes in let e = extents-long in omega (arith, a, e))
+  -- the ranks so far
+  front-ranks : take (m * 64) R ≡ over (rankTable ss rank m) (padded 64 0)
+  front-ranks =
+      let is = rows-laid ss rank m few table stand-table in
+      let even = table-even ss rank m (st .fits .rank-few) table stand-table in
+      let long : length (rowsOf table m) ≡ m * 64 = length-over 64 (λ j. getD table j []) m 0 (λ j a b. even .rows j (omega arith) .long) in
+      ap (take (m * 64)) stand-ranks ∙ take-counted 0 512 (m * 64) (rowsOf table m) long (omega (arith, few)) ∙ is
 
-  g-operands : length (take (n .operands) Z) ≡ n .operands
-  g-operands = length-take-le (n .operands) Z (let a = l .few in let e = sizes-long in omega (arith, a, e))
+  pub ranks-front : R ≡ padded 512 0 (take (m * 64) R)
+  ranks-front = stand-ranks ∙ ap (padded 512 0) (rows-laid ss rank m few table stand-table ∙ sym front-ranks)
 
-  g-strides : length ss ≡ n .rank * n .operands
-  g-strides = length-take-le (n .rank * n .operands) S (let f = few-strides (n .rank) (n .operands) (l .axes) (l .few) in let e = strides-long in omega (arith, f, e))
+  -- one joins
+  module _ (room : m < 8) (z : ℕ) (ts : List ℤ) (counted : length ts ≡ rank) {Z′ : List ℕ} {S′ : List ℤ} {table′ : List (List ℕ)}
+      (ez : Z′ ≡ set Z m z) (es : S′ ≡ padded 512 (pos 0) (ss ++ ts)) (et : table′ ≡ padded 8 zeroRow (take m table ++ (padded 64 0 (ranks ts) ∷ []))) where
+    pub table-after : table′ ≡ tableOf (ss ++ ts) rank (m + 1)
+    table-after = table-more ss rank m few table stand-table ts stand-strides counted table′ et
 
-  pub count-fits : n .rank * n .operands ≤ 512
-  count-fits = few-strides (n .rank) (n .operands) (l .axes) (l .few)
+    pub row-after : getD table′ m [] ≡ padded 64 0 (ranks ts)
+    row-after =
+        let row : ℕ → List ℕ = λ k. padded 64 0 (ranks (strideRow (ss ++ ts) rank k)) in
+        ap (λ (t : List (List ℕ)). getD t m []) (table-after ∙ ap (padded 8 zeroRow) (table-rows (ss ++ ts) rank (m + 1)))
+        ∙ fill-at 8 zeroRow [] row (m + 1) m (omega arith) (omega (arith, room))
+        ∙ ap (λ (r : List ℤ). padded 64 0 (ranks r)) (row-new ss ts rank m stand-strides counted)
 
--- ---- an operand joins
+    more : length (zs ++ (z ∷ [])) ≡ m + 1
+    more = let a = length-append zs (z ∷ []) in let e = stand-operands in omega (arith, a, e)
 
-module _ (mc : Machine) (u : Purpose) (n : Numbers) (E Z : List ℕ) (S ts : List ℤ) (j : Joining mc u n E Z S ts) (z : ℕ) where
-  abbrev l : LayoutRight n E Z S
-  l = j .right
-
-  abbrev g : Given
-  g = givenIn n E Z S
-
-  more-strides : n .rank * (n .operands + 1) ≡ n .rank * n .operands + n .rank
-  more-strides = let e = mul-suc (n .rank) (n .operands) in omega (arith, e)
-
-  -- the strides have room for one more
-  pub join-fits : n .rank * n .operands + length ts ≤ 512
-  join-fits =
-      let f = few-strides (n .rank) (n .operands + 1) (l .axes) (let r = j .room in omega (arith, r)) in
-      let c = j .counted in
-      let e = more-strides in
-      omega (arith, f, c, e)
-
-  joined-taken : refusedOf (withOperand g z ts) ≡ none
-  joined-taken =
-      join-accepted g z ts (l .accepted) (let r = j .room in let e = g-operands n E Z S l in omega (arith, r, e)) (j .counted ∙ sym (g-rank n E Z S l)) (j .near)
-
-  module _ (Z′ : List ℕ) (S′ : List ℤ) (zs : Z′ ≡ set Z (n .operands) z) (st : S′ ≡ padded 512 (pos 0) (take (n .rank * n .operands) S ++ ts)) where
-    pub sizes-more : Z′ ≡ padded 8 0 (take (n .operands) Z ++ (z ∷ []))
-    sizes-more = zs ∙ row-added 8 0 0 Z (n .operands) (l .sizes) (j .room) z
-
-    long-sizes : length (take (n .operands) Z ++ (z ∷ [])) ≡ n .operands + 1
-    long-sizes = let a = length-append (take (n .operands) Z) (z ∷ []) in let e = g-operands n E Z S l in omega (arith, a, e)
-
-    long-strides : length (take (n .rank * n .operands) S ++ ts) ≡ n .rank * (n .operands + 1)
-    long-strides =
-        let a = length-append (take (n .rank * n .operands) S) ts in
-        let e = g-strides n E Z S l in
-        let c = j .counted in
-        let m = more-strides in
-        omega (arith, a, e, c, m)
-
-    -- the layout in the arrays
-    pub join-given : givenFrom mc u (n .rank) (n .operands + 1) E Z′ S′ ≡ withOperand g z ts
-    join-given =
-        let em = j .machine in
-        let eu = j .purpose in
-        let ez = ap (take (n .operands + 1)) sizes-more ∙ take-counted 0 8 (n .operands + 1) (take (n .operands) Z ++ (z ∷ [])) long-sizes (let r = j .room in omega (arith, r)) in
-        let es = ap (take (n .rank * (n .operands + 1))) st ∙ take-counted (pos 0) 512 (n .rank * (n .operands + 1)) (take (n .rank * n .operands) S ++ ts) long-strides
-        (let f = join-fits in let c = j .counted in let m = more-strides in omega (arith, f, c, m)) in
-        λ i. record { machine = em i; extents = take (n .rank) E; sizes = ez i; strides = es i; purpose = eu i }
-
-    pub join-ready : (table rows : List (List ℕ)) → TableOf (take (n .rank * n .operands) S) (n .rank) (n .operands) table
-        → rows ≡ padded 8 zeroRow (take (n .operands) table ++ (padded 64 0 (ranks ts) ∷ [])) → Ready mc u (n .rank) (n .operands + 1) E Z′ S′ rows
-    join-ready table rows t q =
+    pub add-stands : {R′ : List ℕ} → R′ ≡ padded 512 0 (take (m * 64) R ++ getD table′ m []) → Standing rank (zs ++ (z ∷ [])) (ss ++ ts) Z′ S′ R′ table′
+    add-stands {R′} er =
         record {
-          axes = l .axes;
-          few = let r = j .room in omega (arith, r);
-          accepted = ap refusedOf join-given ∙ joined-taken;
-          ranks =
+          fits =
               record {
-                is =
-                    table-more (take (n .rank * n .operands) S) (n .rank) (n .operands) (l .few) table (t .is) ts (g-strides n E Z S l) (j .counted) rows q
-                    ∙ ap (λ (s : List ℤ). tableOf s (n .rank) (n .operands + 1)) (sym (ap (λ (x : Given). x .strides) join-given));
+                rank-few = st .fits .rank-few;
+                operands-few = omega (arith, more, room);
+                strides-all =
+                    length-append ss ts
+                    ∙ (let a = stand-strides in let b = mul-suc rank m in let w : length ss + length ts ≡ rank * (m + 1) = omega (arith, a, b, counted) in w)
+                    ∙ ap (λ (x : ℕ). rank * x) (sym more);
               };
+          sizes = ez ∙ row-added 8 0 0 Z m (st .sizes) room z;
+          strides = es;
+          rows = record { is = table-after ∙ ap (tableOf (ss ++ ts) rank) (sym more) };
+          ranks =
+              er ∙ ap (padded 512 0)
+              (ap₂ _++_ front-ranks row-after
+              ∙ sym (over-last (rankTable ss rank m) (ranks ts) (padded 64 0))
+              ∙ ap (λ (r : List (List ℕ)). over r (padded 64 0)) (sym (table-joined ss rank m stand-strides ts counted))
+              ∙ sym (rows-laid (ss ++ ts) rank (m + 1) (omega (arith, room)) table′ table-after))
+              ∙ ap (ranksIn table′) (sym more);
         }
-
-    pub join-made : (rank : ℕ) (R W C PE PB : List ℕ) (PS : List ℤ) → KeptAll (givenFrom mc u (n .rank) (n .operands + 1) E Z′ S′) rank R W C PE PB PS
-        → Made (withOperand g z ts) rank E Z′ S′ R W C PE PB PS
-    join-made rank R W C PE PB PS k =
-        record {
-          extents = l .extents;
-          sizes = sizes-more;
-          strides = st;
-          all = subst (λ (x : Given). KeptAll x rank R W C PE PB PS) join-given k;
-        }
-
--- ---- an operand leaves
 
 -- a row that lies within the first n places
 take-in : {A : Type 0} (a r n : ℕ) (l : List A) → a + r ≤ n → take r (drop a (take n l)) ≡ take r (drop a l)
@@ -145,66 +151,105 @@ strides-cut ss rank m k h l =
     cut : (i : ℕ) → i < m → strideRow (take (rank * m) ss) rank i ≡ strideRow ss rank i
     cut i q = take-in (i * rank) rank (rank * m) ss (row-fits i rank m q)
 
-module _ (mc : Machine) (u : Purpose) (n : Numbers) (E Z : List ℕ) (S : List ℤ) (k : ℕ) (v : Leaving mc u n E Z S k) where
-  abbrev l′ : LayoutRight n E Z S
-  l′ = v .right
+-- one leaves
+module _ (rank m : ℕ) (Z : List ℕ) (S : List ℤ) (R : List ℕ) (table : List (List ℕ)) (few : m ≤ 8)
+    (st : Standing rank (take m Z) (take (rank * m) S) Z S R table) (k : ℕ) (there : k < m) where
+  less : length (sizesWithout k (take m Z)) ≡ m - 1
+  less =
+      let a = length-rows (λ (j : ℕ). getD (take m Z) (oldPlace k j) 0) 0 (length (take m Z) - 1) in
+      let e = stand-operands rank m Z S R table few st in
+      omega (arith, a, e)
 
-  abbrev g′ : Given
-  g′ = givenIn n E Z S
+  pub drop-even : {table′ : List (List ℕ)} → table′ ≡ padded 8 zeroRow (map (λ j. getD table (oldPlace k j) []) (run 0 (m - 1))) → Even table′
+  drop-even {table′} et =
+      table-even (stridesWithout rank m k (take (rank * m) S)) rank (m - 1) (st .fits .rank-few) table′
+      (table-less (take (rank * m) S) rank m few table (stand-table rank m Z S R table few st) k (stand-strides rank m Z S R table few st) there table′ et)
 
-  left-taken : refusedOf (withoutOperand g′ k) ≡ none
-  left-taken =
-      let e = g-operands n E Z S l′ in
-      leave-accepted g′ k (l′ .accepted) (let t = v .there in omega (arith, t, e)) (let t = v .two in omega (arith, t, e))
+  pub drop-stands : {Z′ : List ℕ} {S′ : List ℤ} {R′ : List ℕ} {table′ : List (List ℕ)} → Z′ ≡ padded 8 0 (sizesWithout k (take m Z))
+      → S′ ≡ padded 512 (pos 0) (stridesWithout rank m k S) → table′ ≡ padded 8 zeroRow (map (λ j. getD table (oldPlace k j) []) (run 0 (m - 1)))
+      → R′ ≡ ranksIn table′ (m - 1) → Standing rank (sizesWithout k (take m Z)) (stridesWithout rank m k (take (rank * m) S)) Z′ S′ R′ table′
+  drop-stands {Z′} {S′} {R′} {table′} ez es et er =
+      let ss = take (rank * m) S in
+      let long = stand-strides rank m Z S R table few st in
+      let after = table-less ss rank m few table (stand-table rank m Z S R table few st) k long there table′ et in
+      record {
+        fits =
+            record {
+              rank-few = st .fits .rank-few;
+              operands-few = omega (arith, less, few);
+              strides-all = length-without ss rank m k long there ∙ ap (λ (x : ℕ). rank * x) (sym less);
+            };
+        sizes = ez;
+        strides = es ∙ ap (padded 512 (pos 0)) (strides-cut S rank m k (let f = few-strides rank m (st .fits .rank-few) few in let e = stand-long rank m Z S R table few st in omega (arith, f, e)) there);
+        rows = record { is = after ∙ ap (tableOf (stridesWithout rank m k ss) rank) (sym less) };
+        ranks = er ∙ ap (ranksIn table′) (sym less);
+      }
 
-  module _ (Z′ : List ℕ) (S′ : List ℤ) (zs : Z′ ≡ padded 8 0 (sizesWithout k (take (n .operands) Z))) (st : S′ ≡ padded 512 (pos 0) (stridesWithout (n .rank) (n .operands) k S)) where
-    rows-kept : stridesWithout (n .rank) (n .operands) k S ≡ withoutOperand g′ k .strides
-    rows-kept =
-        strides-cut S (n .rank) (n .operands) k (let f = count-fits n E Z S l′ in let e = strides-long n E Z S l′ in omega (arith, f, e)) (v .there)
-        ∙ ap₂ (λ (r m : ℕ). stridesWithout r m k (take (n .rank * n .operands) S)) (sym (g-rank n E Z S l′)) (sym (g-operands n E Z S l′))
+-- ---- a layout that planning accepts stands in the arrays
 
-    long-sizes′ : length (sizesWithout k (take (n .operands) Z)) ≡ n .operands - 1
-    long-sizes′ = let a = length-rows (λ (j : ℕ). getD (take (n .operands) Z) (oldPlace k j) 0) 0 (length (take (n .operands) Z) - 1) in let e = g-operands n E Z S l′ in omega (arith, a, e)
+module _ (g : Given) (ok : refusedOf g ≡ none) (n : Numbers) (E Z : List ℕ) (S : List ℤ) (R : List ℕ) (table : List (List ℕ))
+    (e : E ≡ padded 64 0 (g .extents)) (st : Standing (length (g .extents)) (g .sizes) (g .strides) Z S R table)
+    (er : n .rank ≡ length (g .extents)) (eo : n .operands ≡ length (g .sizes)) (em : n .machine ≡ g .machine)
+    (ek : n .purpose ≡ kindOf (g .purpose)) (ec : n .chosen ≡ lead (g .purpose)) where
+  pub stands-given : givenIn n E Z S ≡ g
+  stands-given =
+      let a = taken-of g ok in
+      let ee = ap₂ take er e ∙ take-padded 0 64 (g .extents) (a .axes) in
+      let ez = ap₂ take eo (st .sizes) ∙ take-padded 0 8 (g .sizes) (a .few) in
+      let es = ap₂ take (ap₂ _*_ er eo) (st .strides)
+      ∙ take-counted (pos 0) 512 (length (g .extents) * length (g .sizes)) (g .strides) (a .strides) (few-strides (length (g .extents)) (length (g .sizes)) (a .axes) (a .few)) in
+      let eu = ap₂ purposeOf ek ec ∙ purpose-back (g .purpose) in
+      λ i. record { machine = em i; extents = ee i; sizes = ez i; strides = es i; purpose = eu i }
 
-    long-strides′ : length (stridesWithout (n .rank) (n .operands) k S) ≡ n .rank * (n .operands - 1)
-    long-strides′ =
-        ap length (strides-cut S (n .rank) (n .operands) k (let f = count-fits n E Z S l′ in let e = strides-long n E Z S l′ in omega (arith, f, e)) (v .there))
-        ∙ length-without (take (n .rank * n .operands) S) (n .rank) (n .operands) k (g-strides n E Z S l′) (v .there)
+  pub stands-right : LayoutRight n E Z S
+  stands-right =
+      let a = taken-of g ok in
+      let axes = a .axes in let few = a .few in
+      let q = sym stands-given in
+      record {
+        axes = omega (arith, axes, er);
+        few = omega (arith, few, eo);
+        kind = ap (λ (x : Given). kindOf (x .purpose)) stands-given ∙ sym ek;
+        chosen = ap (λ (x : Given). lead (x .purpose)) stands-given ∙ sym ec;
+        extents = e ∙ ap (λ (x : Given). padded 64 0 (x .extents)) q;
+        sizes = st .sizes ∙ ap (λ (x : Given). padded 8 0 (x .sizes)) q;
+        strides = st .strides ∙ ap (λ (x : Given). padded 512 (pos 0) (x .strides)) q;
+        accepted = ap refusedOf stands-given ∙ ok;
+      }
 
-    few-left : n .rank * (n .operands - 1) ≤ 512
-    few-left = few-strides (n .rank) (n .operands - 1) (l′ .axes) (let f = l′ .few in omega (arith, f))
+  pub stands-table : TableOf (take (n .rank * n .operands) S) (n .rank) (n .operands) table
+  stands-table =
+      let q = ap (λ (x : Given). x .strides) (sym stands-given) in
+      record { is = st .rows .is ∙ (λ i. tableOf (q i) (sym er i) (sym eo i)) }
 
-    pub leave-given : givenFrom mc u (n .rank) (n .operands - 1) E Z′ S′ ≡ withoutOperand g′ k
-    leave-given =
-        let em = v .machine in
-        let eu = v .purpose in
-        let ez = ap (take (n .operands - 1)) zs ∙ take-counted 0 8 (n .operands - 1) (sizesWithout k (take (n .operands) Z)) long-sizes′ (let f = l′ .few in omega (arith, f)) in
-        let es = ap (take (n .rank * (n .operands - 1))) st ∙ take-counted (pos 0) 512 (n .rank * (n .operands - 1)) (stridesWithout (n .rank) (n .operands) k S) long-strides′ few-left ∙ rows-kept in
-        λ i. record { machine = em i; extents = take (n .rank) E; sizes = ez i; strides = es i; purpose = eu i }
-
-    pub leave-ready : (table rows : List (List ℕ)) → TableOf (take (n .rank * n .operands) S) (n .rank) (n .operands) table
-        → rows ≡ padded 8 zeroRow (map (λ j. getD table (oldPlace k j) []) (run 0 (n .operands - 1))) → Ready mc u (n .rank) (n .operands - 1) E Z′ S′ rows
-    leave-ready table rows t q =
-        record {
-          axes = l′ .axes;
-          few = let f = l′ .few in omega (arith, f);
-          accepted = ap refusedOf leave-given ∙ left-taken;
-          ranks =
-              record {
-                is =
-                    table-less (take (n .rank * n .operands) S) (n .rank) (n .operands) (l′ .few) table (t .is) k (g-strides n E Z S l′) (v .there) rows q
-                    ∙ ap (λ (s : List ℤ). tableOf s (n .rank) (n .operands - 1))
-                    (ap₂ (λ (r m : ℕ). stridesWithout r m k (take (n .rank * n .operands) S)) (sym (g-rank n E Z S l′)) (sym (g-operands n E Z S l′))
-                    ∙ sym (ap (λ (x : Given). x .strides) leave-given));
-              };
-        }
-
-    pub leave-made : (rank : ℕ) (R W C PE PB : List ℕ) (PS : List ℤ) → KeptAll (givenFrom mc u (n .rank) (n .operands - 1) E Z′ S′) rank R W C PE PB PS
-        → Made (withoutOperand g′ k) rank E Z′ S′ R W C PE PB PS
-    leave-made rank R W C PE PB PS a =
-        record {
-          extents = l′ .extents;
-          sizes = zs;
-          strides = st ∙ ap (padded 512 (pos 0)) rows-kept;
-          all = subst (λ (x : Given). KeptAll x rank R W C PE PB PS) leave-given a;
-        }
+  -- and with the kept parts the session is the one afresh
+  pub stands-session : (r : Numbers) (W C PE PB : List ℕ) (PS : List ℤ) → r ≡ withPlan n (r .«plan_rank») → KeptIn (givenIn n E Z S) (r .«plan_rank») W C PE PB PS
+      → sessionAt r E Z S R W C PE PB PS ≡ freshOf g
+  unfolding freshOf
+  stands-session r W C PE PB PS q k =
+      let ez = st .sizes in let es = st .strides in
+      let p = ap (λ (x : Numbers). x .purpose) q ∙ ek in
+      let c = ap (λ (x : Numbers). x .chosen) q ∙ ec in
+      let mc = ap (λ (x : Numbers). x .machine) q ∙ em in
+      let rk = ap (λ (x : Numbers). x .rank) q ∙ er in
+      let op = ap (λ (x : Numbers). x .operands) q ∙ eo in
+      let po : r .«plan_operands» ≡ length (take (n .operands) Z) = ap (λ (x : Numbers). x .«plan_operands») q ∙ eo ∙ ap (λ (x : Given). length (x .sizes)) (sym stands-given) in
+      let ra : R ≡ ranksOf g = st .ranks ∙ exact-ranks (g .machine) (g .extents) (g .sizes) (g .strides) (g .purpose) table (record { fits = st .fits; ranks = st .rows .is }) in
+      let we = k .weights ∙ ap weightsOf stands-given in
+      let co = k .costs ∙ ap costsOf stands-given in
+      let pl : _≡_ {A = Plan} (record { rank = r .«plan_rank»; operands = r .«plan_operands»; extents = PE; blocks = PB; strides = PS }) (planOf g) =
+      (λ i. record { rank = r .«plan_rank»; operands = po i; extents = PE; blocks = PB; strides = PS }) ∙ k .plan ∙ ap planOf stands-given in
+      λ i. record {
+        purpose = p i;
+        chosen = c i;
+        machine = mc i;
+        rank = rk i;
+        operands = op i;
+        extents = e i;
+        sizes = ez i;
+        strides = es i;
+        ranks = ra i;
+        weights = we i;
+        costs = co i;
+        plan = pl i;
+      }

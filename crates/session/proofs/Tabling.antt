@@ -23,7 +23,7 @@ use Rattle.session.specs.Tabled.{Tabled}
 use Rattle.session.specs.Session.{given, ranksOf, oldPlace, stridesWithout}
 use Rattle.session.specs.Afresh.{old-there, row-moves, few-strides}
 use Rattle.session.specs.Tables.{rows-agree, table-joined}
-use Rattle.session.specs.Made.{RankRow, Even, rowsOf, ranksIn, givenFrom}
+use Rattle.session.specs.Made.{RankRow, Even, rowsOf, ranksIn}
 
 abbrev pub zeroRow : List ℕ
 zeroRow = replicate 64 0
@@ -119,16 +119,9 @@ module _ (ss : List ℤ) (rank m : ℕ) (few : m ≤ 8) (table : List (List ℕ)
 
 -- ---- the table of the layout that stands in a session's arrays
 
-module _ (mc : Machine) (u : Purpose) (rank operands : ℕ) (E Z : List ℕ) (S : List ℤ) (axes : rank ≤ 64) (few : operands ≤ 8)
-    (e : length E ≡ 64) (z : length Z ≡ 8) (s : length S ≡ 512) where
+module _ (rank operands : ℕ) (axes : rank ≤ 64) (few : operands ≤ 8) (S : List ℤ) (s : length S ≡ 512) where
   abbrev ss : List ℤ
   ss = take (rank * operands) S
-
-  pub own-rank : length (take rank E) ≡ rank
-  own-rank = length-take-le rank E (omega (arith, e, axes))
-
-  pub own-operands : length (take operands Z) ≡ operands
-  own-operands = length-take-le operands Z (omega (arith, z, few))
 
   pub own-strides : length ss ≡ rank * operands
   own-strides = length-take-le (rank * operands) S (let f = few-strides rank operands axes few in omega (arith, s, f))
@@ -136,20 +129,13 @@ module _ (mc : Machine) (u : Purpose) (rank operands : ℕ) (E Z : List ℕ) (S 
   pub own-fits : Fitting ss rank operands
   own-fits = record { rank-few = axes; operands-few = few; strides-all = own-strides }
 
-  module _ (table : List (List ℕ)) (is : table ≡ tableOf ss rank operands) where
-    pub own-ranked : Tabled (take rank E) ss table (length (take operands Z))
-    own-ranked =
-        subst (λ (m : ℕ). Tabled (take rank E) ss table m) (sym own-operands)
-        (record {
-          fits = subst (λ (r : ℕ). Fitting ss r operands) (sym own-rank) own-fits;
-          ranks = is ∙ ap (λ (r : ℕ). tableOf ss r operands) (sym own-rank);
-        })
-
-    pub own-ranks : ranksIn table operands ≡ ranksOf (givenFrom mc u rank operands E Z S)
-    unfolding ranksOf
-    own-ranks =
-        ap (padded 512 0) (rows-laid ss rank operands few table is)
-        ∙ ap₂ (λ (r m : ℕ). padded 512 0 (over (rankTable ss r m) (padded 64 0))) (sym own-rank) (sym own-operands)
+  pub own-tabled : (E : List ℕ) → length E ≡ 64 → (table : List (List ℕ)) → table ≡ tableOf ss rank operands → Tabled (take rank E) ss table operands
+  own-tabled E e table is =
+      let l : length (take rank E) ≡ rank = length-take-le rank E (omega (arith, e, axes)) in
+      record {
+        fits = subst (λ (r : ℕ). Fitting ss r operands) (sym l) own-fits;
+        ranks = is ∙ ap (λ (r : ℕ). tableOf ss r operands) (sym l);
+      }
 
 -- of a layout whose lists stand alone
 pub exact-ranks : (mc : Machine) (es sizes : List ℕ) (ss : List ℤ) (u : Purpose) (table : List (List ℕ)) → Tabled es ss table (length sizes)

@@ -7,25 +7,21 @@ ghost use Prim.Native.Nat.{_*_, _≤_};
 ghost use lib.Dec.{eqb};
 ghost use lib.ListN.{length, take, drop, replicate};
 ghost use Rattle.strided.specs.Layout.{lead as leadOf};
-ghost use Rattle.strided.specs.Machine.{Allowed};
 ghost use Rattle.strided.specs.Memory.{purposeOf};
 ghost use Rattle.strided.specs.Step.{blank, blankZ};
 ghost use Rattle.strided.specs.Refusals.{refusedBy, answered};
 ghost use Rattle.strided.specs.declared.Answer.the-variants.{Served};
-ghost use Rattle.laws.specs.Refusals.Accepted.{Accepted};
-ghost use Rattle.session.specs.Tabled.{Tabled};
-ghost use Rattle.session.specs.Session.{given, kindOf, Right, row21, newRows};
+ghost use Rattle.session.specs.Session.{kindOf, sameNats, Right, row21, newRows};
 ghost use Rattle.session.specs.Same.{Decides};
-ghost use Rattle.session.specs.Made.{Even, ranksIn, TableOf, Places, Keeps, LayoutRight, sessionAt};
+ghost use Rattle.session.specs.Made.{RankRow, Even, ranksIn, TableOf, Laid, AxesAt, Cuttable, BlocksAt, Keeps, LayoutRight, givenIn, sessionAt};
 use super::Numbers;
 use super::compare::all_zero;
 use super::compare::all_zero_signed;
 use super::compare::same;
 use super::compare::same_signed;
-use super::kept::kept_into;
-use super::layouts::ranks_into;
+use super::kept::axes_kept;
+use super::kept::blocks_kept;
 use auxiliary::rank_table_into;
-use kernel::Aim;
 use layout::check_planning;
 use layout::operands_wrong;
 use layout::purpose_of;
@@ -67,7 +63,7 @@ fn tidy<'a>(
 }
 
 // Whether planning serves what it answers so.
-fn served(answer: Answer) -> bool
+pub fn served(answer: Answer) -> bool
     ensures { λ r. ⌜ Decides r (answer ≡ Served) ⌝ }
 {
     match answer {
@@ -108,79 +104,159 @@ fn layout_right<'a>(
     told & (neat & plain)
 }
 
+// The table of the ranks of a layout in arrays, written into one of zeros.
+fn table_into(numbers: Numbers, strides: &[i64], table: &mut [[u8; 64]; 8])
+    requires { ⌜ (numbers .rank ≤ 64) × ((numbers .operands ≤ 8) × (length (now strides) ≡ 512)) ⌝ }
+    requires { ⌜ now table ≡ replicate 8 (replicate 64 0) ⌝ }
+    ensures { λ _. ⌜ TableOf (take (numbers .rank * numbers .operands) (now (strides .entry))) (numbers .rank) (numbers .operands) (now (table .exit)) ⌝ }
+{
+    let rank = numbers.rank;
+    let operands = numbers.operands;
+    let count = rank * operands;
+    rank_table_into(&strides[..count], rank, operands, table);
+}
+
+// Whether a row of ranks is that of the table.
+fn row_right<'a>(row: &'a [u8; 64], ranks: &'a [u64]) -> bool
+    requires { ⌜ RankRow (now row) × (length (now ranks) ≡ 64) ⌝ }
+    ensures { λ r. ⌜ r ≡ sameNats (now (ranks .entry)) (now (row .entry)) ⌝ }
+{
+    let mut differing: u64 = 0;
+    let mut i: usize = 0;
+    while i < 64 {
+        let rank = row[i];
+        differing = differing | (ranks[i] ^ rank as u64);
+        i += 1;
+    }
+    differing == 0
+}
+
 // Whether the ranks are those of the table.
 fn ranks_right<'a>(table: &'a [[u8; 64]; 8], operands: usize, ranks: &'a [u64]) -> bool
     requires { ⌜ (operands ≤ 8) × Even (now table) ⌝ }
     requires { ⌜ length (now ranks) ≡ 512 ⌝ }
     ensures { λ r. ⌜ Decides r (now (ranks .entry) ≡ ranksIn (now (table .entry)) operands) ⌝ }
 {
-    let mut fresh = [0u64; 512];
-    ranks_into(table, operands, &mut fresh);
-    same(&fresh, ranks)
+    let mut alike = true;
+    let mut k: usize = 0;
+    while k < operands {
+        let start = k * 64;
+        let end = start + 64;
+        alike = alike & row_right(&table[k], &ranks[start..end]);
+        k += 1;
+    }
+    let behind = operands * 64;
+    let rest = all_zero(&ranks[behind..]);
+    alike & rest
 }
 
-// Whether weights, costs and plan are what the layout gives.
-fn kept_right<'a>(
-    aim: Aim,
+// Whether weights and the plan's axes are what the layout gives.
+fn axes_right<'a>(
+    numbers: Numbers,
+    extents: &'a [u64],
+    strides: &'a [i64],
+    table: &'a [[u8; 64]; 8],
+    weights: &'a [u64; 64],
+    plan_extents: &'a [u64; 64],
+    plan_strides: &'a [i64; 512],
+) -> bool
+    requires { ⌜ Laid numbers (now extents) (now strides) (now table) ⌝ }
+    ensures { λ r. ⌜ Decides r ((numbers .«plan_operands» ≡ numbers .operands) × AxesAt numbers (now (extents .entry)) (now (strides .entry))
+        (numbers .«plan_rank») (now (weights .entry)) (now («plan_extents» .entry)) (now («plan_strides» .entry))) ⌝ }
+{
+    let mut w = [0u64; 64];
+    let mut e = [0u64; 64];
+    let mut s = [0i64; 512];
+    let axes = axes_kept(numbers, extents, strides, table, &mut w, &mut e, &mut s);
+    let counts = (numbers.plan_operands == numbers.operands) & (axes == numbers.plan_rank);
+    let loops = same(&w, weights) & same(&e, plan_extents);
+    let moves = same_signed(&s, plan_strides);
+    counts & (loops & moves)
+}
+
+// Whether costs and blocks are what the layout gives, where the plan's axes are.
+fn blocks_right<'a>(
     numbers: Numbers,
     extents: &'a [u64],
     sizes: &'a [u64],
-    strides: &'a [i64],
-    table: [[u8; 64]; 8],
-    weights: &'a [u64],
-    costs: &'a [u64],
-    plan_extents: &'a [u64],
-    blocks: &'a [u64],
-    plan_strides: &'a [i64],
+    plan_extents: &'a [u64; 64],
+    plan_strides: &'a [i64; 512],
+    costs: &'a [u64; 64],
+    blocks: &'a [u64; 64],
 ) -> bool
-    requires { ⌜ Allowed (aim .machine) ⌝ }
-    requires { ⌜ Accepted (now extents) (now sizes) (now strides) (aim .purpose) ⌝ }
-    requires { ⌜ Tabled (now extents) (now strides) table (length (now sizes)) ⌝ }
-    requires { ⌜ Places (now weights) (now costs) (now «plan_extents») (now blocks) (now «plan_strides») ⌝ }
-    ensures { λ r. let g = given (aim .machine) (now (extents .entry)) (now (sizes .entry)) (now (strides .entry)) (aim .purpose) in
-        ⌜ Decides r (Keeps g numbers (now (weights .entry)) (now (costs .entry)) (now («plan_extents» .entry)) (now (blocks .entry)) (now («plan_strides» .entry))) ⌝ }
+    requires { ⌜ Cuttable numbers (now extents) (now sizes) (now «plan_extents») (now «plan_strides») ⌝ }
+    ensures { λ r. ⌜ Decides r (BlocksAt numbers (now (extents .entry)) (now (sizes .entry)) (now («plan_extents» .entry)) (now («plan_strides» .entry))
+        (now (costs .entry)) (now (blocks .entry))) ⌝ }
 {
-    let mut w = [0u64; 64];
     let mut c = [0u64; 64];
-    let mut e = [0u64; 64];
     let mut b = [0u64; 64];
-    let mut s = [0i64; 512];
-    let axes = kept_into(
-        aim,
+    blocks_kept(
+        numbers,
         extents,
         sizes,
+        plan_extents,
+        plan_strides,
+        &mut c,
+        &mut b,
+    );
+    same(&c, costs) & same(&b, blocks)
+}
+
+// Whether everything that is kept beside the ranks is what the layout gives.
+fn kept_right<'a>(
+    numbers: Numbers,
+    extents: &'a [u64; 64],
+    sizes: &'a [u64; 8],
+    strides: &'a [i64; 512],
+    table: &'a [[u8; 64]; 8],
+    weights: &'a [u64; 64],
+    costs: &'a [u64; 64],
+    plan_extents: &'a [u64; 64],
+    blocks: &'a [u64; 64],
+    plan_strides: &'a [i64; 512],
+) -> bool
+    requires { ⌜ LayoutRight numbers (now extents) (now sizes) (now strides) ⌝ }
+    requires { ⌜ TableOf (take (numbers .rank * numbers .operands) (now strides)) (numbers .rank) (numbers .operands) (now table) ⌝ }
+    ensures { λ r. let g = givenIn numbers (now (extents .entry)) (now (sizes .entry)) (now (strides .entry)) in
+        ⌜ Decides r (Keeps g numbers (now (weights .entry)) (now (costs .entry)) (now («plan_extents» .entry)) (now (blocks .entry)) (now («plan_strides» .entry))) ⌝ }
+{
+    if axes_right(
+        numbers,
+        extents,
         strides,
         table,
-        &mut w,
-        &mut c,
-        &mut e,
-        &mut b,
-        &mut s,
-    );
-    let counts = (axes == numbers.plan_rank) & (sizes.len() == numbers.plan_operands);
-    let loops = same(&w, weights) & same(&c, costs);
-    let axes_same = same(&e, plan_extents) & same(&b, blocks);
-    let strides_same = same_signed(&s, plan_strides);
-    counts & (loops & (axes_same & strides_same))
+        weights,
+        plan_extents,
+        plan_strides,
+    ) {
+        return blocks_right(
+            numbers,
+            extents,
+            sizes,
+            plan_extents,
+            plan_strides,
+            costs,
+            blocks,
+        );
+    }
+    false
 }
 
 // Whether everything else in a session is what its layout gives, where that is right. The table of its ranks is left in `table`, which is lent
 // as zeros.
 fn parts_right<'a>(
     numbers: Numbers,
-    extents: &'a [u64],
-    sizes: &'a [u64],
-    strides: &'a [i64],
-    ranks: &'a [u64],
-    weights: &'a [u64],
-    costs: &'a [u64],
-    plan_extents: &'a [u64],
-    blocks: &'a [u64],
-    plan_strides: &'a [i64],
+    extents: &'a [u64; 64],
+    sizes: &'a [u64; 8],
+    strides: &'a [i64; 512],
+    ranks: &'a [u64; 512],
+    weights: &'a [u64; 64],
+    costs: &'a [u64; 64],
+    plan_extents: &'a [u64; 64],
+    blocks: &'a [u64; 64],
+    plan_strides: &'a [i64; 512],
     table: &mut [[u8; 64]; 8],
 ) -> bool
-    requires { ⌜ (length (now extents) ≡ 64) × ((length (now sizes) ≡ 8) × ((length (now strides) ≡ 512) × (length (now ranks) ≡ 512))) ⌝ }
-    requires { ⌜ Places (now weights) (now costs) (now «plan_extents») (now blocks) (now «plan_strides») ⌝ }
     requires { ⌜ now table ≡ replicate 8 (replicate 64 0) ⌝ }
     requires { ⌜ LayoutRight numbers (now extents) (now sizes) (now strides) ⌝ }
     ensures told { λ r. ⌜ Decides r (Right (sessionAt numbers (now (extents .entry)) (now (sizes .entry)) (now (strides .entry)) (now (ranks .entry))
@@ -188,48 +264,39 @@ fn parts_right<'a>(
     ensures table { λ r. ⌜ (r ≡ true
         → TableOf (take (numbers .rank * numbers .operands) (now (strides .entry))) (numbers .rank) (numbers .operands) (now (table .exit))) ⌝ }
 {
-    let rank = numbers.rank;
-    let operands = numbers.operands;
-    let machine = numbers.machine;
-    let count = rank * operands;
-    rank_table_into(&strides[..count], rank, operands, &mut *table);
-    let rows = *table;
-    let purpose = purpose_of(numbers.purpose, numbers.chosen);
-    let aim = Aim { purpose, machine };
-    let ranked = ranks_right(&rows, operands, ranks);
-    let kept = kept_right(
-        aim,
-        numbers,
-        &extents[..rank],
-        &sizes[..operands],
-        &strides[..count],
-        rows,
-        weights,
-        costs,
-        plan_extents,
-        blocks,
-        plan_strides,
-    );
-    ranked & kept
+    table_into(numbers, strides, &mut *table);
+    if ranks_right(table, numbers.operands, ranks) {
+        return kept_right(
+            numbers,
+            extents,
+            sizes,
+            strides,
+            table,
+            weights,
+            costs,
+            plan_extents,
+            blocks,
+            plan_strides,
+        );
+    }
+    false
 }
 
 // Whether a session is one that beginnings and accepted calls lead to. If it is, the table of its ranks is left in `table`, which is lent as
 // zeros.
 pub fn holds<'a>(
     numbers: Numbers,
-    extents: &'a [u64],
-    sizes: &'a [u64],
-    strides: &'a [i64],
-    ranks: &'a [u64],
-    weights: &'a [u64],
-    costs: &'a [u64],
-    plan_extents: &'a [u64],
-    blocks: &'a [u64],
-    plan_strides: &'a [i64],
+    extents: &'a [u64; 64],
+    sizes: &'a [u64; 8],
+    strides: &'a [i64; 512],
+    ranks: &'a [u64; 512],
+    weights: &'a [u64; 64],
+    costs: &'a [u64; 64],
+    plan_extents: &'a [u64; 64],
+    blocks: &'a [u64; 64],
+    plan_strides: &'a [i64; 512],
     table: &mut [[u8; 64]; 8],
 ) -> bool
-    requires { ⌜ (length (now extents) ≡ 64) × ((length (now sizes) ≡ 8) × ((length (now strides) ≡ 512) × (length (now ranks) ≡ 512))) ⌝ }
-    requires { ⌜ Places (now weights) (now costs) (now «plan_extents») (now blocks) (now «plan_strides») ⌝ }
     requires { ⌜ now table ≡ replicate 8 (replicate 64 0) ⌝ }
     ensures told { λ r. ⌜ Decides r (Right (sessionAt numbers (now (extents .entry)) (now (sizes .entry)) (now (strides .entry)) (now (ranks .entry))
         (now (weights .entry)) (now (costs .entry)) (now («plan_extents» .entry)) (now (blocks .entry)) (now («plan_strides» .entry)))) ⌝ }
@@ -254,13 +321,8 @@ pub fn holds<'a>(
     false
 }
 
-// Rows 20, 3 and 6 of an operand that is to join.
-pub fn check_joining<'a>(
-    rank: usize,
-    operands: usize,
-    extents: &'a [u64],
-    joining: &'a [i64],
-) -> Answer
+// Rows 20, 3 and 6 of an operand that is to join a layout of these extents.
+fn check_new<'a>(rank: usize, operands: usize, extents: &'a [u64], joining: &'a [i64]) -> Answer
     requires { ⌜ (rank ≤ 64) × (length (now extents) ≡ rank) ⌝ }
     ensures { λ r. ⌜ r ≡ answered (refusedBy (newRows rank operands (now (extents .entry)) (now (joining .entry)))) ⌝ }
 {
@@ -274,6 +336,15 @@ pub fn check_joining<'a>(
         return Answer::Refused(Refusal::Reach);
     }
     Answer::Served
+}
+
+// The same of the layout in a session's arrays.
+pub fn check_joining<'a>(numbers: Numbers, extents: &'a [u64], joining: &'a [i64]) -> Answer
+    requires { ⌜ (numbers .rank ≤ 64) × (length (now extents) ≡ 64) ⌝ }
+    ensures { λ r. ⌜ r ≡ answered (refusedBy (newRows (numbers .rank) (numbers .operands) (take (numbers .rank) (now (extents .entry))) (now (joining .entry)))) ⌝ }
+{
+    let rank = numbers.rank;
+    check_new(rank, numbers.operands, &extents[..rank], joining)
 }
 
 // Row 21 of an operand that is to leave.

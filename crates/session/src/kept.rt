@@ -1,27 +1,26 @@
 // What a session keeps beside the ranks, worked out of them: the weights, and by these the plan, with the costs of its axes.
 ghost use mathlib.Core.Path.{_≡_};
 ghost use mathlib.Core.Bool.{cond};
-ghost use Prim.Native.Nat.{_≤_};
+ghost use Prim.Native.Nat.{_≤_, _<_};
 ghost use lib.Dec.{leb};
 ghost use lib.ListN.{length, replicate};
 ghost use Rattle.strided.specs.Base.{padded, run};
-ghost use Rattle.strided.specs.Layout.{total, lead as leadOf, extents as extentsOf};
+ghost use Rattle.strided.specs.Layout.{total};
 ghost use Rattle.strided.specs.Machine.{Allowed};
 ghost use Rattle.strided.specs.Order.{follows, orderTo};
-ghost use Rattle.strided.specs.Weights.{weights as weightsOf};
-ghost use Rattle.strided.specs.Fuse.{planAxes};
-ghost use Rattle.strided.specs.Plan.{strideTable};
-ghost use Rattle.laws.specs.Refusals.Accepted.{Accepted};
-ghost use Rattle.session.specs.Tabled.{Tabled};
+ghost use Rattle.strided.specs.Plan.{cutBlocks};
+ghost use Rattle.model.specs.Plannable.{Plannable};
 ghost use Rattle.kernel.specs.Made.{Zeros};
-ghost use Rattle.session.specs.Session.{given};
-ghost use Rattle.session.specs.Made.{KeptIn};
+ghost use Rattle.session.specs.Tabled.{Tabled};
+ghost use Rattle.session.specs.Made.{Laid, AxesIn, AxesAt, Cuttable, BlocksAt};
+use super::Numbers;
 use fuse::compute_costs;
 use fuse::plan_axes;
 use importance::first_weights;
 use importance::sort_by_importance_into;
 use kernel::Aim;
 use layout::lead;
+use layout::purpose_of;
 use layout::total_at_most;
 use model::block_sizes;
 use order::SMALL_TENSOR_THRESHOLD;
@@ -49,65 +48,103 @@ fn axes_by_into<'a>(
     strides: &'a [i64],
     operands: usize,
     purpose: Purpose,
-    table: [[u8; 64]; 8],
+    table: &'a [[u8; 64]; 8],
     weights: &mut [u64; 64],
     es: &mut [u64; 64],
     plan_strides: &mut [i64; 512],
 ) -> usize
-    requires { ⌜ Tabled (now extents) (now strides) table operands ⌝ }
+    requires { ⌜ Tabled (now extents) (now strides) (now table) operands ⌝ }
     requires { ⌜ Zeros (now es) (now «plan_strides») ⌝ }
-    ensures weights { λ _. ⌜ now (weights .exit) ≡ padded 64 0 (weightsOf (now (extents .entry)) operands (now (strides .entry)) (leadOf purpose)) ⌝ }
-    ensures rank { λ r. ⌜ r ≡ length (planAxes (now (extents .entry)) operands (now (strides .entry)) purpose) ⌝ }
-    ensures extents { λ _. ⌜ now (es .exit) ≡ padded 64 0 (extentsOf (planAxes (now (extents .entry)) operands (now (strides .entry)) purpose)) ⌝ }
-    ensures strides { λ _. ⌜ now («plan_strides» .exit) ≡ strideTable (planAxes (now (extents .entry)) operands (now (strides .entry)) purpose) operands ⌝ }
+    ensures { λ r. ⌜ AxesIn (now (extents .entry)) operands (now (strides .entry)) purpose r (now (weights .exit)) (now (es .exit)) (now («plan_strides» .exit)) ⌝ }
 {
-    let w = first_weights(extents, strides, table, operands, lead(purpose));
+    let rows = *table;
+    let w = first_weights(extents, strides, rows, operands, lead(purpose));
     *weights = w;
     let mut order = [0usize; 64];
     order_into(extents, weights, &mut order);
     plan_axes(extents, strides, operands, &order, es, plan_strides)
 }
 
-// Weights, costs and plan of a layout that is not refused, from the table of its ranks. The plan is made in arrays of zeros, and its rank is
-// answered. It is kernel's `plan_into` where the ranks are known.
-pub fn kept_into<'a>(
+// The same of the layout in a session's arrays.
+pub fn axes_kept<'a>(
+    numbers: Numbers,
+    extents: &'a [u64],
+    strides: &'a [i64],
+    table: &'a [[u8; 64]; 8],
+    weights: &mut [u64; 64],
+    es: &mut [u64; 64],
+    plan_strides: &mut [i64; 512],
+) -> usize
+    requires { ⌜ Laid numbers (now extents) (now strides) (now table) ⌝ }
+    requires { ⌜ Zeros (now es) (now «plan_strides») ⌝ }
+    ensures { λ r. ⌜ AxesAt numbers (now (extents .entry)) (now (strides .entry)) r (now (weights .exit)) (now (es .exit)) (now («plan_strides» .exit)) ⌝ }
+{
+    let rank = numbers.rank;
+    let operands = numbers.operands;
+    let count = rank * operands;
+    axes_by_into(
+        &extents[..rank],
+        &strides[..count],
+        operands,
+        purpose_of(numbers.purpose, numbers.chosen),
+        table,
+        weights,
+        es,
+        plan_strides,
+    )
+}
+
+// The blocks of a plan whose axes are in the arrays: at most 1,024 cells are not cut.
+fn blocks_into<'a>(
     aim: Aim,
     extents: &'a [u64],
     sizes: &'a [u64],
-    strides: &'a [i64],
-    table: [[u8; 64]; 8],
-    weights: &mut [u64; 64],
-    costs: &mut [u64; 64],
-    es: &mut [u64; 64],
+    es: &'a [u64; 64],
+    plan_strides: &'a [i64; 512],
+    rank: usize,
     blocks: &mut [u64; 64],
-    plan_strides: &mut [i64; 512],
-) -> usize
+)
     requires { ⌜ Allowed (aim .machine) ⌝ }
-    requires { ⌜ Accepted (now extents) (now sizes) (now strides) (aim .purpose) ⌝ }
-    requires { ⌜ Tabled (now extents) (now strides) table (length (now sizes)) ⌝ }
-    requires { ⌜ Zeros (now es) (now «plan_strides») ⌝ }
-    ensures { λ r. let g = given (aim .machine) (now (extents .entry)) (now (sizes .entry)) (now (strides .entry)) (aim .purpose) in
-        ⌜ KeptIn g r (now (weights .exit)) (now (costs .exit)) (now (es .exit)) (now (blocks .exit)) (now («plan_strides» .exit)) ⌝ }
+    requires { ⌜ (1024 < total (now extents) → Plannable (now sizes) (now es) (now «plan_strides») rank (aim .purpose)) ⌝ }
+    ensures { λ _. ⌜ now (blocks .exit) ≡ cond (leb (total (now (extents .entry))) 1024) (now (es .entry))
+        (cutBlocks (aim .machine) (now (sizes .entry)) (now (es .entry)) (now («plan_strides» .entry)) rank (aim .purpose)) ⌝ }
 {
-    let operands = sizes.len();
-    let purpose = aim.purpose;
     let machine = aim.machine;
-    let rank = axes_by_into(
-        extents,
-        strides,
-        operands,
-        purpose,
-        table,
-        weights,
-        &mut *es,
-        &mut *plan_strides,
-    );
-    let c = compute_costs(plan_strides, operands, rank);
-    *costs = c;
+    let purpose = aim.purpose;
     if total_at_most(extents, SMALL_TENSOR_THRESHOLD) {
         *blocks = *es;
-        return rank;
+        return;
     }
     block_sizes(machine, sizes, es, plan_strides, rank, purpose, blocks);
-    rank
+}
+
+// The costs and blocks of the plan whose axes are in a session's arrays.
+pub fn blocks_kept<'a>(
+    numbers: Numbers,
+    extents: &'a [u64],
+    sizes: &'a [u64],
+    es: &'a [u64; 64],
+    plan_strides: &'a [i64; 512],
+    costs: &mut [u64; 64],
+    blocks: &mut [u64; 64],
+)
+    requires { ⌜ Cuttable numbers (now extents) (now sizes) (now es) (now «plan_strides») ⌝ }
+    ensures { λ _. ⌜ BlocksAt numbers (now (extents .entry)) (now (sizes .entry)) (now (es .entry)) (now («plan_strides» .entry)) (now (costs .exit)) (now (blocks .exit)) ⌝ }
+{
+    let rank = numbers.rank;
+    let operands = numbers.operands;
+    let machine = numbers.machine;
+    let found = compute_costs(plan_strides, operands, numbers.plan_rank);
+    *costs = found;
+    let purpose = purpose_of(numbers.purpose, numbers.chosen);
+    let aim = Aim { purpose, machine };
+    blocks_into(
+        aim,
+        &extents[..rank],
+        &sizes[..operands],
+        es,
+        plan_strides,
+        numbers.plan_rank,
+        blocks,
+    );
 }

@@ -57,28 +57,15 @@ pub fn purpose_without(k: u64, purpose: Purpose) -> Purpose
 
 // ---- a layout's lists, laid into arrays
 
-// The extents, written into an array of zeros.
-pub fn extents_into(extents: &[u64], out: &mut [u64; 64])
-    requires { ⌜ length (now extents) ≤ 64 ⌝ }
-    requires { ⌜ now out ≡ replicate 64 0 ⌝ }
-    ensures { λ _. ⌜ now (out .exit) ≡ padded 64 0 (now (extents .entry)) ⌝ }
+// A list, written into an array of zeros.
+pub fn lay(list: &[u64], out: &mut [u64])
+    requires { ⌜ length (now list) ≤ length (now out) ⌝ }
+    requires { ⌜ now out ≡ padded (length (now out)) 0 [] ⌝ }
+    ensures { λ _. ⌜ now (out .exit) ≡ padded (length (now (out .entry))) 0 (now (list .entry)) ⌝ }
 {
     let mut i: usize = 0;
-    while i < extents.len() {
-        out[i] = extents[i];
-        i += 1;
-    }
-}
-
-// The sizes, written into an array of zeros.
-pub fn sizes_into(sizes: &[u64], out: &mut [u64; 8])
-    requires { ⌜ length (now sizes) ≤ 8 ⌝ }
-    requires { ⌜ now out ≡ replicate 8 0 ⌝ }
-    ensures { λ _. ⌜ now (out .exit) ≡ padded 8 0 (now (sizes .entry)) ⌝ }
-{
-    let mut i: usize = 0;
-    while i < sizes.len() {
-        out[i] = sizes[i];
+    while i < list.len() {
+        out[i] = list[i];
         i += 1;
     }
 }
@@ -172,7 +159,7 @@ pub fn add_row(table: &mut [[u8; 64]; 8], operands: usize, strides: &[i64])
 }
 
 // A row of ranks, put behind the first `at` places of an array that is 0 from there on.
-fn put_row(row: &[u8; 64], at: usize, out: &mut [u64; 512])
+pub fn put_row(row: &[u8; 64], at: usize, out: &mut [u64; 512])
     requires { ⌜ now out ≡ padded 512 0 (take at (now out)) ⌝ }
     requires { ⌜ (at + 64 ≤ 512) × RankRow (now row) ⌝ }
     ensures { λ _. ⌜ now (out .exit) ≡ padded 512 0 (take at (now (out .entry)) ++ now (row .entry)) ⌝ }

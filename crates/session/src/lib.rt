@@ -3,26 +3,28 @@
 use check::check_joining;
 use check::check_leaving;
 use check::holds;
+use check::served;
 use kernel::Aim;
 use layout::check_planning;
-use layout::lead;
-use layout::purpose_of;
-use layouts::kind_of;
-use layouts::purpose_without;
-use moves::begin_into;
-use moves::join_into;
-use moves::leave_into;
+use layouts::lay;
+use moves::add_operand;
+use moves::begun;
+use moves::drop_operand;
+use moves::grown;
+use moves::keep;
+use moves::lay_operands;
+use moves::shrunk;
 use strided::Answer;
 use strided::Machine;
 use strided::Plan;
 use strided::Refusal;
 ghost use mathlib.Core.Path.{_≡_};
 ghost use Prim.Native.Nat.{_*_};
-ghost use lib.ListN.{length, take, replicate};
+ghost use lib.ListN.{take, replicate};
 ghost use Rattle.strided.specs.Refusals.{refusedBy, answered};
 ghost use Rattle.strided.specs.declared.Answer.the-variants.{Served};
 ghost use Rattle.session.specs.Session.{given, begun, joined, left, joinRows, leaveRows};
-ghost use Rattle.session.specs.Made.{TableOf, Places, sessionAt, Lent};
+ghost use Rattle.session.specs.Made.{TableOf, sessionAt, Lent};
 
 pub mod check;
 pub mod compare;
@@ -74,20 +76,18 @@ pub struct Moved {
 // What joining is refused for: rows 10, 20, 3 and 6. The table of the session's ranks is left in `table`, which is lent as zeros.
 fn check_join<'a>(
     numbers: Numbers,
-    extents: &'a [u64],
-    sizes: &'a [u64],
-    strides: &'a [i64],
-    ranks: &'a [u64],
-    weights: &'a [u64],
-    costs: &'a [u64],
-    plan_extents: &'a [u64],
-    blocks: &'a [u64],
-    plan_strides: &'a [i64],
+    extents: &'a [u64; 64],
+    sizes: &'a [u64; 8],
+    strides: &'a [i64; 512],
+    ranks: &'a [u64; 512],
+    weights: &'a [u64; 64],
+    costs: &'a [u64; 64],
+    plan_extents: &'a [u64; 64],
+    blocks: &'a [u64; 64],
+    plan_strides: &'a [i64; 512],
     joining: &'a [i64],
     table: &mut [[u8; 64]; 8],
 ) -> Answer
-    requires { ⌜ (length (now extents) ≡ 64) × ((length (now sizes) ≡ 8) × ((length (now strides) ≡ 512) × (length (now ranks) ≡ 512))) ⌝ }
-    requires { ⌜ Places (now weights) (now costs) (now «plan_extents») (now blocks) (now «plan_strides») ⌝ }
     requires { ⌜ now table ≡ replicate 8 (replicate 64 0) ⌝ }
     ensures told { λ r. let s = sessionAt numbers (now (extents .entry)) (now (sizes .entry)) (now (strides .entry)) (now (ranks .entry))
         (now (weights .entry)) (now (costs .entry)) (now («plan_extents» .entry)) (now (blocks .entry)) (now («plan_strides» .entry)) in
@@ -108,8 +108,7 @@ fn check_join<'a>(
         plan_strides,
         table,
     ) {
-        let rank = numbers.rank;
-        return check_joining(rank, numbers.operands, &extents[..rank], joining);
+        return check_joining(numbers, extents, joining);
     }
     Answer::Refused(Refusal::State)
 }
@@ -117,20 +116,18 @@ fn check_join<'a>(
 // What leaving is refused for: rows 10 and 21. The table is left as in joining.
 fn check_leave<'a>(
     numbers: Numbers,
-    extents: &'a [u64],
-    sizes: &'a [u64],
-    strides: &'a [i64],
-    ranks: &'a [u64],
-    weights: &'a [u64],
-    costs: &'a [u64],
-    plan_extents: &'a [u64],
-    blocks: &'a [u64],
-    plan_strides: &'a [i64],
+    extents: &'a [u64; 64],
+    sizes: &'a [u64; 8],
+    strides: &'a [i64; 512],
+    ranks: &'a [u64; 512],
+    weights: &'a [u64; 64],
+    costs: &'a [u64; 64],
+    plan_extents: &'a [u64; 64],
+    blocks: &'a [u64; 64],
+    plan_strides: &'a [i64; 512],
     operand: u64,
     table: &mut [[u8; 64]; 8],
 ) -> Answer
-    requires { ⌜ (length (now extents) ≡ 64) × ((length (now sizes) ≡ 8) × ((length (now strides) ≡ 512) × (length (now ranks) ≡ 512))) ⌝ }
-    requires { ⌜ Places (now weights) (now costs) (now «plan_extents») (now blocks) (now «plan_strides») ⌝ }
     requires { ⌜ now table ≡ replicate 8 (replicate 64 0) ⌝ }
     ensures told { λ r. let s = sessionAt numbers (now (extents .entry)) (now (sizes .entry)) (now (strides .entry)) (now (ranks .entry))
         (now (weights .entry)) (now (costs .entry)) (now («plan_extents» .entry)) (now (blocks .entry)) (now («plan_strides» .entry)) in
@@ -182,47 +179,44 @@ pub fn begin_lent<'a>(
         ⌜ Lent (begun g) old new (r .answer) ⌝ }
 {
     let purpose = aim.purpose;
-    let machine = aim.machine;
     let answer = check_planning(
         layout_extents,
         layout_sizes,
         layout_strides,
         purpose,
-        machine,
+        aim.machine,
     );
-    match answer {
-        Answer::Refused(refusal) => Moved {
-            answer,
-            numbers: own_numbers,
-        },
-        Answer::Served => {
-            let axes = begin_into(
-                aim,
-                layout_extents,
-                layout_sizes,
-                layout_strides,
-                extents,
-                sizes,
-                strides,
-                ranks,
-                weights,
-                costs,
-                plan_extents,
-                blocks,
-                plan_strides,
-            );
-            let operands = layout_sizes.len();
-            let numbers = Numbers {
-                purpose: kind_of(purpose),
-                chosen: lead(purpose),
-                machine,
-                rank: layout_extents.len(),
-                operands,
-                plan_rank: axes,
-                plan_operands: operands,
-            };
-            Moved { answer, numbers }
-        }
+    if served(answer) {
+        let rank = layout_extents.len();
+        let mut table = [[0u8; 64]; 8];
+        *extents = [0u64; 64];
+        lay(layout_extents, &mut *extents);
+        lay_operands(
+            rank,
+            layout_sizes,
+            layout_strides,
+            &mut table,
+            &mut *sizes,
+            &mut *strides,
+            ranks,
+        );
+        let numbers = keep(
+            begun(aim, rank, layout_sizes.len()),
+            extents,
+            sizes,
+            strides,
+            &table,
+            weights,
+            costs,
+            plan_extents,
+            blocks,
+            plan_strides,
+        );
+        return Moved { answer, numbers };
+    }
+    Moved {
+        answer,
+        numbers: own_numbers,
     }
 }
 
@@ -263,44 +257,34 @@ pub fn join_lent<'a>(
         joining,
         &mut table,
     );
-    match answer {
-        Answer::Refused(refusal) => Moved { answer, numbers },
-        Answer::Served => {
-            let purpose = purpose_of(numbers.purpose, numbers.chosen);
-            let machine = numbers.machine;
-            let aim = Aim { purpose, machine };
-            let axes = join_into(
-                aim,
-                numbers,
-                extents,
-                size,
-                joining,
-                table,
-                sizes,
-                strides,
-                ranks,
-                weights,
-                costs,
-                plan_extents,
-                blocks,
-                plan_strides,
-            );
-            let operands = numbers.operands + 1;
-            let grown = Numbers {
-                purpose: numbers.purpose,
-                chosen: numbers.chosen,
-                machine,
-                rank: numbers.rank,
-                operands,
-                plan_rank: axes,
-                plan_operands: operands,
-            };
-            Moved {
-                answer,
-                numbers: grown,
-            }
-        }
+    if served(answer) {
+        add_operand(
+            numbers,
+            size,
+            joining,
+            &mut table,
+            &mut *sizes,
+            &mut *strides,
+            ranks,
+        );
+        let after = keep(
+            grown(numbers),
+            extents,
+            sizes,
+            strides,
+            &table,
+            weights,
+            costs,
+            plan_extents,
+            blocks,
+            plan_strides,
+        );
+        return Moved {
+            answer,
+            numbers: after,
+        };
     }
+    Moved { answer, numbers }
 }
 
 // OPERAND `operand` LEAVES a lent session, and the later ones move up: rows 10, 21. The ranks of those that stay are kept. On a refusal every
@@ -339,42 +323,31 @@ pub fn leave_lent<'a>(
         operand,
         &mut table,
     );
-    match answer {
-        Answer::Refused(refusal) => Moved { answer, numbers },
-        Answer::Served => {
-            let before = purpose_of(numbers.purpose, numbers.chosen);
-            let purpose = purpose_without(operand, before);
-            let machine = numbers.machine;
-            let aim = Aim { purpose, machine };
-            let axes = leave_into(
-                aim,
-                numbers,
-                extents,
-                operand as usize,
-                &table,
-                sizes,
-                strides,
-                ranks,
-                weights,
-                costs,
-                plan_extents,
-                blocks,
-                plan_strides,
-            );
-            let operands = numbers.operands - 1;
-            let shrunk = Numbers {
-                purpose: kind_of(purpose),
-                chosen: lead(purpose),
-                machine,
-                rank: numbers.rank,
-                operands,
-                plan_rank: axes,
-                plan_operands: operands,
-            };
-            Moved {
-                answer,
-                numbers: shrunk,
-            }
-        }
+    if served(answer) {
+        drop_operand(
+            numbers,
+            operand as usize,
+            &mut table,
+            &mut *sizes,
+            &mut *strides,
+            ranks,
+        );
+        let after = keep(
+            shrunk(numbers, operand),
+            extents,
+            sizes,
+            strides,
+            &table,
+            weights,
+            costs,
+            plan_extents,
+            blocks,
+            plan_strides,
+        );
+        return Moved {
+            answer,
+            numbers: after,
+        };
     }
+    Moved { answer, numbers }
 }

@@ -7,7 +7,6 @@ use Rattle.session.specs.declared.Session.{Session}
 use Rattle.session.specs.Session.{newRows}
 use Rattle.session.specs.Made.{LayoutRight, sessionAt}
 use Rattle.session.proofs.Holding.{right-layout}
-use Rattle.session.proofs.Moving.{g-rank}
 use Rattle.session.proofs.Answering.{past-10, at-10}
 use borrow.Author.Needs.{needs}
 use Rattle.session.proofs.check_join.Statement.{statement}
@@ -15,7 +14,7 @@ use Rattle.session.proofs.check_join.Tie as tie
 
 -- back to the entry
 abbrev start : tie.Then1 → tie.Start
-start t = t .before .before .before .before .before .before .before .before .before .before
+start t = t .before .before .before
 
 abbrev session : tie.Start → Session
 session s = let a = s .args in sessionAt (a .numbers) (a .extents .now) (a .sizes .now) (a .strides .now) (a .ranks .now) (a .weights .now) (a .costs .now) (a .plan-extents .now) (a .blocks .now) (a .plan-strides .now)
@@ -26,11 +25,8 @@ right t = let a = start t .args in right-layout (a .numbers) (a .extents .now) (
 holds-requires : tie.Need-holds-requires
 holds-requires c κs = search needs
 
-slice-aggregate-check-joining : tie.Need-slice-aggregate-check-joining
-slice-aggregate-check-joining c = let t = c .before in let a = start t .args in sym (g-rank (a .numbers) (a .extents .now) (a .sizes .now) (a .strides .now) (right t))
-
 check-joining-requires : tie.Need-check-joining-requires
-check-joining-requires c κs = let t = c .before in let a = start t .args in (right t .axes, g-rank (a .numbers) (a .extents .now) (a .sizes .now) (a .strides .now) (right t))
+check-joining-requires c κs = (right (c .before) .axes, c .check-joining-arg .given .0)
 
 returns : tie.Need-returns
 returns c =
@@ -42,16 +38,9 @@ returns c =
 returns-2 : tie.Need-returns-2
 returns-2 c =
     let h = c .before in
-    let s = h .before .before .before .before .before .before .before .before .before in
+    let s = h .before .before in
     let a = s .args in
     (sym (at-10 (session s) (h .holds .ensures .0) (newRows (a .numbers .rank) (a .numbers .operands) (take (a .numbers .rank) (a .extents .now)) (a .joining .now)) (c .if1 .left)), (λ e. let z : _≡_ {A = ℕ} 0 1 = cc e in absurd (omega arith)))
 
 pub check-join-spec : {M : Type 1} → statement M
-check-join-spec =
-    tie.close
-    (tie.spec
-    holds-requires
-    slice-aggregate-check-joining
-    check-joining-requires
-    returns
-    returns-2)
+check-join-spec = tie.close (tie.spec holds-requires check-joining-requires returns returns-2)

@@ -23,7 +23,7 @@ check-leaving-requires c κs = search needs
 returns : tie.Need-returns
 returns c =
     let t = c .before in
-    let s = t .before .before .before .before .before .before .before .before .before .before in
+    let s = t .before .before .before in
     let a = s .args in
     let h = t .before .holds .ensures in
     (c .check-leaving .ensures ∙ sym (past-10 (session s) (h .0) (row21 (a .numbers .operands) (a .operand) ∷ []) (t .if1 .taken)), (λ e. h .1 (t .if1 .taken)))
@@ -31,7 +31,7 @@ returns c =
 returns-2 : tie.Need-returns-2
 returns-2 c =
     let h = c .before in
-    let s = h .before .before .before .before .before .before .before .before .before in
+    let s = h .before .before in
     let a = s .args in
     (sym (at-10 (session s) (h .holds .ensures .0) (row21 (a .numbers .operands) (a .operand) ∷ []) (c .if1 .left)), (λ e. let z : _≡_ {A = ℕ} 0 1 = cc e in absurd (omega arith)))
 

@@ -1,113 +1,89 @@
 -- `session::leave_lent` meets its contract. Assumes nothing.
-use mathlib.Core.Path.{_≡_, refl, sym, _∙_}
-use native.Mathlib.Omega.{arith}
+use mathlib.Core.Path.{_≡_, sym, _∙_}
+use borrow.Author.Needs.{needs}
 use Rattle.strided.specs.Refusals.{refusedBy, answered}
 use Rattle.strided.specs.declared.Answer.the-variants.{Served}
 use Rattle.session.specs.declared.Session.{Session}
 use Rattle.session.specs.Session.{freshOf, givenOf, withoutOperand, leaveRows, left}
 use Rattle.session.specs.Made.{sessionAt}
-use Rattle.session.proofs.Answering.{lent-refused, lent-served, leaving-of, leave-session}
-use borrow.Author.Needs.{needs}
+use Rattle.session.proofs.Answering.{lent-refused, lent-served, leave-stands, leave-at, leave-few, leave-others, left-layout, left-table, left-session}
 use Rattle.session.proofs.leave_lent.Statement.{statement}
 use Rattle.session.proofs.leave_lent.Tie as tie
 
--- back to the entry
-abbrev start : tie.After-check-leave → tie.Start
-start k = k .before .before .before .before .before .before .before .before .before .before .before .before .before .before .before .before .before .before .before
+-- back to the check, and to the entry
+abbrev checked : tie.Then1 → tie.After-check-leave
+checked b = b .before .before
 
-abbrev checked : tie.After-enum-told → tie.After-check-leave
-checked t = t .before .before
+abbrev start : tie.After-check-leave → tie.Start
+start k = k .before .before .before .before .before .before .before .before .before .before
 
 abbrev session : tie.Start → Session
 session s = let a = s .args in sessionAt (a .numbers) (a .extents .now) (a .sizes .now) (a .strides .now) (a .ranks .now) (a .weights .now) (a .costs .now) (a .plan-extents .now) (a .blocks .now) (a .plan-strides .now)
 
 -- the rows let the call through
-served : (t : tie.After-enum-told) → let s = start (checked t) in let a = s .args in answered (refusedBy (leaveRows (session s) (a .operand))) ≡ Served
-served t = sym (checked t .check-leave .ensures .0) ∙ t .enum-told .given .1
+told : (b : tie.Then1) → checked b .check-leave .result ≡ Served
+told b = b .before .served .ensures .yes (b .if1 .taken)
+
+served : (b : tie.Then1) → let s = start (checked b) in answered (refusedBy (leaveRows (session s) (s .args .operand))) ≡ Served
+served b = sym (checked b .check-leave .ensures .0) ∙ told b
 
 check-leave-requires : tie.Need-check-leave-requires
-check-leave-requires c κs =
-    let s = c .before in
-    let b = s .before .before in
-    let e = b .before .before in
-    let k = e .before .before in
-    let w = k .before .before in
-    let r = w .before .before in
-    let t = r .before .before in
-    let z = t .before .before in
-    let x = z .before .before in (
-      (x .check-leave-arg .given .0, (z .check-leave-arg3 .given .0, (t .check-leave-arg5 .given .0, r .check-leave-arg7 .given .0))),
-      (record { weights = w .check-leave-arg9 .given .0; costs = k .check-leave-arg11 .given .0; extents = e .check-leave-arg13 .given .0; blocks = b .check-leave-arg15 .given .0; strides = s .check-leave-arg17 .given .0 }, refl),
+check-leave-requires c κs = search needs
+
+served-requires : tie.Need-served-requires
+served-requires c κs = search needs
+
+drop-operand-requires : tie.Need-drop-operand-requires
+drop-operand-requires c κs =
+    let b = c .before .before .before .before in
+    let k = checked b in
+    let a = start k .args in (
+      (leave-at (a .numbers) (a .extents .now) (a .sizes .now) (a .strides .now) (a .ranks .now) (a .weights .now) (a .costs .now) (a .plan-extents .now) (a .blocks .now) (a .plan-strides .now) (a .operand) (served b), leave-few (a .numbers) (a .extents .now) (a .sizes .now) (a .strides .now) (a .ranks .now) (a .weights .now) (a .costs .now) (a .plan-extents .now) (a .blocks .now) (a .plan-strides .now) (a .operand) (served b)),
+      leave-stands (a .numbers) (a .extents .now) (a .sizes .now) (a .strides .now) (a .ranks .now) (a .weights .now) (a .costs .now) (a .plan-extents .now) (a .blocks .now) (a .plan-strides .now) (a .operand) (served b) (k .check-leave .ensures .1 (told b)),
     )
 
-enum-known-answer : tie.Need-enum-known-answer
-enum-known-answer c = search needs
+shrunk-requires : tie.Need-shrunk-requires
+shrunk-requires c κs = let b = c .before .before .before .before .before in let a = start (checked b) .args in leave-others (a .numbers) (a .extents .now) (a .sizes .now) (a .strides .now) (a .ranks .now) (a .weights .now) (a .costs .now) (a .plan-extents .now) (a .blocks .now) (a .plan-strides .now) (a .operand) (served b)
 
-enum-told : tie.Need-enum-told
-enum-told c = search needs
-
-purpose-of-requires : tie.Need-purpose-of-requires
-purpose-of-requires c κs = search needs
-
-purpose-without-requires : tie.Need-purpose-without-requires
-purpose-without-requires c κs = search needs
-
-leave-into-requires : tie.Need-leave-into-requires
-leave-into-requires c κs =
-    let w = c .before .before .before .before .before .before .before .before .before .before in
-    let t = w .before .before in
-    let k = checked t in
-    let s = start k in
-    let a = s .args in
-    (leaving-of (a .numbers) (a .extents .now) (a .sizes .now) (a .strides .now) (a .ranks .now) (a .weights .now) (a .costs .now) (a .plan-extents .now) (a .blocks .now) (a .plan-strides .now) (a .operand) (served t) _ _ _ refl (w .before .purpose-of .ensures) (w .purpose-without .ensures), k .check-leave .ensures .1 (t .enum-told .given .1))
-
-sub-operands : tie.Need-sub-operands
-sub-operands c =
-    let t = c .before .before .before .before .before .before .before .before .before .before .before .before .before .before in
-    let s = start (checked t) in
-    let a = s .args in
-    let r = leaving-of (a .numbers) (a .extents .now) (a .sizes .now) (a .strides .now) (a .ranks .now) (a .weights .now) (a .costs .now) (a .plan-extents .now) (a .blocks .now) (a .plan-strides .now) (a .operand) (served t) _ _ _ refl refl refl .two in
-    omega (arith, r)
-
-kind-of-requires : tie.Need-kind-of-requires
-kind-of-requires c κs = search needs
-
-lead-requires : tie.Need-lead-requires
-lead-requires c κs = search needs
+keep-requires : tie.Need-keep-requires
+keep-requires c κs =
+    let m = c .before .before .before .before .before .before .before .before in
+    let o = m .before in
+    let b = o .before .before .before .before .before in
+    let a = start (checked b) .args in (
+      left-layout (a .numbers) (a .extents .now) (a .sizes .now) (a .strides .now) (a .ranks .now) (a .weights .now) (a .costs .now) (a .plan-extents .now) (a .blocks .now) (a .plan-strides .now) (a .operand) (served b) _ (m .shrunk .ensures) (o .drop-operand .ensures),
+      left-table (a .numbers) (a .extents .now) (a .sizes .now) (a .strides .now) (a .ranks .now) (a .weights .now) (a .costs .now) (a .plan-extents .now) (a .blocks .now) (a .plan-strides .now) (a .operand) (served b) _ (m .shrunk .ensures) (o .drop-operand .ensures),
+    )
 
 returns : tie.Need-returns
 unfolding left
 returns c =
-    let k = c .before .before .before in
+    let m = c .before .before .before .before .before .before .before .before .before in
+    let o = m .before in
+    let b = o .before .before .before .before .before in
+    let k = checked b in
     let s = start k in
     let a = s .args in
-    lent-refused (refusedBy (leaveRows (session s) (a .operand))) (freshOf (withoutOperand (givenOf (session s)) (a .operand))) (session s) (k .check-leave .ensures .0) (c .before .answer .given .1)
+    lent-served (refusedBy (leaveRows (session s) (a .operand))) (freshOf (withoutOperand (givenOf (session s)) (a .operand))) (session s) (k .check-leave .ensures .0) (told b)
+    (left-session (a .numbers) (a .extents .now) (a .sizes .now) (a .strides .now) (a .ranks .now) (a .weights .now) (a .costs .now) (a .plan-extents .now) (a .blocks .now) (a .plan-strides .now) (a .operand) (served b) _ (m .shrunk .ensures) (o .drop-operand .ensures) _ _ _ _ _ _ (c .keep .ensures .0) (c .keep .ensures .1))
 
 returns-2 : tie.Need-returns-2
 unfolding left
 returns-2 c =
-    let kd = c .before in
-    let j = kd .before .before in
-    let w = j .before .before .before .before .before .before .before .before .before .before .before in
-    let t = w .before .before in
-    let k = checked t in
+    let v = c .before in
+    let k = v .before in
     let s = start k in
     let a = s .args in
-    lent-served (refusedBy (leaveRows (session s) (a .operand))) (freshOf (withoutOperand (givenOf (session s)) (a .operand))) (session s) (k .check-leave .ensures .0) (t .enum-told .given .1)
-    (leave-session (a .numbers) (a .extents .now) (a .sizes .now) (a .strides .now) (a .ranks .now) (a .weights .now) (a .costs .now) (a .plan-extents .now) (a .blocks .now) (a .plan-strides .now) (a .operand) (served t) _ _ _ (w .before .purpose-of .ensures) (w .purpose-without .ensures) (j .leave-into .ensures) (kd .kind-of .ensures) (c .lead .ensures) refl refl refl refl)
+    lent-refused (refusedBy (leaveRows (session s) (a .operand))) (freshOf (withoutOperand (givenOf (session s)) (a .operand))) (session s) (k .check-leave .ensures .0) (v .served .ensures .no (c .if1 .left))
 
 pub leave-lent-spec : {M : Type 1} → statement M
 leave-lent-spec =
     tie.close
     (tie.spec
     check-leave-requires
-    enum-known-answer
-    enum-told
-    purpose-of-requires
-    purpose-without-requires
-    leave-into-requires
-    sub-operands
-    kind-of-requires
-    lead-requires
+    served-requires
+    drop-operand-requires
+    shrunk-requires
+    keep-requires
     returns
     returns-2)

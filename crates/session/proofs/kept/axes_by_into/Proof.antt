@@ -16,7 +16,7 @@ use Rattle.session.proofs.kept.axes_by_into.Tie as tie
 
 -- back from the order to the entry
 abbrev start : tie.After-order-into → tie.Start
-start o = o .before .before .before .before .before .before
+start o = o .before .before .before .before .before .before .before
 
 -- the weights, and the order that they give
 weighed : (o : tie.After-order-into) → let a = start o .args in o .before .before .before .first-weights .result ≡ padded 64 0 (weights (a .extents .now) (a .operands) (a .strides .now) (lead (a .purpose)))
@@ -36,9 +36,9 @@ lead-requires c κs = search needs
 
 first-weights-requires : tie.Need-first-weights-requires
 first-weights-requires c κs =
-    let s = c .before .before in
+    let s = c .before .before .before in
     let a = s .args in
-    tabled-ranked (a .extents .now) (a .strides .now) (a .table) (a .operands) (s .pre .0)
+    tabled-ranked (a .extents .now) (a .strides .now) (a .table .now) (a .operands) (s .pre .0)
 
 order-into-requires : tie.Need-order-into-requires
 order-into-requires c κs = search needs
@@ -59,16 +59,13 @@ returns c =
     let es = a .extents .now in
     let ss = a .strides .now in
     let few = s .pre .0 .fits .rank-few in
-    let found = c .plan-axes .ensures in (
-      weighed o,
-      (
-        as-planned es (a .operands) ss (a .purpose) few (ordered o) length (found .0),
-        (
-          as-planned es (a .operands) ss (a .purpose) few (ordered o) (λ xs. padded 64 0 (extents xs)) (found .1 .0),
-          as-planned es (a .operands) ss (a .purpose) few (ordered o) (λ xs. strideTable xs (a .operands)) (found .1 .1),
-        ),
-      ),
-    )
+    let found = c .plan-axes .ensures in
+    record {
+      weights = weighed o;
+      count = as-planned es (a .operands) ss (a .purpose) few (ordered o) length (found .0);
+      extents = as-planned es (a .operands) ss (a .purpose) few (ordered o) (λ xs. padded 64 0 (extents xs)) (found .1 .0);
+      strides = as-planned es (a .operands) ss (a .purpose) few (ordered o) (λ xs. strideTable xs (a .operands)) (found .1 .1);
+    }
 
 pub axes-by-into-spec : {M : Type 1} → statement M
 axes-by-into-spec =

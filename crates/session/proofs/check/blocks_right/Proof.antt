@@ -1,0 +1,51 @@
+-- `session::check::blocks_right` meets its contract. Assumes nothing.
+use mathlib.Core.Path.{_≡_, sym, _∙_}
+use lib.ListN.{length}
+use borrow.Author.Needs.{needs}
+use Rattle.session.proofs.Holding.{blocks-places, blocks-decide}
+use Rattle.session.proofs.check.blocks_right.Statement.{statement}
+use Rattle.session.proofs.check.blocks_right.Tie as tie
+
+-- back to the entry
+abbrev start : tie.After-blocks-kept → tie.Start
+start k = k .before .before .before .before .before
+
+-- the fresh arrays have their places still
+places : (k : tie.After-blocks-kept) → let l = k .blocks-kept .last in (length (l .1 .1 .1 .1 .1 .0) ≡ 64) × (length (l .1 .1 .1 .1 .1 .1 .0) ≡ 64)
+places k =
+    let s = start k in
+    let a = s .args in
+    blocks-places (a .numbers) (a .extents .now) (a .sizes .now) (a .plan-extents .now) (a .plan-strides .now) (s .pre .places) (k .blocks-kept .ensures)
+
+blocks-kept-requires : tie.Need-blocks-kept-requires
+blocks-kept-requires c κs = search needs
+
+slice-aggregate-same : tie.Need-slice-aggregate-same
+slice-aggregate-same c = sym (places (c .before) .0)
+
+same-requires : tie.Need-same-requires
+same-requires c κs = places (c .before .before) .0 ∙ sym (c .same-arg .given .0)
+
+slice-aggregate-same-2 : tie.Need-slice-aggregate-same-2
+slice-aggregate-same-2 c = sym (places (c .before .before .before .before) .1)
+
+same-requires-2 : tie.Need-same-requires-2
+same-requires-2 c κs = places (c .before .before .before .before .before) .1 ∙ sym (c .same-arg2 .given .0)
+
+returns : tie.Need-returns
+returns c =
+    let f = c .before .before .before in
+    let k = f .before .before .before in
+    let a = start k .args in
+    blocks-decide (a .numbers) (a .extents .now) (a .sizes .now) (a .plan-extents .now) (a .plan-strides .now) (k .blocks-kept .ensures) (a .costs .now) (a .blocks .now) (f .same .ensures) (c .same2 .ensures)
+
+pub blocks-right-spec : {M : Type 1} → statement M
+blocks-right-spec =
+    tie.close
+    (tie.spec
+    blocks-kept-requires
+    slice-aggregate-same
+    same-requires
+    slice-aggregate-same-2
+    same-requires-2
+    returns)
