@@ -4,11 +4,12 @@ use mathlib.Core.Path.{_≡_, refl, sym, ap, _∙_, subst}
 use mathlib.Core.Bool.{Bool, true, false}
 use mathlib.Core.List.{List, [], _∷_, _++_}
 use mathlib.Core.Option.{none}
-use Prim.Native.Nat.{ℕ, _+_, _-_, _^_, _≤_, _<_}
+use Prim.Native.Nat.{ℕ, zero, suc, _+_, _-_, _*_, _^_, _≤_, _<_}
+use native.Mathlib.Nat.{zero-div, zero-mul}
 use native.Mathlib.Omega.{arith}
 use lib.IntN.{ℤ, pos}
 use lib.Ieee.{Float}
-use lib.ListN.{length, getD, drop, replicate, length-map, length-take}
+use lib.ListN.{length, getD, drop, set, replicate, length-map, length-take}
 use borrow.Author.Tests.{ltb-false}
 use Rattle.strided.specs.Base.{over}
 use Rattle.strided.specs.Layout.{hasZero, total, maxU}
@@ -25,8 +26,8 @@ use Rattle.laws.specs.Refusals.Zeros.{row5-total}
 use Rattle.laws.specs.Text.Totals.{walk-blocks}
 use Rattle.laws.specs.Walk.Placed.{Placed, placedFrom, placedWalk, placed-over}
 use Rattle.laws.specs.Walk.Steps.{Ready, ready}
-use Rattle.advance.specs.Axis.{widthsTo, startsTo}
-use Rattle.advance.proofs.Reached.{widths-pos}
+use Rattle.advance.specs.Filled.{filledTo}
+use Rattle.advance.specs.Axis.{widthsTo, startOf, startsTo}
 use Rattle.walk.specs.Lent.{Taken}
 use Rattle.walk.proofs.Stepping.{begun-taken}
 use Rattle.walker.specs.declared.Way.{Way}
@@ -45,6 +46,24 @@ use Rattle.summary.specs.Blocks.{runIn, visits-placed, laid-rows}
 -- the walk's first state
 abbrev pub firstOf : ℤ → Bool → Walk
 firstOf z ended = walkOf ended (replicate 64 0) (z ∷ replicate 7 (pos 0))
+
+-- at the counters 0 every tile starts at 0
+zero-at : (n k : ℕ) → getD {A = ℕ} (replicate n 0) k 0 ≡ 0
+zero-at zero k = refl
+zero-at (suc n) zero = refl
+zero-at (suc n) (suc k) = zero-at n k
+
+zero-set : (n k : ℕ) → set {A = ℕ} (replicate n 0) k 0 ≡ replicate n 0
+zero-set zero k = refl
+zero-set (suc n) zero = refl
+zero-set (suc n) (suc k) = ap (λ (l : List ℕ). 0 ∷ l) (zero-set n k)
+
+pub starts-none : (w : List ℕ) (n : ℕ) → replicate 64 0 ≡ startsTo w (replicate 64 0) n
+unfolding filledTo
+starts-none w zero = refl
+starts-none w (suc n) =
+    let e : startOf (getD w n 0) (getD (replicate 64 0) n 0) ≡ 0 = ap (startOf (getD w n 0)) (zero-at 64 n) ∙ ap (λ (m : ℕ). m * getD w n 0) (zero-div (getD w n 0)) ∙ zero-mul (getD w n 0) in
+    sym (ap (λ (l : List ℕ). set l n (startOf (getD w n 0) (getD (replicate 64 0) n 0))) (sym (starts-none w n)) ∙ ap (set (replicate 64 0) n) e ∙ zero-set 64 n)
 
 -- ---- a walk that begins at z
 
@@ -93,9 +112,6 @@ module _ {p : Plan} {z : ℤ} {cells : List Float} (h : Summable p z cells) wher
     pub first-taken : Taken p (firstOf z false)
     first-taken = rw (begun e) (begun-taken p (z ∷ []) summable-ready (h .sized))
 
-    pub widths-some : {w : List ℕ} → w ≡ widthsTo (p .rank) (p .extents) (p .blocks) (p .rank) → (i : ℕ) → i < p .rank → 0 < getD w i 0
-    widths-some is i l = rw is (widths-pos p (z ∷ []) summable-ready (h .sized) i l)
-
 -- ---- the walk before block n: what is ahead of the summary s
 
 -- the offsets of the cells from block n on
@@ -118,14 +134,13 @@ no-cells {rank} {E} {B} {S} {z} {cells} h e =
 
 module _ {rank : ℕ} {E B : List ℕ} {S : List ℤ} {z : ℤ} {cells : List Float} where
   pub summing-start : (h : Summable (planOf rank 1 E B S) z cells) (e : false ≡ hasZero (planExtents (planOf rank 1 E B S))) {w : List ℕ} → w ≡ widthsTo rank E B rank → {y : Way} → Leads y rank 1 E w
-      → {t : List ℕ} → t ≡ startsTo w (replicate 64 0) rank → {s : Summary} → s ≡ nothingMet
-      → Summing rank E B S z cells y w 0 true s t (replicate 64 0) (z ∷ replicate 7 (pos 0))
-  summing-start h e is l f n =
+      → {s : Summary} → s ≡ nothingMet → Summing rank E B S z cells y w 0 true s (replicate 64 0) (replicate 64 0) (z ∷ replicate 7 (pos 0))
+  summing-start h e {w} is l n =
       rw n
       (record {
         summable = h;
         some = e;
-        walked = walked-none is l (first-taken h e) f;
+        walked = walked-none is l (first-taken h e) (starts-none w rank);
         ahead = subst (Ahead cells nothingMet) (visits-placed rank E B S z) (all-ahead h);
         goes = ap (met cells nothingMet) (sym (visits-placed rank E B S z));
       })

@@ -2,17 +2,18 @@
 -- met lies in the slice. And the rows, as the code tells them.
 -- Assumes nothing.
 use mathlib.Core.Path.{_≡_, refl, sym, ap, _∙_, subst}
-use mathlib.Core.Bool.{Bool, true, false, cond}
+use mathlib.Core.Bool.{Bool, true, false, cond, true≢false, false≢true}
 use mathlib.Core.List.{List, [], _∷_, map}
 use mathlib.Core.Option.{Option, none, some}
-use Prim.Native.Nat.{ℕ, _+_, _*_, _≤_, _<_}
+use Prim.Native.Nat.{ℕ, _+_, _*_, _^_, _≤_, _<_}
 use native.Mathlib.Nat.{mul-one, zero-mul}
 use native.Mathlib.Omega.{arith}
-use lib.IntN.{ℤ, pos, _+ℤ_}
+use lib.IntN.{ℤ, pos, negsuc, _+ℤ_}
 use lib.Ieee.{Float}
 use lib.ListN.{length, getD, take, drop}
 use lib.Seq.{take-all}
-use Rattle.strided.specs.Layout.{NoZero, Within, hasZero, dot, reach, maxI, extents, row, strideRow}
+use borrow.Author.Tests.{ltb-true, lt-ltb}
+use Rattle.strided.specs.Layout.{NoZero, Within, hasZero, inI64, dot, reach, maxI, extents, row, strideRow}
 use Rattle.strided.specs.Refusals.{refusedBy, planningRows, planningRefused, row9}
 use Rattle.strided.specs.Fuse.{planAxes}
 use Rattle.strided.specs.Index.{originalIndex}
@@ -27,7 +28,7 @@ use Rattle.strided.specs.declared.Plan.{Plan}
 use Rattle.strided.specs.declared.Planned.{Planned}
 use Rattle.strided.specs.declared.Begun.{Begun}
 use Rattle.strided.specs.declared.Answer.the-variants.{Served, Refused}
-use Rattle.laws.specs.Base.Layouts.{table-row}
+use Rattle.laws.specs.Base.Layouts.{table-row, within-total, total-nozero}
 use Rattle.laws.specs.Base.Lists.{All, all-map}
 use Rattle.laws.specs.Fuse.Maps.{plan-nozero, orig-in, same-dot}
 use Rattle.laws.specs.Plan.Answers.{planned-served}
@@ -38,6 +39,7 @@ use Rattle.laws.specs.Refusals.Accepted.{Accepted, accepted}
 use Rattle.laws.specs.Refusals.Record.{planning-layout}
 use Rattle.laws.specs.Refusals.Rows.{rows-refuse, rows-pass}
 use Rattle.laws.specs.Text.Totals.{planned-extents}
+use Rattle.laws.specs.Walk.Row9.{row9-leaves}
 use Rattle.laws.specs.Walk.Steps.{served-walk}
 use Rattle.advance.specs.Sized.{Sized}
 use Rattle.kernel.specs.Made.{Made}
@@ -50,6 +52,11 @@ use Rattle.summary.specs.Visits.{cellSizes, ordering, summaryPlan, indic
 use Rattle.summary.specs.Indices.{indices-within}
 use Rattle.summary.specs.Ahead.{AllIn, Summable, met}
 use Rattle.summary.specs.Rows.{row22, summaryRefused, summarizedOr, cellsMet, summarized}
+
+-- the offset of a cell is a number of 64 bits
+in-64 : (n : ℕ) (o : ℤ) → n ≤ 2 ^ 63 → inCells n o ≡ true → inI64 o ≡ true
+in-64 n (pos k) l h = let b = ltb-true k n h in lt-ltb k (2 ^ 63) (omega (arith, b, l))
+in-64 n (negsuc k) l h = absurd (false≢true h)
 
 taken-answer : (p : Plan) (zs : List ℤ) → beginRefused p zs ≡ none → begunAt p zs .answer ≡ Served
 unfolding begunAt
@@ -115,6 +122,23 @@ module _ (mc : Machine) (es : List ℕ) (ss : List ℤ) where
 
     pub if-begins : (z : ℤ) → row9 es 1 (strideRow ss (length es)) (z ∷ []) .applies ≡ false → beginRefused (summaryPlan mc es ss) (z ∷ []) ≡ none
     if-begins z q = begins-from mc es cellSizes ss ordering h (P .blocks) (z ∷ []) refl q
+
+    -- where row 22 passes row 9 does: the offset of a cell is a number of 64 bits
+    pub inside-stays : (z : ℤ) (n : ℕ) → n ≤ 2 ^ 63 → outside es ss z n ≡ false → row9 es 1 (strideRow ss (length es)) (z ∷ []) .applies ≡ false
+    inside-stays z n l q = go (row9 es 1 (strideRow ss (length es)) (z ∷ []) .applies) refl
+      where
+        rows : (k : ℕ) → k < 1 → length (strideRow ss (length es) k) ≡ length es
+        rows k b = let e : k ≡ 0 = omega arith in ap (λ (j : ℕ). length (strideRow ss (length es) j)) e ∙ ap length one-row ∙ strides-long
+
+        go : (b : Bool) → row9 es 1 (strideRow ss (length es)) (z ∷ []) .applies ≡ b → b ≡ false
+        go false e = refl
+        go true e =
+            let o = row9-leaves es 1 (strideRow ss (length es)) (z ∷ []) rows .0 e in
+            let k : o .operand ≡ 0 = omega (arith, o .there) in
+            let t = all-cells es ss z n strides-long (total-nozero es (within-total es (o .index) (o .inside))) q (o .index) (o .inside) in
+            let f : inI64 (z +ℤ dot (o .index) (strideRow ss (length es) 0)) ≡ false =
+            subst (λ (j : ℕ). inI64 (getD (z ∷ []) j (pos 0) +ℤ dot (o .index) (strideRow ss (length es) j)) ≡ false) k (o .outside) in
+            absurd (true≢false (sym (in-64 n (z +ℤ dot (o .index) ss) l t) ∙ ap (λ (ts : List ℤ). inI64 (z +ℤ dot (o .index) ts)) (sym one-row) ∙ f))
 
     pub plan-sized : Sized (summaryPlan mc es ss)
     plan-sized =

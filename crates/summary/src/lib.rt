@@ -43,7 +43,8 @@ fn refused(refusal: Refusal) -> Summarized
     }
 }
 
-// A layout that planning does not refuse: rows 9 and 22, and the summary. Row 9 is told by the plan, since its offsets are the layout's.
+// A layout that planning does not refuse: rows 9 and 22, and the summary. Where every cell lies in the slice no offset leaves 64 bits, so row 9
+// is asked only where one does not. It is told by the plan, since its offsets are the layout's.
 fn summarize_served<'a, 'b>(
     extents: &'a [u64],
     strides: &'a [i64],
@@ -71,17 +72,19 @@ fn summarize_served<'a, 'b>(
         &mut blocks,
         &mut table,
     );
-    let starts = [start];
-    let begun = begin_on(rank, 1, &es, &blocks, &table, &starts);
-    let answer = begun.answer;
-    match answer {
-        Answer::Refused(refusal) => refused(Refusal::Offsets),
-        Answer::Served => {
-            if cell_outside(extents, strides, start, cells.len() as u64) {
-                return refused(Refusal::Slice);
-            }
-            let summary = summary_on(rank, &es, &blocks, &table, start, cells);
-            Summarized { answer, summary }
+    if cell_outside(extents, strides, start, cells.len() as u64) {
+        let starts = [start];
+        let begun = begin_on(rank, 1, &es, &blocks, &table, &starts);
+        let answer = begun.answer;
+        match answer {
+            Answer::Refused(refusal) => refused(Refusal::Offsets),
+            Answer::Served => refused(Refusal::Slice),
+        }
+    } else {
+        let summary = summary_on(rank, &es, &blocks, &table, start, cells);
+        Summarized {
+            answer: Answer::Served,
+            summary,
         }
     }
 }

@@ -7,8 +7,7 @@ ghost use Rattle.summary.specs.Ahead.{met, Summable};
 use super::cell::Summary;
 use super::cell::nothing_met;
 use super::run::with_blocks;
-use advance::tile_starts;
-use advance::widths;
+use advance::widths_into;
 use states::no_block;
 use walker::ALL;
 use walker::moves_of;
@@ -16,7 +15,7 @@ use walker::next_stretch;
 use walker::way_of;
 
 // THE SUMMARY of the cells that a plan's walk meets from `start` on. With a zero extent there is no block, and how far a stretch would move
-// need not fit. `number` is that of the block ahead.
+// need not fit. `number` is that of the block ahead; at the counters 0 every tile starts at 0.
 pub fn summary_on<'a, 'b>(
     rank: usize,
     e: &'a [u64; 64],
@@ -31,7 +30,8 @@ pub fn summary_on<'a, 'b>(
     if no_block(rank, e) {
         return nothing_met();
     }
-    let w = widths(rank, e, b);
+    let mut w = [0u64; 64];
+    widths_into(rank, e, b, &mut w);
     let y = way_of(rank, 1, e, &w);
     let d = moves_of(y, s);
     let by = d[0];
@@ -40,7 +40,7 @@ pub fn summary_on<'a, 'b>(
     let mut o = [0i64; 8];
     o[0] = start;
     let mut first = [0i64; 8];
-    let mut t = tile_starts(rank, &w, &c);
+    let mut t = [0u64; 64];
     let mut more = true;
     let mut number: u64 = 0;
     let mut sum = nothing_met();

@@ -1,10 +1,10 @@
 -- `summary::visits::summary_on` meets its contract: the loop keeps `Summing`. Assumes nothing.
 use native.Mathlib.Omega.{arith}
 use borrow.Author.Needs.{needs}
-use mathlib.Core.Path.{_≡_, sym, _∙_}
+use mathlib.Core.Path.{_≡_, refl, sym, _∙_}
 use mathlib.Core.Bool.{true, false}
 use mathlib.Core.List.{List, [], _∷_}
-use Prim.Native.Nat.{_-_}
+use Prim.Native.Nat.{ℕ, _-_}
 use lib.IntN.{ℤ, pos}
 use lib.ListN.{length, getD}
 use mir.Facts.{toZ-ofZ}
@@ -15,8 +15,9 @@ use Rattle.strided.specs.Layout.{hasZero}
 use Rattle.strided.specs.Memory.{planOf}
 use Rattle.strided.specs.declared.Plan.{Plan}
 use Rattle.laws.specs.Walk.Placed.{placedWalk}
+use Rattle.advance.specs.Axis.{widthsTo}
 use Rattle.walker.proofs.Walked.{may-move}
-use Rattle.summary.proofs.Summing.{Summing, summable-ready, no-cells, first-taken, widths-some, summing-start, summing-while, summing-asks, summing-fit, summing-rows, summing-next, summing-number, summing-less, summing-end}
+use Rattle.summary.proofs.Summing.{Summing, summable-ready, no-cells, first-taken, summing-start, summing-while, summing-asks, summing-fit, summing-rows, summing-next, summing-number, summing-less, summing-end}
 use Rattle.summary.proofs.visits.summary_on.Statement.{statement}
 use Rattle.summary.proofs.visits.summary_on.Tie as tie
 
@@ -39,12 +40,19 @@ none c = sym (c .if1 .taken) ∙ c .before .no-block .ensures
 abbrev some : (c : tie.Else1 Inv-loop μ-loop) → false ≡ hasZero (planExtents (plan (c .before .before .before .before)))
 some c = sym (c .if1 .left) ∙ c .before .no-block .ensures
 
--- from the loop back to the entry of the function
+-- from the loop back to the entry of the function, and the widths on the way
 abbrev moved : tie.At-loop Inv-loop μ-loop → tie.After-moves-of Inv-loop μ-loop
-moved c = c .before .before .before .before .before .before .before
+moved c = c .before .before .before .before
 
 abbrev entry : tie.At-loop Inv-loop μ-loop → tie.Start Inv-loop μ-loop
-entry c = moved c .before .before .before .before .before .before .before .before
+entry c = moved c .before .before .before .before .before .before .before .before .before
+
+abbrev widthsIn : tie.After-widths-into Inv-loop μ-loop → List ℕ
+widthsIn c = c .widths-into .last .1 .1 .1 .0
+
+widths-are : (c : tie.After-widths-into Inv-loop μ-loop) → let a = c .before .before .before .before .before .before .args in
+    widthsIn c ≡ widthsTo (a .rank) (a .e .now) (a .b .now) (a .rank)
+widths-are c = c .widths-into .ensures
 
 -- a turn: the walk is at a block, and hands out a stretch
 abbrev In : Type 0
@@ -57,20 +65,20 @@ abbrev turn : Stretch → In
 turn c = c .before .before .before .before .before .before
 
 runs : (c : In) → let s = entry (c .before) in let m = moved (c .before) in
-    Summing (s .args .rank) (s .args .e .now) (s .args .b .now) (s .args .s .now) (toZ w64 (ofZ w64 (s .args .start))) (s .args .cells .now) (m .before .way-of .result) (m .before .before .before .widths .result) (c .before .loop .number) true (c .before .loop .sum) (c .before .loop .t) (c .before .loop .c) (c .before .loop .o)
+    Summing (s .args .rank) (s .args .e .now) (s .args .b .now) (s .args .s .now) (toZ w64 (ofZ w64 (s .args .start))) (s .args .cells .now) (m .before .way-of .result) (widthsIn (m .before .before .before)) (c .before .loop .number) true (c .before .loop .sum) (c .before .loop .t) (c .before .loop .c) (c .before .loop .o)
 runs c = summing-while (c .before .loop .inv) (c .loop-test .taken)
 
 -- and behind it, it has ended
 ended : (c : tie.After-loop Inv-loop μ-loop) → let s = entry (c .before) in let m = moved (c .before) in
-    Summing (s .args .rank) (s .args .e .now) (s .args .b .now) (s .args .s .now) (toZ w64 (ofZ w64 (s .args .start))) (s .args .cells .now) (m .before .way-of .result) (m .before .before .before .widths .result) (c .before .loop .number) false (c .before .loop .sum) (c .before .loop .t) (c .before .loop .c) (c .before .loop .o)
+    Summing (s .args .rank) (s .args .e .now) (s .args .b .now) (s .args .s .now) (toZ w64 (ofZ w64 (s .args .start))) (s .args .cells .now) (m .before .way-of .result) (widthsIn (m .before .before .before)) (c .before .loop .number) false (c .before .loop .sum) (c .before .loop .t) (c .before .loop .c) (c .before .loop .o)
 ended c = summing-while (c .before .loop .inv) (c .loop-test .left)
 
 -- the numbers read from arrays
 by-is : (c : tie.At-loop Inv-loop μ-loop) → toZ w64 (ofZ w64 (getD (moved c .moves-of .result) 0 (pos 0))) ≡ getD (moved c .moves-of .result) 0 (pos 0)
-by-is c = toZ-ofZ (record { sfits = c .before .before .before .before .before .before .by .given })
+by-is c = toZ-ofZ (record { sfits = c .before .before .before .by .given })
 
 stride-is : (c : tie.At-loop Inv-loop μ-loop) → toZ w64 (ofZ w64 (getD (entry c .args .s .now) 0 (pos 0))) ≡ getD (entry c .args .s .now) 0 (pos 0)
-stride-is c = toZ-ofZ (record { sfits = c .before .before .before .before .before .stride .given })
+stride-is c = toZ-ofZ (record { sfits = c .before .before .stride .given })
 
 abbrev firstIn : Stretch → List ℤ
 firstIn c = c .next-stretch .last .1 .1 .1 .1 .1 .1 .1 .1 .0
@@ -87,17 +95,17 @@ nothing-met-requires c κs = tt
 returns : tie.Need-returns Inv-loop μ-loop
 returns c = let s = c .before .before .before .before .before in c .nothing-met .ensures ∙ no-cells (s .pre) (none (c .before))
 
-widths-requires : tie.Need-widths-requires Inv-loop μ-loop
-widths-requires c κs = summable-ready (c .before .before .before .before .pre) .axes
+widths-into-requires : tie.Need-widths-into-requires Inv-loop μ-loop
+widths-into-requires c κs = (summable-ready (c .before .before .before .before .before .pre) .axes, refl)
 
 way-of-requires : tie.Need-way-of-requires Inv-loop μ-loop
-way-of-requires c κs = summable-ready (c .before .before .before .before .before .before .pre) .axes
+way-of-requires c κs = summable-ready (c .before .before .before .before .before .before .before .pre) .axes
 
 moves-of-requires : tie.Need-moves-of-requires Inv-loop μ-loop
 moves-of-requires c κs =
     let v = c .before .before in
-    let z = v .before in
-    may-move (v .widths .ensures) (c .way-of .ensures) (first-taken (z .before .before .before .before .pre) (some z))
+    let z = v .before .before in
+    may-move (widths-are v) (c .way-of .ensures) (first-taken (z .before .before .before .before .pre) (some z))
 
 array-copy-out-by : tie.Need-array-copy-out-by Inv-loop μ-loop
 array-copy-out-by c = search needs
@@ -108,23 +116,16 @@ element-copy-out-stride c = search needs
 array-set-from-o : tie.Need-array-set-from-o Inv-loop μ-loop
 array-set-from-o c = search needs
 
-tile-starts-requires : tie.Need-tile-starts-requires Inv-loop μ-loop
-tile-starts-requires c κs =
-    let v = c .before .before .before .before .before .before .before in
-    let z = v .before in
-    let h = z .before .before .before .before .pre in
-    (summable-ready h .axes, widths-some h (some z) (v .widths .ensures))
-
 nothing-met-requires-2 : tie.Need-nothing-met-requires-2 Inv-loop μ-loop
 nothing-met-requires-2 c κs = tt
 
 loop-holds : tie.Need-loop-holds Inv-loop μ-loop
 loop-holds c =
-    let y = c .before .before .before .before .before .before .before in
+    let y = c .before .before .before .before in
     let v = y .before .before in
-    let z = v .before in
+    let z = v .before .before in
     let s = z .before .before .before .before in
-    rw (toZ-ofZ (s .fits .start)) (summing-start (s .pre) (some z) (v .widths .ensures) (y .way-of .ensures) (c .before .tile-starts .ensures) (c .nothing-met2 .ensures))
+    rw (toZ-ofZ (s .fits .start)) (summing-start (s .pre) (some z) (widths-are v) (y .way-of .ensures) (c .nothing-met2 .ensures))
 
 next-stretch-requires : tie.Need-next-stretch-requires Inv-loop μ-loop
 next-stretch-requires c κs = summing-asks (runs (c .before .before .before .before .before))
@@ -173,13 +174,12 @@ summary-on-spec =
     no-block-requires
     nothing-met-requires
     returns
-    widths-requires
+    widths-into-requires
     way-of-requires
     moves-of-requires
     array-copy-out-by
     element-copy-out-stride
     array-set-from-o
-    tile-starts-requires
     nothing-met-requires-2
     loop-holds
     next-stretch-requires
