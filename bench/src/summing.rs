@@ -88,8 +88,35 @@ fn alone(cells: &[f64]) -> f64 {
     cells.iter().fold(0.0, |sum, x| sum + x)
 }
 
+/// The cells: without order between two bounds, each above the one before, or
+/// one in ten, at random, above all before it.
+enum Data {
+    Level,
+    Rising,
+    Records,
+}
+
+fn cells_of(data: &Data, count: i64) -> Vec<f64> {
+    let mut seed: u64 = 1;
+    let cell = |i: i64| match data {
+        Data::Level => (i * 7919 % 1000) as f64 / 7.0 - 30.0,
+        Data::Rising => i as f64 / 7.0,
+        Data::Records => {
+            seed ^= seed << 13;
+            seed ^= seed >> 7;
+            seed ^= seed << 17;
+            if seed % 10 == 0 {
+                i as f64
+            } else {
+                -0.5
+            }
+        }
+    };
+    (0..count).map(cell).collect()
+}
+
 pub fn times(rounds: u64) -> Vec<Row> {
-    let layouts: Vec<(&'static str, Vec<u64>, Vec<i64>)> = vec![
+    let level: Vec<(&'static str, Vec<u64>, Vec<i64>)> = vec![
         ("1,000", vec![1000], vec![1]),
         ("100,000", vec![100_000], vec![1]),
         ("every third of 300,000", vec![100_000], vec![3]),
@@ -108,16 +135,25 @@ pub fn times(rounds: u64) -> Vec<Row> {
             vec![1, 256, 0],
         ),
     ];
+    let mut layouts: Vec<_> = level
+        .into_iter()
+        .map(|(name, extents, strides)| (name, extents, strides, Data::Level))
+        .collect();
+    layouts.push(("100,000, rising", vec![100_000], vec![1], Data::Rising));
+    layouts.push((
+        "100,000, one in ten above all before",
+        vec![100_000],
+        vec![1],
+        Data::Records,
+    ));
     let mut found = Vec::new();
-    for (name, extents, strides) in layouts {
+    for (name, extents, strides, data) in layouts {
         let reach: i64 = extents
             .iter()
             .zip(&strides)
             .map(|(e, s)| (*e as i64 - 1) * s)
             .sum();
-        let cells: Vec<f64> = (0..=reach)
-            .map(|i| (i * 7919 % 1000) as f64 / 7.0 - 30.0)
-            .collect();
+        let cells = cells_of(&data, reach + 1);
         let layout = Flat {
             extents: extents.clone(),
             sizes: vec![8],

@@ -6,7 +6,7 @@ use mathlib.Core.List.{List, [], _∷_, _++_, map, map-map, map-append}
 use Prim.Native.Nat.{ℕ, zero, suc, _+_, _*_}
 use native.Mathlib.Nat.{add-zero}
 use native.Mathlib.Omega.{arith}
-use lib.IntN.{ℤ, pos, _+ℤ_, _*ℤ_, +ℤ-assoc, +ℤ-comm, +ℤ-idr, zero-*ℤ, sucℤ-*ℤ}
+use lib.IntN.{ℤ, pos, _+ℤ_, _*ℤ_, +ℤ-assoc, +ℤ-comm, +ℤ-idr, sucℤ-*ℤ}
 use lib.ListN.{length, getD, take, drop}
 use Rattle.strided.specs.Base.{over, run}
 use Rattle.strided.specs.Layout.{dot}
@@ -21,6 +21,7 @@ use Rattle.walker.specs.declared.Next.{Next}
 use Rattle.walker.specs.Stretch.{Stretch, blockIn, laid, told}
 use Rattle.summary.specs.Visits.{indicesIn, indicesOf, offsetAt, visitsOf}
 use Rattle.summary.specs.Ahead.{runFrom, rowsFrom}
+use Rattle.summary.specs.Meeting.{move-none, move-last}
 
 -- the run of a block, as its user has it
 abbrev pub runIn : ℤ → Placed → List ℤ
@@ -102,18 +103,15 @@ visits-placed rank E B S z =
 
 -- ---- a stretch
 
-next-row : (o d : ℤ) (s : ℕ) → (o +ℤ pos s *ℤ d) +ℤ d ≡ o +ℤ pos (suc s) *ℤ d
-next-row o d s = +ℤ-assoc o (pos s *ℤ d) d ∙ ap (λ (z : ℤ). o +ℤ z) (sym (sucℤ-*ℤ (pos s) d))
-
 -- its rows, from block s on
 rows-on : (o d t : ℤ) (m n : ℕ) (c s : ℕ)
     → over (map (blockIn (record { offsets = o ∷ []; length = m; count = n; moves = d ∷ [] })) (run s c)) (runIn t) ≡ rowsFrom (o +ℤ pos s *ℤ d) d c t m
 rows-on o d t m n zero s = refl
 rows-on o d t m n (suc c) s =
-    ap (λ (l : List ℤ). runFrom (o +ℤ pos s *ℤ d) t m ++ l) (rows-on o d t m n c (suc s) ∙ ap (λ (y : ℤ). rowsFrom y d c t m) (sym (next-row o d s)))
+    ap (λ (l : List ℤ). runFrom (o +ℤ pos s *ℤ d) t m ++ l) (rows-on o d t m n c (suc s) ∙ ap (λ (y : ℤ). rowsFrom y d c t m) (sym (move-last o d s)))
 
 rows-all : (o d t : ℤ) (m c : ℕ) → over (laid (record { offsets = o ∷ []; length = m; count = c; moves = d ∷ [] })) (runIn t) ≡ rowsFrom o d c t m
-rows-all o d t m c = rows-on o d t m c c 0 ∙ ap (λ (y : ℤ). rowsFrom y d c t m) (ap (λ (y : ℤ). o +ℤ y) (zero-*ℤ d) ∙ +ℤ-idr o)
+rows-all o d t m c = rows-on o d t m c c 0 ∙ ap (λ (y : ℤ). rowsFrom y d c t m) (sym (move-none o d))
 
 -- THE BLOCKS OF A STRETCH, as rows of runs
 pub laid-rows : (t : ℤ) (r : Next) (first ds : List ℤ) → length first ≡ 8 → length ds ≡ 8

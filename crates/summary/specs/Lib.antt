@@ -5,6 +5,8 @@
 --   whole numbers up to 2^53 in all are summed exactly                 Orders  sum-exact (Exact  sum-whole)
 --   the extremes are cells, and no other is beyond them                Orders  extremes-cells, cell-bounded
 --   not-a-number cells are counted, and make the sum one               Orders  nans-counted, nan-sum
+--   a cell between the extremes changes sum and count alone            Quiet   quiet-cell
+--   where row 22 passes row 9 does                                     Served  inside-stays
 pub mod Sums
 pub mod Visits
 pub mod Rows
@@ -16,6 +18,8 @@ pub mod Extremes
 pub mod Counts
 pub mod Indices
 pub mod Ahead
+pub mod Parts
+pub mod Quiet
 pub mod Meeting
 pub mod Blocks
 pub mod Served

@@ -1,6 +1,6 @@
 -- Cells ahead of a summary, met one by one and run by run. Assumes nothing.
 use mathlib.Core.Path.{_≡_, refl, sym, ap, _∙_, subst}
-use mathlib.Core.Bool.{Bool, true, false, false≢true}
+use mathlib.Core.Bool.{Bool, true, false, _&&_, false≢true}
 use mathlib.Core.List.{List, [], _∷_, _++_, map, map-append}
 use Prim.Native.Nat.{ℕ, zero, suc, _+_, _-_, _*_, _^_, _≤_, _<_}
 use native.Mathlib.Nat.{sub-zero}
@@ -14,12 +14,15 @@ use mir.Syntax.{w64}
 use mir.Val.{SFits}
 use borrow.Author.Tests.{ltb-true}
 use Rattle.laws.specs.Base.Lists.{All}
+use Rattle.laws.specs.Base.Tests.{and-both}
 use Rattle.summary.specs.declared.cell.Summary.{Summary}
-use Rattle.summary.specs.Sums.{withCell, withCells}
+use Rattle.summary.specs.Sums.{withSum, withCell, withCells}
 use Rattle.summary.specs.Steps.{step-count, step-few, cells-append, cells-count, cells-few}
 use Rattle.span.specs.Span.{inCells}
 use Rattle.summary.specs.Visits.{cellOf}
 use Rattle.summary.specs.Ahead.{runFrom, rowsFrom, AllIn, Ahead, met, RunsFit}
+use Rattle.summary.specs.Parts.{between, grown}
+use Rattle.summary.specs.Quiet.{quiet-none, quiet-next}
 
 -- ---- an offset in the slice
 
@@ -82,11 +85,39 @@ module _ {cells : List Float} {s : Summary} where
 pub met-append : (cells : List Float) (s : Summary) (xs ys : List ℤ) → met cells s (xs ++ ys) ≡ met cells (met cells s xs) ys
 met-append cells s xs ys = ap (withCells s) (map-append (cellOf cells) xs ys) ∙ cells-append s (map (cellOf cells) xs) (map (cellOf cells) ys)
 
--- ---- a run, cell by cell
+-- ---- along a run
 
 pub length-run-from : (o t : ℤ) (n : ℕ) → length (runFrom o t n) ≡ n
 length-run-from o t zero = refl
 length-run-from o t (suc n) = ap suc (length-run-from (o +ℤ t) t n)
+
+pub move-none : (o t : ℤ) → o ≡ o +ℤ pos 0 *ℤ t
+move-none o t = sym (ap (λ (z : ℤ). o +ℤ z) (zero-*ℤ t) ∙ +ℤ-idr o)
+
+move-first : (o t : ℤ) (k : ℕ) → (o +ℤ t) +ℤ pos k *ℤ t ≡ o +ℤ pos (suc k) *ℤ t
+move-first o t k = +ℤ-assoc o t (pos k *ℤ t) ∙ ap (λ (z : ℤ). o +ℤ z) (+ℤ-comm t (pos k *ℤ t) ∙ sym (sucℤ-*ℤ (pos k) t))
+
+pub move-last : (o t : ℤ) (k : ℕ) → (o +ℤ pos k *ℤ t) +ℤ t ≡ o +ℤ pos (suc k) *ℤ t
+move-last o t k = +ℤ-assoc o (pos k *ℤ t) t ∙ ap (λ (z : ℤ). o +ℤ z) (sym (sucℤ-*ℤ (pos k) t))
+
+-- its first cells, and those behind them
+run-parts : (o t : ℤ) (a b : ℕ) → runFrom o t (a + b) ≡ runFrom o t a ++ runFrom (o +ℤ pos a *ℤ t) t b
+run-parts o t zero b =
+    let e : 0 + b ≡ b = omega arith in
+    ap (runFrom o t) e ∙ ap (λ (y : ℤ). runFrom y t b) (move-none o t)
+run-parts o t (suc a) b =
+    let e : suc a + b ≡ suc (a + b) = omega arith in
+    ap (runFrom o t) e ∙ ap (λ (l : List ℤ). o ∷ l) (run-parts (o +ℤ t) t a b ∙ ap (λ (y : ℤ). runFrom (o +ℤ t) t a ++ runFrom y t b) (move-first o t a))
+
+pub ahead-some : {cells : List Float} {s : Summary} (o t : ℤ) (m n : ℕ) → m ≤ n → Ahead cells s (runFrom o t n) → Ahead cells s (runFrom o t m)
+ahead-some {cells} {s} o t m n h a =
+    let e : n ≡ m + (n - m) = omega (arith, h) in
+    ahead-first (runFrom o t m) (runFrom (o +ℤ pos m *ℤ t) t (n - m)) (subst (Ahead cells s) (ap (runFrom o t) e ∙ run-parts o t m (n - m)) a)
+
+pub ahead-count : {cells : List Float} {s : Summary} (o t : ℤ) (n : ℕ) → Ahead cells s (runFrom o t n) → s .count + n < 2 ^ 64
+ahead-count o t n a = let r = a .room in let e = length-run-from o t n in omega (arith, r, e)
+
+-- ---- a run, cell by cell
 
 -- the first of a run that is not empty, and that it may be met
 module _ (cells : List Float) (s : Summary) (o t : ℤ) (n : ℕ) (a : Ahead cells s (runFrom o t n)) (h : 0 < n) where
@@ -134,16 +165,88 @@ module _ {cells : List Float} {t : ℤ} {n : ℕ} {whole : Summary} {k : ℕ} {s
           goes = subst (λ (i : ℕ). met cells s′ (runFrom (o +ℤ t +ℤ t) t i) ≡ whole) m (f .goes ∙ r .goes);
         })
 
--- ---- rows of runs, run by run
+-- several cells on
+module _ {cells : List Float} {t : ℤ} {n : ℕ} {whole : Summary} {k : ℕ} {s : Summary} {o : ℤ} (r : Running cells t n whole k s o) (m : ℕ) (h : m ≤ n - k) where
+  parts : runFrom (o +ℤ t) t (n - k) ≡ runFrom (o +ℤ t) t m ++ runFrom ((o +ℤ pos m *ℤ t) +ℤ t) t (n - (k + m))
+  parts =
+      let e : n - k ≡ m + (n - (k + m)) = omega (arith, h) in
+      ap (runFrom (o +ℤ t) t) e ∙ run-parts (o +ℤ t) t m (n - (k + m))
+      ∙ ap (λ (y : ℤ). runFrom (o +ℤ t) t m ++ runFrom y t (n - (k + m))) (move-first o t m ∙ sym (move-last o t m))
 
-move-first : (o d : ℤ) (j : ℕ) → (o +ℤ d) +ℤ pos j *ℤ d ≡ o +ℤ pos (suc j) *ℤ d
-move-first o d j = +ℤ-assoc o d (pos j *ℤ d) ∙ ap (λ (z : ℤ). o +ℤ z) (+ℤ-comm d (pos j *ℤ d) ∙ sym (sucℤ-*ℤ (pos j) d))
+  pub running-on : {o′ : ℤ} → o′ ≡ o +ℤ pos m *ℤ t → {s′ : Summary} → s′ ≡ met cells s (runFrom (o +ℤ t) t m) → Running cells t n whole (k + m) s′ o′
+  running-on at e =
+      let xs : List ℤ = runFrom (o +ℤ t) t m in
+      let ys : List ℤ = runFrom ((o +ℤ pos m *ℤ t) +ℤ t) t (n - (k + m)) in
+      rw (at, e)
+      (record {
+        ahead = ahead-rest xs ys (subst (Ahead cells s) parts (r .ahead));
+        goes = sym (met-append cells s xs ys) ∙ ap (met cells s) (sym parts) ∙ r .goes;
+      })
+
+-- ---- the cells behind the one at `from`: k of n are met
+
+pub record Going (cells : List Float) (t : ℤ) (n : ℕ) (whole : Summary) (from : ℤ) (k : ℕ) (s : Summary) (o : ℤ) : Type 0 where
+  pub most : k ≤ n
+  pub runs : Running cells t n whole k s o
+  pub at : o ≡ from +ℤ pos k *ℤ t
+
+pub going-none : {cells : List Float} {s : Summary} {o t : ℤ} {n : ℕ} → Ahead cells s (runFrom (o +ℤ t) t n) → Going cells t n (met cells s (runFrom (o +ℤ t) t n)) o 0 s o
+going-none {cells} {s} {o} {t} {n} a =
+    record { most = omega arith; runs = record { ahead = rw (sub-zero n) a; goes = rw (sub-zero n) }; at = move-none o t }
+
+module _ {cells : List Float} {t : ℤ} {n : ℕ} {whole : Summary} {from : ℤ} {k : ℕ} {s : Summary} {o : ℤ} (g : Going cells t n whole from k s o) where
+  pub going-next : k < n → {o′ : ℤ} → o′ ≡ o +ℤ t → {s′ : Summary} → s′ ≡ withCell s (cellOf cells o′) → Going cells t n whole from (k + 1) s′ o′
+  going-next h at e =
+      let i : suc k ≡ k + 1 = omega arith in
+      record {
+        most = omega (arith, h);
+        runs = running-next (g .runs) h at e;
+        at = at ∙ ap (λ (z : ℤ). z +ℤ t) (g .at) ∙ move-last from t k ∙ ap (λ (m : ℕ). from +ℤ pos m *ℤ t) i;
+      }
+
+  pub going-end : n ≤ k → (s ≡ whole) × (o ≡ from +ℤ pos n *ℤ t)
+  going-end h =
+      let e : k ≡ n = omega (arith, h, g .most) in
+      (running-end (g .runs) h, g .at ∙ ap (λ (m : ℕ). from +ℤ pos m *ℤ t) e)
+
+-- ---- a group: what it makes cell by cell is what its sum says, while it is quiet
+
+pub record Grouping (cells : List Float) (t : ℤ) (n : ℕ) (whole s : Summary) (from : ℤ) (k : ℕ) (sum : Float) (quiet : Bool) (o : ℤ) : Type 0 where
+  pub made : Summary
+  pub goes : Going cells t n whole from k made o
+  pub calm : quiet ≡ true → (s .extremes ≡ true) × (made ≡ grown s k sum)
+
+pub grouping-none : {cells : List Float} {s : Summary} {o t : ℤ} {n : ℕ} → Ahead cells s (runFrom (o +ℤ t) t n)
+    → Grouping cells t n (met cells s (runFrom (o +ℤ t) t n)) s o 0 (s .sum) (s .extremes) o
+grouping-none {cells} {s} a = record { made = s; goes = going-none a; calm = λ q. (q, quiet-none s) }
+
+module _ {cells : List Float} {t : ℤ} {n : ℕ} {whole s : Summary} {from : ℤ} {k : ℕ} {sum : Float} {quiet : Bool} {o : ℤ} (g : Grouping cells t n whole s from k sum quiet o) where
+  pub grouping-in : k < n → inCells (length cells) (o +ℤ t) ≡ true
+  grouping-in h = running-in (g .goes .runs) h
+
+  pub grouping-next : k < n → {o′ : ℤ} → o′ ≡ o +ℤ t → {x : Float} → x ≡ cellOf cells o′ → {b : Bool} → b ≡ between (s .least) x (s .greatest)
+      → Grouping cells t n whole s from (k + 1) (withSum sum x) (quiet && b) o′
+  grouping-next h {o′} at {x} is {b} test =
+      record {
+        made = withCell (g .made) x;
+        goes = going-next (g .goes) h at (ap (withCell (g .made)) is);
+        calm = λ q. let p = and-both quiet b q in let c = g .calm (p .0) in (c .0, ap (λ (u : Summary). withCell u x) (c .1) ∙ quiet-next s k sum x (c .0) (sym test ∙ p .1));
+      }
+
+  -- all of it
+  pub grouping-end : n ≤ k → (quiet ≡ true → grown s n sum ≡ whole) × (o ≡ from +ℤ pos n *ℤ t)
+  grouping-end h =
+      let e = going-end (g .goes) h in
+      let i : n ≡ k = omega (arith, h, g .goes .most) in
+      (λ q. ap (λ (m : ℕ). grown s m sum) i ∙ sym (g .calm q .1) ∙ e .0, e .1)
+
+-- ---- rows of runs, run by run
 
 pub runs-fit-on : (o d : ℤ) (c : ℕ) → RunsFit o d (suc c) → RunsFit (o +ℤ d) d c
 runs-fit-on o d c f j h = subst (SFits w64) (sym (move-first o d j)) (f (suc j) (omega (arith, h)))
 
 runs-fit-first : (o d : ℤ) (c : ℕ) → 0 < c → RunsFit o d c → SFits w64 o
-runs-fit-first o d c h f = subst (SFits w64) (ap (λ (z : ℤ). o +ℤ z) (zero-*ℤ d) ∙ +ℤ-idr o) (f 0 h)
+runs-fit-first o d c h f = subst (SFits w64) (sym (move-none o d)) (f 0 h)
 
 pub record Rowing (cells : List Float) (d : ℤ) (c : ℕ) (t : ℤ) (n : ℕ) (whole : Summary) (j : ℕ) (s : Summary) (o : ℤ) : Type 0 where
   pub most : j ≤ c

@@ -1,16 +1,16 @@
 -- `summary::run::with_run` meets its contract: the loop keeps `Running`. Assumes nothing.
-use mathlib.Core.Path.{_≡_, refl, ap, _∙_}
-use Prim.Native.Nat.{_-_, _*_, _<_, _^_}
+use mathlib.Core.Path.{refl, ap, _∙_}
+use Prim.Native.Nat.{_-_}
 use native.Mathlib.Omega.{arith}
+use borrow.Author.Needs.{needs}
 use lib.IntN.{ℤ, _+ℤ_}
-use lib.ListN.{length}
 use mir.Facts.{toZ-ofZ}
 use mir.Syntax.{w64}
-use mir.Val.{toZ, ofZ}
+use mir.Val.{SFits, toZ}
 use Rattle.summary.specs.Sums.{withCell}
 use Rattle.summary.specs.Visits.{cellOf}
 use Rattle.summary.specs.Ahead.{runFrom, met}
-use Rattle.summary.specs.Meeting.{in-fits, first-in, first-room, Running, running-first, running-in, running-room, running-next, running-end}
+use Rattle.summary.specs.Meeting.{first-in, first-room, Running, running-first, running-on, running-end}
 use Rattle.summary.proofs.run.with_run.Statement.{statement}
 use Rattle.summary.proofs.run.with_run.Tie as tie
 
@@ -21,18 +21,6 @@ Inv-loop cells first stride n x t₀ o₀ k₀ t o k =
 
 abbrev μ-loop : tie.MeasureT-loop
 μ-loop cells first stride n x t₀ o₀ k₀ t o k = n - k
-
--- a turn
-abbrev In : Type 0
-In = tie.In-loop Inv-loop μ-loop
-
-abbrev start : In → tie.Start Inv-loop μ-loop
-start c = c .before .before .before .before .before
-
--- the offset moves on
-moved-is : (c : tie.After-moved Inv-loop μ-loop)
-    → toZ w64 (ofZ w64 (c .moved .result)) ≡ toZ w64 (c .before .before .loop .o) +ℤ toZ w64 (ofZ w64 (start (c .before) .args .stride))
-moved-is c = toZ-ofZ (record { sfits = c .moved .ok }) ∙ c .moved .ensures
 
 cell-at-requires : tie.Need-cell-at-requires Inv-loop μ-loop
 cell-at-requires c κs =
@@ -55,41 +43,58 @@ one-met c =
     running-first (a .cells .now) (a .s) (a .first) (a .stride) (a .n) (s .pre .0) (s .pre .1)
     (c .with-cell .ensures ∙ ap (withCell (a .s)) (c .before .cell-at .ensures ∙ ap (cellOf (a .cells .now)) (toZ-ofZ (s .fits .first))))
 
-loop-holds : tie.Need-loop-holds Inv-loop μ-loop
-loop-holds c =
-    let s = c .before .before .before in
-    rw (toZ-ofZ (s .fits .first), toZ-ofZ (s .fits .stride)) (record { ahead = one-met c .ahead; goes = refl })
+-- a short run, cell by cell
+sub-cells-behind : tie.Need-sub-cells-behind Inv-loop μ-loop
+sub-cells-behind c = c .before .before .before .before .pre .1
 
-moved-requires : tie.Need-moved-requires Inv-loop μ-loop
-moved-requires c κs =
-    let s = start c in
-    let n = length (s .args .cells .now) in
-    let room : n * 8 < 2 ^ 63 = omega arith in
-    in-fits n (toZ w64 (c .before .loop .o) +ℤ toZ w64 (ofZ w64 (s .args .stride))) (omega (arith, room)) (running-in (c .before .loop .inv) (c .loop-test .taken))
-
-cell-at-requires-2 : tie.Need-cell-at-requires-2 Inv-loop μ-loop
-cell-at-requires-2 c κs =
-    let i = c .before in
-    rw (moved-is c) (running-in (i .before .loop .inv) (i .loop-test .taken))
-
-with-cell-requires-2 : tie.Need-with-cell-requires-2 Inv-loop μ-loop
-with-cell-requires-2 c κs = let i = c .before .before in running-room (i .before .loop .inv) (i .loop-test .taken)
-
-add-k : tie.Need-add-k Inv-loop μ-loop
-add-k c = omega arith
-
-loop-less : tie.Need-loop-less Inv-loop μ-loop
-loop-less c = omega arith
-
-loop-again : tie.Need-loop-again Inv-loop μ-loop
-loop-again c =
-    let m = c .before .before in
-    let i = m .before in
-    running-next (i .before .loop .inv) (i .loop-test .taken) (moved-is m) (c .with-cell2 .ensures ∙ ap (withCell (i .before .loop .t)) (c .before .cell-at2 .ensures))
+cells-behind-requires : tie.Need-cells-behind-requires Inv-loop μ-loop
+cells-behind-requires c κs =
+    let s = c .before .before .before .before in
+    rw (toZ-ofZ (s .fits .first), toZ-ofZ (s .fits .stride)) (one-met (c .before) .ahead)
 
 returns : tie.Need-returns Inv-loop μ-loop
 returns c =
-    let w = c .before .before in
+    let k = c .before in
+    let w = k .before .before in
+    let s = w .before .before .before in
+    (rw (toZ-ofZ (s .fits .first), toZ-ofZ (s .fits .stride)) at (k .cells-behind .ensures .makes)) ∙ one-met w .goes
+
+-- a longer one, part by part
+loop-holds : tie.Need-loop-holds Inv-loop μ-loop
+loop-holds c =
+    let w = c .before in
+    let s = w .before .before .before in
+    rw (toZ-ofZ (s .fits .first), toZ-ofZ (s .fits .stride)) (record { ahead = one-met w .ahead; goes = refl })
+
+sub-part-behind : tie.Need-sub-part-behind Inv-loop μ-loop
+sub-part-behind c = omega arith
+
+part-behind-requires : tie.Need-part-behind-requires Inv-loop μ-loop
+part-behind-requires c κs = let h = c .loop-test .taken in (c .before .loop .inv .ahead, omega (arith, h))
+
+add-k : tie.Need-add-k Inv-loop μ-loop
+add-k c =
+    let p = c .before .before .before in
+    let m = p .part-behind .ensures .1 in
+    let n = p .before .before .before .before .before .before .before .fits .n in
+    record { fits = omega (arith, m, p .before .loop-test .taken, n .fits) }
+
+loop-less : tie.Need-loop-less Inv-loop μ-loop
+loop-less c =
+    let e = c .before .before .before .part-behind .ensures in
+    let h = c .before .before .before .before .loop-test .taken in
+    omega (arith, e .0, e .1, h)
+
+loop-again : tie.Need-loop-again Inv-loop μ-loop
+loop-again c =
+    let p = c .before .before .before in
+    let e = p .part-behind .ensures in
+    let f : SFits w64 (p .part-behind .result .last) = search needs in
+    running-on (p .before .before .loop .inv) (p .part-behind .result .met) (e .1) (toZ-ofZ f ∙ e .2 .ends) (e .2 .makes)
+
+returns-2 : tie.Need-returns-2 Inv-loop μ-loop
+returns-2 c =
+    let w = c .before .before .before in
     let s = w .before .before .before in
     let e = running-end (c .before .loop .inv) (c .loop-test .left) in
     (rw (toZ-ofZ (s .fits .first), toZ-ofZ (s .fits .stride)) at e) ∙ one-met w .goes
@@ -102,11 +107,13 @@ with-run-spec =
     μ-loop
     cell-at-requires
     with-cell-requires
+    sub-cells-behind
+    cells-behind-requires
+    returns
     loop-holds
-    moved-requires
-    cell-at-requires-2
-    with-cell-requires-2
+    sub-part-behind
+    part-behind-requires
     add-k
     loop-less
     loop-again
-    returns)
+    returns-2)
