@@ -1,4 +1,5 @@
 pub mod Fitting
 pub mod Gaps
-pub mod Climbs
+pub mod Stairs
+pub mod Octaves
 pub mod Moving

@@ -184,15 +184,19 @@ pub fn original_index_into<'a>(
     let answer = check_layout(extents, sizes, strides, purpose);
     match answer {
         Answer::Refused(refusal) => answer,
-        Answer::Served => original_of(
-            extents,
-            strides,
-            sizes.len(),
-            purpose,
-            counters,
-            count,
-            index,
-        ),
+        Answer::Served => {
+            let mut order = [0usize; 64];
+            let mut fused = [0u64; 64];
+            map_into(
+                extents,
+                strides,
+                sizes.len(),
+                purpose,
+                &mut order,
+                &mut fused,
+            );
+            original_by(extents, &order, &fused, counters, count, index)
+        }
     }
 }
 
