@@ -19,7 +19,11 @@ pub extern "C" fn gougelily_window<'a>(
     window_strides: &mut [i64; 512],
     shifts: &mut [i64; 8],
 ) -> i64
-    ensures { λ r. ⌜ Windows (windowed (now (extents .entry)) (now (sizes .entry)) (now (strides .entry)) (now (firsts .entry)) (now (counts .entry)) (now (steps .entry))) (record { extents = now («window_extents» .entry); strides = now («window_strides» .entry); shifts = now (shifts .entry) }) (record { extents = now («window_extents» .exit); strides = now («window_strides» .exit); shifts = now (shifts .exit) }) r ⌝ }
+    ensures { λ r. ⌜ Windows
+        (windowed (now (extents .entry)) (now (sizes .entry)) (now (strides .entry)) (now (firsts .entry)) (now (counts .entry)) (now (steps .entry)))
+        (record { extents = now («window_extents» .entry); strides = now («window_strides» .entry); shifts = now (shifts .entry) })
+        (record { extents = now («window_extents» .exit); strides = now («window_strides» .exit); shifts = now (shifts .exit) })
+        r ⌝ }
 {
     let answer = check_window(extents, sizes, strides, firsts, counts, steps);
     match answer {

@@ -44,7 +44,8 @@ pub fn check_window<'a>(
     counts: &'a [u64],
     steps: &'a [i64],
 ) -> Answer
-    ensures { λ r. ⌜ r ≡ answered (windowRefused (now (extents .entry)) (now (sizes .entry)) (now (strides .entry)) (now (firsts .entry)) (now (counts .entry)) (now (steps .entry))) ⌝ }
+    ensures { λ r. ⌜ r ≡ answered (windowRefused (now (extents .entry)) (now (sizes .entry)) (now (strides .entry))
+        (now (firsts .entry)) (now (counts .entry)) (now (steps .entry))) ⌝ }
 {
     let rank = extents.len();
     let operands = sizes.len();
@@ -96,7 +97,8 @@ pub fn window_into<'a>(
 )
     requires { ⌜ WindowTaken (now extents) (now sizes) (now strides) (now firsts) (now counts) (now steps) ⌝ }
     requires { ⌜ Zeros (now es) (now table) (now shifts) ⌝ }
-    ensures { λ _. ⌜ Made (now (extents .entry)) (now (sizes .entry)) (now (strides .entry)) (now (firsts .entry)) (now (counts .entry)) (now (steps .entry)) (now (es .exit)) (now (table .exit)) (now (shifts .exit)) ⌝ }
+    ensures { λ _. ⌜ Made (now (extents .entry)) (now (sizes .entry)) (now (strides .entry)) (now (firsts .entry)) (now (counts .entry)) (now (steps .entry))
+        (now (es .exit)) (now (table .exit)) (now (shifts .exit)) ⌝ }
 {
     let rank = extents.len();
     let operands = sizes.len();

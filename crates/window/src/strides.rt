@@ -100,7 +100,8 @@ pub fn some_stride_over<'a>(
     operands: usize,
 ) -> bool
     requires { ⌜ Counted rank operands (now counts) (now steps) (now strides) ⌝ }
-    ensures { λ r. ⌜ r ≡ some-of (strideOver (windowStrides (now (counts .entry)) (now (steps .entry)) (now (strides .entry)) rank operands)) 0 (length (windowStrides (now (counts .entry)) (now (steps .entry)) (now (strides .entry)) rank operands)) ⌝ }
+    ensures { λ r. ⌜ r ≡ some-of (strideOver (windowStrides (now (counts .entry)) (now (steps .entry)) (now (strides .entry)) rank operands))
+        0 (length (windowStrides (now (counts .entry)) (now (steps .entry)) (now (strides .entry)) rank operands)) ⌝ }
 {
     let mut i: usize = 0;
     let mut j: usize = 0;
@@ -125,7 +126,8 @@ pub fn strides_into<'a>(
 )
     requires { ⌜ Counted rank operands (now counts) (now steps) (now strides) ⌝ }
     requires { ⌜ Few rank operands ⌝ }
-    requires { ⌜ some-of (strideOver (windowStrides (now counts) (now steps) (now strides) rank operands)) 0 (length (windowStrides (now counts) (now steps) (now strides) rank operands)) ≡ false ⌝ }
+    requires { ⌜ some-of (strideOver (windowStrides (now counts) (now steps) (now strides) rank operands))
+        0 (length (windowStrides (now counts) (now steps) (now strides) rank operands)) ≡ false ⌝ }
     requires { ⌜ now table ≡ replicate 512 (pos 0) ⌝ }
     ensures { λ _. ⌜ now (table .exit) ≡ padded 512 (pos 0) (windowStrides (now (counts .entry)) (now (steps .entry)) (now (strides .entry)) rank operands) ⌝ }
 {
