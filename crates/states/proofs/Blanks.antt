@@ -6,33 +6,63 @@ use mathlib.Core.List.{List, [], _∷_}
 use Prim.Native.Nat.{ℕ, zero, suc, _+_, _%_, _≤_, _<_}
 use native.Mathlib.Numerals.{add-one}
 use native.Mathlib.Omega.{arith}
+use lib.Bits.{bitOr, or-add-and, and-le-l, and-le-r}
 use lib.Dec.{ltb, leb, eqb}
-use lib.IntN.{ℤ, pos}
+use lib.IntN.{ℤ, pos, natAbs}
 use lib.ListN.{length, getD, take, drop, replicate, drop-of-length-le, length-replicate, List·getD-eq-default}
 use lib.Seq.{drop-cons, ext-getD}
-use borrow.Author.Tests.{lt-ltb, le-ltb}
+use borrow.Author.Tests.{eqb-true, eqb-false, eq-eqb, ne-eqb, lt-ltb, le-ltb}
 use Rattle.strided.specs.Base.{padded}
 use Rattle.strided.specs.Layout.{within}
 use Rattle.strided.specs.Walk.{effective, cut, cutAxes}
-use Rattle.strided.specs.Step.{blank, insideb, onStartb, zerosb}
-use Rattle.laws.specs.Base.Arrays.{Blank, length-padded, getD-padded}
+use Rattle.strided.specs.Step.{blank, blankZ, insideb, onStartb, zerosb}
+use Rattle.laws.specs.Base.Arrays.{length-padded, getD-padded}
 use Rattle.advance.specs.Filled.{by-lt, filledTo, filled-length, filled-above, filled-at}
 
--- ---- each element is z
+-- ---- each element passes a test
 
-module _ {A : Type 0} {z : A} {b : List A → Bool} (t : Blank z b) (l : List A) (i : ℕ) where
-  module _ (h : i < length l) where
-    next : b (drop i l) ≡ (t .test (getD l i z) && b (drop (i + 1) l))
-    next = ap b (drop-cons l i z h) ∙ t .cons (getD l i z) (drop (suc i) l) ∙ ap (λ (n : ℕ). t .test (getD l i z) && b (drop n l)) (sym (add-one i))
+-- b tests each element
+pub record Each {A : Type 0} (b : List A → Bool) : Type 0 where
+  pub test : A → Bool
+  pub nil : b [] ≡ true
+  pub cons : (x : A) (l : List A) → b (x ∷ l) ≡ (test x && b l)
 
-    pub blank-not : t .test (getD l i z) ≡ false → b (drop i l) ≡ b l → false ≡ b l
-    blank-not q e = sym (next ∙ rw q) ∙ e
+abbrev pub each-zero : Each blank
+each-zero = record { test = λ x. eqb x 0; nil = refl; cons = λ x l. refl }
 
-    pub blank-next : t .test (getD l i z) ≡ true → b (drop i l) ≡ b l → b (drop (i + 1) l) ≡ b l
-    blank-next q e = sym (next ∙ rw q) ∙ e
+abbrev pub each-zeroZ : Each blankZ
+each-zeroZ = record { test = λ x. eqb (natAbs x) 0; nil = refl; cons = λ x l. refl }
 
-  pub blank-end : length l ≤ i → b (drop i l) ≡ b l → true ≡ b l
-  blank-end h e = sym (ap b (drop-of-length-le l h) ∙ t .nil) ∙ e
+-- two numbers gathered have no bit exactly if neither has one
+or-none : (a b : ℕ) → eqb (bitOr a b) 0 ≡ (eqb a 0 && eqb b 0)
+or-none a b = go (eqb a 0) (eqb b 0) refl refl
+  where
+    go : (x y : Bool) → eqb a 0 ≡ x → eqb b 0 ≡ y → eqb (bitOr a b) 0 ≡ (x && y)
+    go true true p q = eq-eqb (bitOr a b) 0 (omega (arith, or-add-and a b, eqb-true a 0 p, eqb-true b 0 q))
+    go true false p q = ne-eqb (bitOr a b) 0 (λ e. eqb-false b 0 q (omega (arith, or-add-and a b, and-le-l a b, e)))
+    go false y p q = ne-eqb (bitOr a b) 0 (λ e. eqb-false a 0 p (omega (arith, or-add-and a b, and-le-r a b, e)))
+
+and-assoc : (a b c : Bool) → ((a && b) && c) ≡ (a && (b && c))
+and-assoc true b c = refl
+and-assoc false b c = refl
+
+and-true : (a : Bool) → (a && true) ≡ a
+and-true true = refl
+and-true false = refl
+
+-- the bits gathered of the places so far are none exactly if these pass, and the rest is still to test
+module _ {A : Type 0} {b : List A → Bool} (t : Each b) (z : A) (l : List A) (i seen : ℕ) where
+  -- x has no bit exactly if place i passes
+  pub gathered-next : (x : ℕ) → i < length l → eqb x 0 ≡ t .test (getD l i z) → (eqb seen 0 && b (drop i l)) ≡ b l → (eqb (bitOr seen x) 0 && b (drop (i + 1) l)) ≡ b l
+  gathered-next x h q e =
+      ap (λ (y : Bool). y && b (drop (i + 1) l)) (or-none seen x ∙ ap (λ (y : Bool). eqb seen 0 && y) q)
+      ∙ and-assoc (eqb seen 0) (t .test (getD l i z)) (b (drop (i + 1) l))
+      ∙ ap (λ (y : Bool). eqb seen 0 && y)
+      (sym (ap b (drop-cons l i z h) ∙ t .cons (getD l i z) (drop (suc i) l) ∙ ap (λ (n : ℕ). t .test (getD l i z) && b (drop n l)) (sym (add-one i))))
+      ∙ e
+
+  pub gathered-end : length l ≤ i → (eqb seen 0 && b (drop i l)) ≡ b l → eqb seen 0 ≡ b l
+  gathered-end h e = sym (and-true (eqb seen 0)) ∙ ap (λ (y : Bool). eqb seen 0 && y) (sym (ap b (drop-of-length-le l h) ∙ t .nil)) ∙ e
 
 -- ---- each counter is below its extent
 

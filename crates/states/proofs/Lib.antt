@@ -2,5 +2,6 @@
 pub mod Rooms
 pub mod Ways
 pub mod Blanks
+pub mod Nearness
 pub mod Table
 pub mod Reaching

@@ -27,8 +27,10 @@ use Rattle.laws.specs.Refusals.Zeros.{no-zero-of}
 use Rattle.laws.specs.Walk.Machine.{length-starts}
 use Rattle.layout.specs.Laid.{rowAt, Laid}
 use Rattle.states.specs.Starts.{leavesAt, someLeave, Begins}
+use Rattle.states.specs.Near.{Near}
 use Rattle.states.specs.Reaches.{standing, mayStart, Arrays, reaches}
 use Rattle.states.proofs.Blanks.{within-inside, blank-zeros}
+use Rattle.states.proofs.Nearness.{near-row6, near-stays}
 use Rattle.states.proofs.Table.{laid, row6-is, cut-length}
 
 -- tests that agree on the first n numbers
@@ -170,36 +172,45 @@ module _ (ended : Bool) (rank operands : ℕ) (e b : List ℕ) (s : List ℤ) (c
     pub untidy : t ≡ false → false ≡ reaches P G
     untidy h = sym (parts ∙ rw (sym t-is ∙ h))
 
-    module _ (th : t ≡ true) {m : Bool} (m-is : m ≡ mayStart es s operands) where
-      last : (x l : Bool) → (x && (false && not l)) ≡ false
-      last true l = refl
-      last false l = refl
+    module _ (th : t ≡ true) {d : Bool} (d-is : d ≡ standing ended es bs cs) where
+      pub stands-not : d ≡ false → false ≡ reaches P G
+      stands-not h = sym (parts ∙ rw (sym t-is ∙ th, sym d-is ∙ h))
 
-      pub may-not : m ≡ false → false ≡ reaches P G
-      may-not h = sym (parts ∙ rw (sym t-is ∙ th, sym m-is ∙ h) (last (standing ended es bs cs) (someLeave es s cs o operands)))
+      module _ (dh : d ≡ true) where
+        within-here : hasZero es ≡ false → Within es cs
+        unfolding standing
+        within-here z = go ended (sym d-is ∙ dh)
+          where
+            go : (x : Bool) → cond (not x) (insideb (cutAxes es bs) cs && onStartb (cutAxes es bs) cs) (zerosb (cutAxes es bs) cs) ≡ true → Within es cs
+            go true q = blank-within es cs (no-zero-of es z) counters-long (blank-zeros es bs cs counters-long ∙ q)
+            go false q = true-within es cs (within-inside es bs cs ∙ and-both (insideb (cutAxes es bs) cs) (onStartb (cutAxes es bs) cs) q .0)
 
-      module _ (mh : m ≡ true) {d : Bool} (d-is : d ≡ standing ended es bs cs) where
-        pub stands-not : d ≡ false → false ≡ reaches P G
-        stands-not h = sym (parts ∙ rw (sym t-is ∙ th, sym d-is ∙ h))
+        -- nothing is large: row 5 alone is left
+        pub near-last : Near es s o operands → {x : Bool} → x ≡ row5 es .applies → not x ≡ reaches P G
+        unfolding mayStart
+        near-last n is =
+            let six : row6 es operands (rowAt es s 64) .applies ≡ false = near-row6 es s o operands (omega (arith, long, A .axes)) n in
+            let nine : someLeave es s cs o operands ≡ false = near-stays es s o operands (omega (arith, long, A .axes)) n cs laid-here (omega (arith, A .offsets, A .few)) within-here in
+            ap not is ∙ sym (parts ∙ rw (sym t-is ∙ th, sym d-is ∙ dh, six, nine) (alone (not (row5 es .applies))))
+          where
+            alone : (x : Bool) → ((x && true) && true) ≡ x
+            alone true = refl
+            alone false = refl
 
-        module _ (dh : d ≡ true) where
-          pub leave-last : {l : Bool} → l ≡ someLeave es s cs o operands → not l ≡ reaches P G
-          leave-last is = ap not is ∙ sym (parts ∙ rw (sym t-is ∙ th, sym d-is ∙ dh, sym m-is ∙ mh))
+        module _ {m : Bool} (m-is : m ≡ mayStart es s operands) where
+          pub may-not : m ≡ false → false ≡ reaches P G
+          may-not h = sym (parts ∙ rw (sym t-is ∙ th, sym d-is ∙ dh, sym m-is ∙ h))
 
-          within-here : hasZero es ≡ false → Within es cs
-          unfolding standing
-          within-here z = go ended (sym d-is ∙ dh)
-            where
-              go : (x : Bool) → cond (not x) (insideb (cutAxes es bs) cs && onStartb (cutAxes es bs) cs) (zerosb (cutAxes es bs) cs) ≡ true → Within es cs
-              go true q = blank-within es cs (no-zero-of es z) counters-long (blank-zeros es bs cs counters-long ∙ q)
-              go false q = true-within es cs (within-inside es bs cs ∙ and-both (insideb (cutAxes es bs) cs) (onStartb (cutAxes es bs) cs) q .0)
+          module _ (mh : m ≡ true) where
+            pub leave-last : {l : Bool} → l ≡ someLeave es s cs o operands → not l ≡ reaches P G
+            leave-last is = ap not is ∙ sym (parts ∙ rw (sym t-is ∙ th, sym d-is ∙ dh, sym m-is ∙ mh))
 
-          pub begins-here : Begins es s cs o operands
-          unfolding mayStart
-          begins-here =
-              record {
-                laid = laid-here;
-                offsets = omega (arith, A .offsets, A .few);
-                within = within-here;
-                near = not-true _ (and-both (not (row5 es .applies)) (not (row6 es operands (rowAt es s 64) .applies)) (sym m-is ∙ mh) .1);
-              }
+            pub begins-here : Begins es s cs o operands
+            unfolding mayStart
+            begins-here =
+                record {
+                  laid = laid-here;
+                  offsets = omega (arith, A .offsets, A .few);
+                  within = within-here;
+                  near = not-true _ (and-both (not (row5 es .applies)) (not (row6 es operands (rowAt es s 64) .applies)) (sym m-is ∙ mh) .1);
+                }

@@ -21,6 +21,7 @@ use strided::Plan;
 use strided::Refusal;
 use strided::Walk;
 
+mod near;
 pub mod starts;
 pub mod state;
 

@@ -9,36 +9,35 @@ ghost use Rattle.strided.specs.Step.{blank, blankZ, onStartb, tidy};
 ghost use Rattle.strided.specs.Memory.{planOf, walkOf};
 ghost use Rattle.layout.specs.Laid.{Laid};
 ghost use Rattle.states.specs.Reaches.{standing, mayStart, Arrays, reaches};
+use super::near::all_near;
 use super::starts::starts_leave;
-use layout::magnitude;
 use layout::reach_over;
 use layout::total_over;
 
-// Whether each number is 0.
+// Whether each number is 0. The bits are gathered over all places, and looked at once, behind the loop: so the compiler takes several places
+// in one step.
 fn all_zero(numbers: &[u64]) -> bool
     ensures { λ r. ⌜ r ≡ blank (now (numbers .entry)) ⌝ }
 {
+    let mut seen: u64 = 0;
     let mut i: usize = 0;
     while i < numbers.len() {
-        if numbers[i] != 0 {
-            return false;
-        }
+        seen = seen | numbers[i];
         i += 1;
     }
-    true
+    seen == 0
 }
 
 fn all_zero_signed(numbers: &[i64]) -> bool
     ensures { λ r. ⌜ r ≡ blankZ (now (numbers .entry)) ⌝ }
 {
+    let mut bits: i64 = 0;
     let mut i: usize = 0;
     while i < numbers.len() {
-        if magnitude(numbers[i]) != 0 {
-            return false;
-        }
+        bits = bits | numbers[i];
         i += 1;
     }
-    true
+    bits == 0
 }
 
 // Whether each counter is below its extent.
@@ -104,7 +103,7 @@ fn tidy<'a>(rank: usize, operands: usize, c: &'a [u64], o: &'a [i64]) -> bool
     false
 }
 
-// Whether a begun walk of the plan reaches the state.
+// Whether a begun walk of the plan reaches the state. Where nothing is large rows 6 and 9 are not asked.
 pub fn reaches<'a>(
     ended: bool,
     rank: usize,
@@ -119,8 +118,11 @@ pub fn reaches<'a>(
     ensures { λ r. ⌜ r ≡ reaches (planOf rank operands (now (e .entry)) (now (b .entry)) (now (s .entry))) (walkOf ended (now (c .entry)) (now (o .entry))) ⌝ }
 {
     if tidy(rank, operands, c, o) {
-        if may_start(&e[..rank], s, operands) {
-            if stands(ended, &e[..rank], &b[..rank], &c[..rank]) {
+        if stands(ended, &e[..rank], &b[..rank], &c[..rank]) {
+            if all_near(&e[..rank], s, o, operands) {
+                return !total_over(&e[..rank]);
+            }
+            if may_start(&e[..rank], s, operands) {
                 return !starts_leave(&e[..rank], s, &c[..rank], o, operands);
             }
         }
