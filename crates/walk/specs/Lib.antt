@@ -1,2 +1,3 @@
 -- What the functions of a step ask and leave.
 pub mod Lent
+pub mod Onward

@@ -4,13 +4,11 @@ ghost use mathlib.Core.Bool.{false};
 ghost use Rattle.strided.specs.Step.{notStepped, stepped, left};
 ghost use Rattle.strided.specs.Memory.{planOf, walkOf};
 ghost use Rattle.walk.specs.Lent.{Taken, Answers, overStep};
-use advance::advance;
 use advance::firsts;
-use advance::length_of;
-use advance::tile_starts;
-use advance::widths;
 use layout::operands_wrong;
 use layout::rank_over;
+use onward::advance_on;
+use onward::length_on;
 pub use states::begin;
 use states::reaches;
 use strided::Outcome;
@@ -20,6 +18,7 @@ use strided::Stepped;
 use strided::Walk;
 
 pub mod memory;
+pub mod onward;
 
 // "A refusal carries its number and nothing else."
 fn rejected(refusal: Refusal) -> Stepped
@@ -70,13 +69,11 @@ fn block_at<'a>(
     requires { ⌜ Taken (planOf rank operands (now e) (now b) (now s)) (walkOf false counters offsets) ⌝ }
     ensures { λ r. ⌜ r ≡ stepped (planOf rank operands (now (e .entry)) (now (b .entry)) (now (s .entry))) (walkOf false counters offsets) ⌝ }
 {
-    let w = widths(rank, e, b);
     let mut c = counters;
     let mut o = offsets;
-    let mut t = tile_starts(rank, &w, &c);
-    let length = length_of(rank, e, &w, &c);
+    let length = length_on(rank, e, b, &c);
     let strides = firsts(rank, operands, s);
-    let more = advance(rank, rank, operands, e, &w, s, &mut t, &mut c, &mut o);
+    let more = advance_on(rank, operands, e, b, s, &mut c, &mut o);
     let next = Walk {
         ended: !more,
         counters: c,

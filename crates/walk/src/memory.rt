@@ -6,11 +6,9 @@ ghost use Rattle.strided.specs.Step.{stepped};
 ghost use Rattle.strided.specs.Memory.{planOf, walkOf, flag as flagOf, walkAt, walkIn, stepAt, Steps};
 ghost use Rattle.walk.specs.Lent.{Taken};
 use crate::answer_of;
-use advance::advance;
+use crate::onward::advance_on;
+use crate::onward::length_on;
 use advance::firsts;
-use advance::length_of;
-use advance::tile_starts_into;
-use advance::widths_into;
 use layout::negated;
 use strided::Outcome;
 use strided::Plan;
@@ -67,11 +65,7 @@ pub fn block_into<'a>(
         let new = stepAt w′ (now («block_counters» .exit)) (now (length .exit)) (now («block_offsets» .exit)) (now («block_strides» .exit)) in
         ⌜ Steps (stepped p (walkOf false (now (counters .entry)) (now (offsets .entry)))) old new (pos 1) ⌝ }
 {
-    let mut w = [0u64; 64];
-    widths_into(rank, extents, blocks, &mut w);
-    let mut t = [0u64; 64];
-    tile_starts_into(rank, &w, counters, &mut t);
-    let bl = length_of(rank, extents, &w, counters);
+    let bl = length_on(rank, extents, blocks, counters);
     let bs = firsts(rank, operands, strides);
     let bc = *counters;
     let bo = *offsets;
@@ -79,17 +73,7 @@ pub fn block_into<'a>(
     *length = [bl];
     *block_offsets = bo;
     *block_strides = bs;
-    let more = advance(
-        rank,
-        rank,
-        operands,
-        extents,
-        &w,
-        strides,
-        &mut t,
-        counters,
-        offsets,
-    );
+    let more = advance_on(rank, operands, extents, blocks, strides, counters, offsets);
     let e = flag(!more);
     *ended = [e];
 }
