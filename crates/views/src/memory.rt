@@ -3,10 +3,15 @@
 ghost use mathlib.Core.Path.{_≡_};
 ghost use mathlib.Core.Bool.{false};
 ghost use mathlib.Core.Option.{none};
-ghost use lib.ListN.{length};
+ghost use Prim.Native.Nat.{_^_, _≤_, _<_};
+ghost use lib.ListN.{length, take};
+ghost use Rattle.strided.specs.Layout.{total};
 ghost use Rattle.strided.specs.Refusals.{layoutRefused};
 ghost use Rattle.strided.specs.Step.{stepped};
 ghost use Rattle.strided.specs.Memory.{planOf, walkOf, walkAt, walkIn, stepAt, indexAt};
+ghost use Rattle.auxiliary.specs.Fitting.{Fitting};
+ghost use Rattle.finding.specs.Mapped.{foundOriginal};
+ghost use Rattle.finding.specs.Memory.{Leaves};
 ghost use Rattle.walk.specs.Lent.{Taken};
 ghost use Rattle.views.specs.Visits.{seen, visited};
 ghost use Rattle.views.specs.Memory.{visitAt, VisitLeaves};
@@ -18,6 +23,34 @@ use strided::Outcome;
 use strided::Purpose;
 use walk::answer_of;
 use walk::memory::block_into;
+
+// The original index of the cell at a walk's counters: row 11 alone is judged.
+fn told_at<'a>(
+    extents: &'a [u64],
+    strides: &'a [i64],
+    operands: usize,
+    purpose: Purpose,
+    rank: usize,
+    counters: &[u64],
+    count: &mut [usize; 1],
+    index: &mut [u64; 64],
+) -> Answer
+    requires layout { ⌜ Fitting (now strides) (length (now extents)) operands ⌝ }
+    requires total { ⌜ total (now extents) < 2 ^ 64 ⌝ }
+    requires counters { ⌜ rank ≤ length (now counters) ⌝ }
+    ensures { λ r. ⌜ Leaves (foundOriginal (now (extents .entry)) operands (now (strides .entry)) purpose (take rank (now (counters .entry))))
+        (now (count .entry)) (now (index .entry)) (now (count .exit)) (now (index .exit)) r ⌝ }
+{
+    original_of(
+        extents,
+        strides,
+        operands,
+        purpose,
+        &counters[..rank],
+        count,
+        index,
+    )
+}
 
 // The block at the counters with its record, and the state at the next one: row 11 alone is judged.
 fn found_into<'a>(
@@ -53,13 +86,13 @@ fn found_into<'a>(
         let step = stepped p (walkOf false (now (counters .entry)) (now (offsets .entry))) in
         ⌜ VisitLeaves (seen (now (extents .entry)) (now (sizes .entry)) (now (strides .entry)) purpose p step) old new r ⌝ }
 {
-    let here = *counters;
-    let told = original_of(
+    let told = told_at(
         extents,
         strides,
         sizes.len(),
         purpose,
-        &here[..rank],
+        rank,
+        counters,
         count,
         index,
     );

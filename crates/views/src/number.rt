@@ -6,6 +6,7 @@ ghost use Rattle.strided.specs.Walk.{cutAxes};
 ghost use Rattle.views.specs.Number.{blockNumber};
 ghost use Rattle.views.specs.Tally.{tallied, numbered, Room, First, Countable};
 use advance::width_of;
+use walk::onward::start_at;
 
 // Of the axes from some axis on: how many indices the tiles before have, how many this tile has, and the place among these.
 pub struct Tally {
@@ -25,7 +26,7 @@ fn tally_axis(extent: u64, width: u64, at: u64, t: Tally) -> Tally
     requires { ⌜ Room extent width at t ⌝ }
     ensures { λ r. ⌜ r ≡ tallied extent width at t ⌝ }
 {
-    let start = at / width * width;
+    let start = start_at(width, at);
     let len = least(width, extent - start);
     let before = extent * t.before + start * t.size;
     let size = len * t.size;

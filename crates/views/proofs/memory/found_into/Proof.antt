@@ -5,26 +5,18 @@ use Prim.Native.Nat.{ℕ, _≤_}
 use lib.ListN.{take}
 use Rattle.finding.proofs.Answers.{fitting, cells-few}
 use Rattle.walk.proofs.Stepping.{axes-few}
-use Rattle.views.proofs.Answers.{taken-long, told-as, countable, visit-refused, visit-block}
+use Rattle.views.proofs.Answers.{told-as, countable, visit-refused, visit-block}
 use Rattle.views.proofs.memory.found_into.Statement.{statement}
 use Rattle.views.proofs.memory.found_into.Tie as tie
 
-array-share-prefix-here : tie.Need-array-share-prefix-here
-array-share-prefix-here c =
-    let k = c .before .before .before .pre .1 in
-    subst (λ (n : ℕ). c .before .before .before .args .rank ≤ n) (sym (k .counters-all)) (axes-few _ _ k)
-
-slice-aggregate-original-of : tie.Need-slice-aggregate-original-of
-slice-aggregate-original-of c =
-    let s = c .before .before .before .before in
-    let k = s .pre .1 in
-    taken-long (s .args .rank) (s .args .counters .now) (k .counters-all) (axes-few _ _ k)
-
-original-of-requires : tie.Need-original-of-requires
-original-of-requires c κs =
+told-at-requires : tie.Need-told-at-requires
+told-at-requires c κs =
     let s = c .before .before .before .before .before .before in
     let a = s .args in
-    (fitting (a .extents .now) (a .sizes .now) (a .strides .now) (a .purpose) (s .pre .0), cells-few (a .extents .now) (a .sizes .now) (a .strides .now) (a .purpose) (s .pre .0))
+    let k = s .pre .1 in (
+      fitting (a .extents .now) (a .sizes .now) (a .strides .now) (a .purpose) (s .pre .0),
+      (cells-few (a .extents .now) (a .sizes .now) (a .strides .now) (a .purpose) (s .pre .0), subst (λ (n : ℕ). a .rank ≤ n) (sym (k .counters-all)) (axes-few _ _ k)),
+    )
 
 enum-known-told : tie.Need-enum-known-told
 enum-known-told c = search needs
@@ -46,7 +38,7 @@ returns c =
     let o = c .before .before .before in
     let s = o .before .before .before .before .before .before .before in
     let a = s .args in
-    visit-refused _ _ (s .pre .1) refl (a .extents .now) (a .sizes .now) (a .strides .now) (a .purpose) (told-as (a .extents .now) (a .sizes .now) (a .strides .now) (a .purpose) (s .pre .0) (take (a .rank) (a .counters .now)) (c .before .told .given .1) (o .original-of .ensures)) _ _
+    visit-refused _ _ (s .pre .1) refl (a .extents .now) (a .sizes .now) (a .strides .now) (a .purpose) (told-as (a .extents .now) (a .sizes .now) (a .strides .now) (a .purpose) (s .pre .0) (take (a .rank) (a .counters .now)) (c .before .told .given .1) (o .told-at .ensures)) _ _
 
 returns-2 : tie.Need-returns-2
 returns-2 c =
@@ -55,15 +47,13 @@ returns-2 c =
     let o = e .before .before in
     let s = o .before .before .before .before .before .before .before in
     let a = s .args in
-    visit-block _ _ (s .pre .1) refl (a .extents .now) (a .sizes .now) (a .strides .now) (a .purpose) (told-as (a .extents .now) (a .sizes .now) (a .strides .now) (a .purpose) (s .pre .0) (take (a .rank) (a .counters .now)) (e .enum-told .given .1) (o .original-of .ensures)) (n .number-of .ensures) (c .block-into .ensures)
+    visit-block _ _ (s .pre .1) refl (a .extents .now) (a .sizes .now) (a .strides .now) (a .purpose) (told-as (a .extents .now) (a .sizes .now) (a .strides .now) (a .purpose) (s .pre .0) (take (a .rank) (a .counters .now)) (e .enum-told .given .1) (o .told-at .ensures)) (n .number-of .ensures) (c .block-into .ensures)
 
 pub found-into-spec : {M : Type 1} → statement M
 found-into-spec =
     tie.close
     (tie.spec
-    array-share-prefix-here
-    slice-aggregate-original-of
-    original-of-requires
+    told-at-requires
     enum-known-told
     enum-told
     number-of-requires

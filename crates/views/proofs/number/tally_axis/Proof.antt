@@ -1,69 +1,85 @@
 -- `views::number::tally_axis` meets its contract. Assumes nothing.
 use borrow.Author.Needs.{needs}
-use mathlib.Core.Path.{sym, ap, subst}
-use Prim.Native.Nat.{ℕ, _+_, _-_, _*_, _/_, _^_, _<_}
+use mathlib.Core.Path.{_≡_, sym, ap, _∙_, subst}
+use Prim.Native.Nat.{ℕ, _+_, _-_, _*_, _/_, _^_, _≤_, _<_}
 use native.Mathlib.Omega.{arith}
+use Rattle.strided.specs.Walk.{lenAt}
 use Rattle.laws.specs.Walk.Number.{start-le}
 use Rattle.views.specs.Tally.{tallied}
 use Rattle.views.proofs.number.tally_axis.Statement.{statement}
 use Rattle.views.proofs.number.tally_axis.Tie as tie
 
-div-start : tie.Need-div-start
-div-start c = search needs
-
-mul-start : tie.Need-mul-start
-mul-start c = record { fits = omega (arith, start-le (c .args .at) (c .args .width), c .fits .at .fits) }
+start-at-requires : tie.Need-start-at-requires
+start-at-requires c κs = search needs
 
 sub-least : tie.Need-sub-least
-sub-least c = omega (arith, start-le (c .args .at) (c .args .width), c .pre .below)
+sub-least c = omega (arith, c .start-at .ensures, start-le (c .before .args .at) (c .before .args .width), c .before .pre .below)
 
 least-requires : tie.Need-least-requires
 least-requires c κs = search needs
 
+-- the length is that of the tile
+sized : (c : tie.After-least) → let a = c .before .before .args in c .least .result ≡ lenAt (a .extent) (a .width) (a .at / a .width * a .width)
+sized c = let a = c .before .before .args in c .least .ensures ∙ ap (λ (s : ℕ). lenAt (a .extent) (a .width) s) (c .before .start-at .ensures)
+
 mul-before : tie.Need-mul-before
-mul-before c = search needs
+mul-before c = let s = c .before .before .before in record { fits = omega (arith, s .pre .before) }
 
 mul-before-2 : tie.Need-mul-before-2
-mul-before-2 c = search needs
+mul-before-2 c =
+    let p = c .before .before .before in
+    let s = p .before in
+    record { fits = subst (λ (n : ℕ). n * s .args .t .size < 2 ^ 64) (sym (p .start-at .ensures)) (omega (arith, s .pre .before)) }
 
 add-before : tie.Need-add-before
-add-before c = search needs
+add-before c =
+    let p = c .before .before .before in
+    let s = p .before in
+    record { fits = subst (λ (n : ℕ). s .args .extent * s .args .t .before + n * s .args .t .size < 2 ^ 64) (sym (p .start-at .ensures)) (s .pre .before) }
 
 mul-size : tie.Need-mul-size
 mul-size c =
-    let s = c .before .before .before .before in
-    record { fits = subst (λ (l : ℕ). l * s .args .t .size < 2 ^ 64) (sym (c .before .before .before .least .ensures)) (s .pre .size) }
+    let l = c .before .before .before in
+    let s = l .before .before in
+    record { fits = subst (λ (n : ℕ). n * s .args .t .size < 2 ^ 64) (sym (sized l)) (s .pre .size) }
 
 mul-place : tie.Need-mul-place
 mul-place c =
-    let s = c .before .before .before .before .before in
-    record { fits = subst (λ (l : ℕ). l * s .args .t .place < 2 ^ 64) (sym (c .before .before .before .before .least .ensures)) (omega (arith, s .pre .place)) }
+    let l = c .before .before .before .before in
+    let s = l .before .before in
+    record { fits = subst (λ (n : ℕ). n * s .args .t .place < 2 ^ 64) (sym (sized l)) (omega (arith, s .pre .place)) }
 
 sub-place : tie.Need-sub-place
-sub-place c = start-le _ _
+sub-place c =
+    let p = c .before .before .before .before .before in
+    let a = p .before .args in
+    subst (λ (n : ℕ). n ≤ a .at) (sym (p .start-at .ensures)) (start-le (a .at) (a .width))
 
 add-place : tie.Need-add-place
 add-place c =
-    let s = c .before .before .before .before .before in
+    let l = c .before .before .before .before in
+    let p = l .before in
+    let s = p .before in
     let a = s .args in
     record {
-      fits = subst (λ (l : ℕ). l * a .t .place + (a .at - a .at / a .width * a .width) < 2 ^ 64) (sym (c .before .before .before .before .least .ensures)) (s .pre .place);
+      fits =
+          subst (λ (n : ℕ). n * a .t .place + (a .at - p .start-at .result) < 2 ^ 64) (sym (sized l))
+          (subst (λ (n : ℕ). lenAt (a .extent) (a .width) (a .at / a .width * a .width) * a .t .place + (a .at - n) < 2 ^ 64) (sym (p .start-at .ensures)) (s .pre .place));
     }
 
 returns : tie.Need-returns
 unfolding tallied
 returns c =
-    let a = c .before .before .before .before .before .args in
-    let s : ℕ = a .at / a .width * a .width in
-    ap (λ (l : ℕ). record { before = a .extent * a .t .before + s * a .t .size; size = l * a .t .size; place = l * a .t .place + (a .at - s) })
-    (c .before .before .before .before .least .ensures)
+    let l = c .before .before .before .before in
+    let p = l .before in
+    let a = p .before .args in
+    λ i. record { before = a .extent * a .t .before + p .start-at .ensures i * a .t .size; size = sized l i * a .t .size; place = sized l i * a .t .place + (a .at - p .start-at .ensures i) }
 
 pub tally-axis-spec : {M : Type 1} → statement M
 tally-axis-spec =
     tie.close
     (tie.spec
-    div-start
-    mul-start
+    start-at-requires
     sub-least
     least-requires
     mul-before
