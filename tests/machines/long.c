@@ -1,5 +1,6 @@
 /*
- * The library's plans for drawn layouts and records against the planner beside this file: the answer, and every place of every lent array.
+ * The library's plans for drawn layouts and records against the planner beside this file: the answer, and every place of every lent array. The
+ * arrays hold other numbers before each call; on a refusal they hold them still, and what a call only reads is as it was.
  *
  *     long COUNT SEED [FIRST]    compares so many cases, from number FIRST on (0)
  *     long draw COUNT SEED       prints them, a line each
@@ -62,6 +63,23 @@ static void put_plan(lent_t *lent, const axes_t *axes)
     }
 }
 
+static uint64_t sum_of(const void *words, size_t count, uint64_t sum)
+{
+    for (size_t i = 0; i < count; i++) {
+        uint64_t word;
+        memcpy(&word, (const char *)words + i * sizeof word, sizeof word);
+        sum = (sum ^ word) * 0x100000001b3 + i;
+    }
+    return sum;
+}
+
+/* A sum over what a call reads, to see that it is left as it was. */
+static uint64_t inputs_sum(const case_t *drawn)
+{
+    const uint64_t sum = sum_of(drawn->extents, drawn->rank, sum_of(drawn->sizes, drawn->operands, 0));
+    return sum_of(drawn->strides, drawn->stride_count, sum);
+}
+
 static int64_t call(const case_t *drawn, lent_t *lent)
 {
     const record_t *record = &drawn->record;
@@ -110,8 +128,11 @@ static int compare(const case_t *drawn, uint64_t seed, uint64_t number)
     const int row = plan(&layout, &drawn->record, &axes);
     if (row == 0)
         put_plan(&due, &axes);
+    const uint64_t inputs = inputs_sum(drawn);
     const int64_t answer = call(drawn, &lent);
-    if (answer == -row && memcmp(&lent, &due, sizeof lent) == 0)
+    if (inputs != inputs_sum(drawn))
+        printf("the library wrote to its inputs\n");
+    else if (answer == -row && memcmp(&lent, &due, sizeof lent) == 0)
         return 1;
     printf("seed %" PRIu64 ", case %" PRIu64 ": the answers differ\n", seed, number);
     write_case(stdout, drawn);
