@@ -25,7 +25,7 @@ uint64_t between(uint64_t least, uint64_t most);
 int chance(unsigned percent);
 /* A number whose length in bits is drawn, so that small ones are as many as large ones. */
 uint64_t spread(uint64_t least, uint64_t most);
-/* One of a list. */
+/* One of a list. At most one number of the list is drawn itself: C leaves open which of two would come first, and a seed is to tell a case. */
 uint64_t one_of(const uint64_t *list, size_t count);
 #define ONE_OF(...) one_of((const uint64_t[]){__VA_ARGS__}, sizeof((const uint64_t[]){__VA_ARGS__}) / sizeof(uint64_t))
 void shuffle(size_t *list, size_t count);

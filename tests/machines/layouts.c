@@ -107,9 +107,11 @@ static void disturb(draft_t *draft, size_t k, const record_t *record)
     const uint64_t size = draft->sizes[k];
     int64_t *strides = draft->strides[k];
     const int still = chance(20), back = chance(20);
-    if (draft->rank != 0 && chance(15))
-        strides[below(draft->rank)] = (int64_t)ONE_OF(1, 2, elements(size, record->line), elements(size, record->way),
-                                                      record->cache / at_least_1(size), (uint64_t)strides[below(draft->rank)], below(10000));
+    if (draft->rank != 0 && chance(15)) {
+        const size_t axis = below(draft->rank), other = below(draft->rank);
+        const uint64_t some = below(10000), by_line = elements(size, record->line), by_way = elements(size, record->way);
+        strides[axis] = (int64_t)ONE_OF(1, 2, by_line, by_way, record->cache / at_least_1(size), (uint64_t)strides[other], some);
+    }
     for (size_t i = 0; i < draft->rank; i++) {
         if (still && chance(35))
             strides[i] = 0;
@@ -172,18 +174,18 @@ static void crowded(draft_t *draft, const record_t *record)
     const uint64_t size = ONE_OF(1, 2, 4, 8, 8, 8, 16), by_way = elements(size, record->way);
     draft->operands = 2;
     draft->sizes[0] = draft->sizes[1] = size;
-    draw_shape(draft, between(2, 5), record->cache / size * ONE_OF(1, 2, 8, 60));
+    const uint64_t cells = record->cache / size * ONE_OF(1, 2, 8, 60);
+    draw_shape(draft, between(2, 5), cells);
     draw_strides(draft, record);
-    draw_purpose(draft);
     draft->purpose = POINTWISE_INTO;
     draft->chosen = below(2);
-    const size_t far = below(2);
+    const size_t far = below(2), near_axis = below(draft->rank);
     for (size_t i = 0; i < draft->rank; i++) {
         draft->strides[far][i] = (int64_t)(by_way * ONE_OF(1, 1, 2, 3, (uint64_t)1 << i, 1000));
         if (chance(20))
             draft->strides[1 - far][i] = 0;
     }
-    draft->strides[far][below(draft->rank)] = (int64_t)ONE_OF(1, 1, 1, 0, elements(size, record->line));
+    draft->strides[far][near_axis] = (int64_t)ONE_OF(1, 1, 1, 0, elements(size, record->line));
 }
 
 /* One or two long axes with small strides, often 0: regions beyond 64 bits, single steps without end. Some are refused. */
@@ -260,11 +262,12 @@ static void high(draft_t *draft, const record_t *record)
 static void small(draft_t *draft, const record_t *record)
 {
     const int exact = chance(30);
+    const size_t rank = exact ? between(1, 6) : below(7);
     draw_sizes(draft);
     if (exact)
-        draw_exact(draft, between(1, 6), between(SMALL - 1, SMALL + 2));
+        draw_exact(draft, rank, between(SMALL - 1, SMALL + 2));
     else
-        draw_shape(draft, below(7), ONE_OF(1, 30, 300, SMALL));
+        draw_shape(draft, rank, ONE_OF(1, 30, 300, SMALL));
     for (size_t i = 0; i < draft->rank; i++)
         if (!exact && chance(10))
             draft->extents[i] = ONE_OF(0, 1, 1);
@@ -277,7 +280,8 @@ static uint64_t stretch(uint64_t most) { return chance(60) ? power_above(spread(
 
 static uint64_t wide_size(void)
 {
-    return ONE_OF((uint64_t)1 << below(64), ONE_OF(1, 3, 7, 63) << below(59), UINT64_MAX - below(99), any());
+    const uint64_t bit = below(64), times = ONE_OF(1, 3, 7, 63), less = below(99), size = any();
+    return ONE_OF((uint64_t)1 << bit, times << bit % 59, UINT64_MAX - less, size);
 }
 
 static wide_t reach_of(const draft_t *draft, size_t k)
@@ -321,7 +325,8 @@ static void take_the_rest(draft_t *draft, size_t k, size_t axis)
     const wide_t reach = reach_of(draft, k);
     if (reach >= INT64_MAX)
         return;
-    const uint64_t left = (uint64_t)INT64_MAX - (uint64_t)reach - ONE_OF(0, 0, 1) + chance(20);
+    const uint64_t beside = ONE_OF(-(uint64_t)1, 0, 0, 0, 1);
+    const uint64_t left = (uint64_t)INT64_MAX - (uint64_t)reach + beside;
     draft->strides[k][axis] = chance(50) || left > INT64_MAX ? (int64_t)-left : (int64_t)left;
 }
 
@@ -365,7 +370,8 @@ static void at_total(draft_t *draft, const record_t *record)
 static void vast(draft_t *draft, const record_t *record)
 {
     draft->operands = between(1, 3);
-    draw_exact(draft, between(2, 5), (uint64_t)1 << between(54, 61));
+    const size_t rank = between(2, 5);
+    draw_exact(draft, rank, (uint64_t)1 << between(54, 61));
     for (size_t k = 0; k < draft->operands; k++)
         draft->sizes[k] = (uint64_t)32 << (chance(70) ? below(4) : below(59));
     draw_strides(draft, record);
@@ -374,8 +380,8 @@ static void vast(draft_t *draft, const record_t *record)
 
 static uint64_t edge_extent(void)
 {
-    const uint64_t middle = (uint64_t)1 << 63;
-    return ONE_OF(0, 0, 1, 2, 3, 1024, 1025, ((uint64_t)1 << 32) - 1 + below(3), middle - 1, middle, middle + 1, UINT64_MAX, spread(1, UINT64_MAX));
+    const uint64_t half = ((uint64_t)1 << 32) - 1 + below(3), middle = (uint64_t)1 << 63, some = spread(1, UINT64_MAX);
+    return ONE_OF(0, 0, 1, 2, 3, 1024, 1025, half, middle - 1, middle, middle + 1, UINT64_MAX, some);
 }
 
 static int64_t edge_stride(void)

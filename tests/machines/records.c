@@ -10,7 +10,8 @@ static const record_t fixed = {64, 32768, 4096, 6};
 /* Small ways often: the fit looks at byte strides that are multiples of the way. */
 static uint64_t draw_way(uint64_t line, uint64_t cache)
 {
-    const uint64_t most = cache / line, many = ONE_OF(1, 1, 2, 3, 4, 5, 8, 16, 64, most, between(1, most), spread(1, most));
+    const uint64_t most = cache / line, some = between(1, most), few = spread(1, most);
+    const uint64_t many = ONE_OF(1, 1, 2, 3, 4, 5, 8, 16, 64, most, some, few);
     return line * (many < most ? many : most);
 }
 
@@ -64,7 +65,11 @@ record_t refused_record(record_t record)
         record.way = ONE_OF(0, 1, line / 2, line - 1, line + 1, record.way + 1, record.way - 1, above, above + line, -line, WIDE);
         break;
     case 3: record.live = ONE_OF(0, LIVE + 1, LIVE + 2, 32, 256, WIDE); break;
-    default: record = (record_t){any(), any(), any(), any()};
+    default:
+        record.line = any();
+        record.cache = any();
+        record.way = any();
+        record.live = any();
     }
     return record;
 }
