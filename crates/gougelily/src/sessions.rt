@@ -6,12 +6,12 @@ ghost use Rattle.session.specs.Session.{given, begun, joined, left};
 ghost use Rattle.session.specs.Memory.{numbersAt};
 ghost use Rattle.session.specs.Made.{sessionAt};
 use super::codes::code_of;
+use joining::begin_lent;
+use joining::join_lent;
+use joining::leave_lent;
 use kernel::Aim;
 use layout::purpose_of;
 use session::Numbers;
-use session::begin_lent;
-use session::join_lent;
-use session::leave_lent;
 use strided::Machine;
 
 // A session begins with a layout.

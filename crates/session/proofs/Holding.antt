@@ -24,26 +24,26 @@ use Rattle.strided.specs.Plan.{planFrom, strideTable, cutBlocks}
 use Rattle.laws.specs.Fuse.Maps.{plan-short}
 use Rattle.laws.specs.Plan.Places.{blocks-length}
 use Rattle.kernel.proofs.Plans.{plannable}
-use Rattle.strided.specs.Refusals.{answered, planningRefused, row1, row2, row6}
+use Rattle.strided.specs.Refusals.{Row, refusedBy, answered, planningRefused, row1, row2, row6}
 use Rattle.strided.specs.declared.Purpose.{Purpose}
 use Rattle.strided.specs.declared.Purpose.the-variants.{PointwiseInto, Fold}
 use Rattle.strided.specs.declared.Answer.{Answer}
-use Rattle.strided.specs.declared.Answer.the-variants.{Served}
+use Rattle.strided.specs.declared.Answer.the-variants.{Served, Refused}
 use Rattle.strided.specs.declared.Plan.{Plan}
 use Rattle.strided.specs.declared.Refusal.{Refusal}
+use Rattle.strided.specs.declared.Refusal.the-variants.{State}
 use Rattle.laws.specs.Base.Arrays.{blank-ℕ, blank-ℤ, blank-behind, padded-take, length-padded, take-counted}
 use Rattle.laws.specs.Base.Rows.{length-over}
 use Rattle.laws.specs.Base.Tests.{and-both, both-and, or-cases}
 use Rattle.laws.specs.Refusals.Rows.{served-none}
 use Rattle.session.specs.declared.Numbers.{Numbers}
 use Rattle.session.specs.declared.Session.{Session}
-use Rattle.session.specs.Session.{Given, refusedOf, ranksOf, weightsOf, costsOf, planOf, kindOf, freshOf, sameNats, sameInts, Right}
-use Rattle.session.specs.Same.{Decides, same-nats, nats-same, same-ints, ints-same}
+use Rattle.session.specs.Session.{Given, refusedOf, ranksOf, weightsOf, costsOf, planOf, kindOf, freshOf, sameNats, sameInts, Right, holds, row10}
+use Rattle.session.specs.Same.{Decides, same-nats, nats-same, same-ints, ints-same, right-holds, decides-holds}
 use Rattle.session.specs.Afresh.{taken-of, allowed-of, few-strides}
 use Rattle.session.specs.Made.{Even, rowsOf, ranksIn, TableOf, AxesIn, AxesAt, Cuttable, BlocksAt, KeptIn, Keeps, LayoutRight, Laid, withPlan, givenIn, sessionAt}
 use Rattle.session.specs.Tabled.{Tabled}
-use Rattle.session.proofs.Tabling.{own-tabled, exact-ranks}
-use Rattle.session.proofs.Laying.{rows-more}
+use Rattle.session.proofs.Tabling.{rows-more, own-tabled, exact-ranks}
 
 -- ---- tests and claims
 
@@ -474,3 +474,12 @@ new-far es ts rank e h =
     let z : 0 * rank ≡ 0 = zero-mul rank in
     let r : rowAt es ts rank 0 ≡ ts = ap (λ (n : ℕ). take (length es) (drop n ts)) z ∙ take-all (length es) ts (omega (arith, e, h)) in
     ap (λ (l : List ℤ). not (hasZero es) && cond (ltb maxI (reach es l)) true false) r
+
+-- ---- row 10 first
+
+module _ (s : Session) {b : Bool} (d : Decides b (Right s)) (rs : List Row) where
+  pub past-10 : b ≡ true → answered (refusedBy (row10 s ∷ rs)) ≡ answered (refusedBy rs)
+  past-10 h = let e : holds s ≡ true = right-holds s (d .yes h) in rw e
+
+  pub at-10 : b ≡ false → answered (refusedBy (row10 s ∷ rs)) ≡ Refused State
+  at-10 h = let e : holds s ≡ false = sym (decides-holds s _ d) ∙ h in rw e

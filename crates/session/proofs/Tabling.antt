@@ -14,7 +14,7 @@ use Rattle.strided.specs.Layout.{strideRow}
 use Rattle.strided.specs.Ranks.{rankOf, ranks, rankTable}
 use Rattle.laws.specs.Base.Arrays.{length-padded, getD-padded, take-counted}
 use Rattle.laws.specs.Base.Filling.{length-rows, fill-at}
-use Rattle.laws.specs.Base.Lists.{All, getD-run, over-map}
+use Rattle.laws.specs.Base.Lists.{All, getD-run, over-map, over-last, run-append}
 use Rattle.laws.specs.Order.Ranks.{rank-le, ranks-places, table-rows}
 use Rattle.strided.specs.declared.Machine.{Machine}
 use Rattle.strided.specs.declared.Purpose.{Purpose}
@@ -74,6 +74,10 @@ table-even ss rank m h table is =
     }
 
 -- ---- laid one behind the other
+
+-- rows one behind the other: the next one is behind those that stand
+pub rows-more : {A : Type 0} (f : ℕ → List A) (m : ℕ) → over (run 0 (m + 1)) f ≡ over (run 0 m) f ++ f m
+rows-more f m = ap (λ (l : List ℕ). over l f) (run-append m 1 0) ∙ over-last (run 0 m) (0 + m) f ∙ ap (λ (i : ℕ). over (run 0 m) f ++ f i) (let e : 0 + m ≡ m = omega arith in e)
 
 pub over-agree : {A : Type 0} (f g : ℕ → List A) (n s : ℕ) → ((j : ℕ) → s ≤ j → j < s + n → f j ≡ g j) → over (run s n) f ≡ over (run s n) g
 over-agree f g zero s h = refl

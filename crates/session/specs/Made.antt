@@ -25,7 +25,7 @@ use Rattle.model.specs.Plannable.{Plannable}
 use Rattle.session.specs.declared.Numbers.{Numbers}
 use Rattle.session.specs.declared.Session.{Session}
 use Rattle.session.specs.declared.Sessioned.{Sessioned}
-use Rattle.session.specs.Session.{Given, given, refusedOf, weightsOf, costsOf, planOf, kindOf, purposeWithout}
+use Rattle.session.specs.Session.{Given, given, refusedOf, weightsOf, costsOf, planOf, kindOf, purposeWithout, noSession}
 
 -- ---- the table of ranks
 
@@ -192,6 +192,22 @@ sessionAt n E Z S R W C PE PB PS =
       costs = C;
       plan = record { rank = n .«plan_rank»; operands = n .«plan_operands»; extents = PE; blocks = PB; strides = PS };
     }
+
+-- the numbers of a session, and of none
+abbrev pub numbersOf : Session → Numbers
+numbersOf s =
+    record {
+      purpose = s .purpose;
+      chosen = s .chosen;
+      machine = s .machine;
+      rank = s .rank;
+      operands = s .operands;
+      «plan_rank» = s .plan .rank;
+      «plan_operands» = s .plan .operands;
+    }
+
+abbrev pub noNumbers : Numbers
+noNumbers = numbersOf noSession
 
 -- the call answers, and a session lent that was `old` is `new`: the one handed out, or on a refusal the old one
 pub record Lent (t : Sessioned) (old new : Session) (answer : Answer) : Type 0 where

@@ -6,8 +6,7 @@ use lib.ListN.{take}
 use Rattle.session.specs.declared.Session.{Session}
 use Rattle.session.specs.Session.{newRows}
 use Rattle.session.specs.Made.{LayoutRight, sessionAt}
-use Rattle.session.proofs.Holding.{right-layout}
-use Rattle.session.proofs.Answering.{past-10, at-10}
+use Rattle.session.proofs.Holding.{right-layout, past-10, at-10}
 use borrow.Author.Needs.{needs}
 use Rattle.session.proofs.check_join.Statement.{statement}
 use Rattle.session.proofs.check_join.Tie as tie

@@ -6,7 +6,7 @@ use mathlib.Core.List.{[], _∷_}
 use Rattle.session.specs.declared.Session.{Session}
 use Rattle.session.specs.Session.{row21}
 use Rattle.session.specs.Made.{sessionAt}
-use Rattle.session.proofs.Answering.{past-10, at-10}
+use Rattle.session.proofs.Holding.{past-10, at-10}
 use borrow.Author.Needs.{needs}
 use Rattle.session.proofs.check_leave.Statement.{statement}
 use Rattle.session.proofs.check_leave.Tie as tie

@@ -1,0 +1,3 @@
+pub mod Laying
+pub mod Moving
+pub mod Answering
