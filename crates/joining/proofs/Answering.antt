@@ -4,12 +4,18 @@ use mathlib.Core.List.{List, [], _∷_, _++_}
 use mathlib.Core.Option.{Option, none, some}
 use Prim.Native.Nat.{ℕ, _+_, _-_, _*_, _≤_, _<_}
 use native.Mathlib.Omega.{arith}
-use lib.IntN.{ℤ}
+use lib.IntN.{ℤ, pos}
 use lib.ListN.{length, getD, take, length-append}
 use Rattle.strided.specs.Refusals.{refusedBy, answered}
 use Rattle.strided.specs.declared.Refusal.{Refusal}
 use Rattle.strided.specs.declared.Answer.{Answer}
 use Rattle.strided.specs.declared.Answer.the-variants.{Served, Refused}
+use Rattle.strided.specs.Base.{padded, over, run}
+use Rattle.strided.specs.Layout.{Axis, row}
+use Rattle.strided.specs.Fuse.{planAxes}
+use Rattle.strided.specs.Plan.{strideTable}
+use Rattle.laws.specs.Base.Arrays.{length-padded, take-counted}
+use Rattle.laws.specs.Base.Rows.{length-over}
 use Rattle.laws.specs.Base.Filling.{length-rows}
 use Rattle.laws.specs.Refusals.Rows.{served-none}
 use Rattle.session.specs.declared.Numbers.{Numbers}
@@ -17,8 +23,8 @@ use Rattle.session.specs.declared.Session.{Session}
 use Rattle.session.specs.declared.Sessioned.{Sessioned}
 use Rattle.session.specs.Session.{Given, refusedOf, freshOf, givenOf, withOperand, oldPlace, sizesWithout, stridesWithout, withoutOperand, Right, joinRows, leaveRows, noSession, sessionedOr, begun, joined, left}
 use Rattle.session.specs.Afresh.{right-rank, right-operands, join-right, join-room, join-counted, join-near, join-accepted, leave-right, leave-there, leave-two, leave-accepted}
-use Rattle.session.specs.Made.{TableOf, LayoutRight, Standing, KeptIn, givenIn, withMore, withLess, withPlan, sessionAt, numbersOf, noNumbers, Lent}
-use Rattle.session.proofs.Holding.{right-layout, right-ranks, own-ranks}
+use Rattle.session.specs.Made.{TableOf, LayoutRight, Standing, KeptIn, givenIn, withMore, withLess, withPlan, purposeIn, sessionAt, numbersOf, noNumbers, Lent}
+use Rattle.session.proofs.Holding.{right-layout, right-ranks, right-keeps, own-ranks, keeps-axes}
 use Rattle.joining.proofs.Moving.{right-standing, stands-right, stands-table, stands-session}
 
 -- ---- a session that is lent
@@ -99,6 +105,11 @@ module _ (s : Session) (n : Numbers) (q : n ≡ numbersOf s) {new : Session} {a 
 
 -- ---- what the rows of a call let through
 
+table-blank : (axs : List Axis) (m : ℕ) → m ≤ 8 → {PS : List ℤ} → PS ≡ strideTable axs m → PS ≡ padded 512 (pos 0) (take (m * 64) PS)
+table-blank axs m few q =
+    let long = length-over 64 (λ k. padded 64 (pos 0) (row k axs)) m 0 (λ j a b. length-padded (pos 0) 64 (row j axs)) in
+    q ∙ ap (padded 512 (pos 0)) (sym (ap (take (m * 64)) q ∙ take-counted (pos 0) 512 (m * 64) (over (run 0 m) (λ k. padded 64 (pos 0) (row k axs))) long (omega (arith, few))))
+
 module _ (n : Numbers) (E Z : List ℕ) (S : List ℤ) (R W C PE PB : List ℕ) (PS : List ℤ) where
   abbrev s : Session
   s = sessionAt n E Z S R W C PE PB PS
@@ -109,6 +120,14 @@ module _ (n : Numbers) (E Z : List ℕ) (S : List ℤ) (R W C PE PB : List ℕ) 
   own-table h {table} t =
       let l = right-layout n E Z S R W C PE PB PS h in
       right-standing n E Z S l t (right-ranks n E Z S R W C PE PB PS h ∙ sym (own-ranks n E Z S l table t))
+
+  -- the strides of the plan stand in the rows of its operands
+  own-plan : Right s → (n .«plan_operands» ≤ 8) × (PS ≡ padded 512 (pos 0) (take (n .«plan_operands» * 64) PS))
+  own-plan h =
+      let l = right-layout n E Z S R W C PE PB PS h in
+      let x = keeps-axes n E Z S l (right-keeps n E Z S R W C PE PB PS h) in
+      let few = l .few in let e = x .0 in
+      (omega (arith, few, e), subst (λ (m : ℕ). PS ≡ padded 512 (pos 0) (take (m * 64) PS)) (sym e) (table-blank (planAxes (take (n .rank) E) (n .operands) (take (n .rank * n .operands) S) (purposeIn n)) (n .operands) few (x .1 .strides)))
 
   -- joining
   module _ (ts : List ℤ) (h : answered (refusedBy (joinRows s ts)) ≡ Served) where
@@ -121,6 +140,9 @@ module _ (n : Numbers) (E Z : List ℕ) (S : List ℤ) (R W C PE PB : List ℕ) 
     pub join-stands : {table : List (List ℕ)} → TableOf (take (n .rank * n .operands) S) (n .rank) (n .operands) table
         → Standing (n .rank) (take (n .operands) Z) (take (n .rank * n .operands) S) Z S R table
     join-stands t = own-table r t
+
+    pub join-plan : (n .«plan_operands» ≤ 8) × (PS ≡ padded 512 (pos 0) (take (n .«plan_operands» * 64) PS))
+    join-plan = own-plan r
 
     pub join-few : n .operands < 8
     join-few = let a = join-room s ts passed in let e = right-operands s r in omega (arith, a, e)
@@ -169,6 +191,9 @@ module _ (n : Numbers) (E Z : List ℕ) (S : List ℤ) (R W C PE PB : List ℕ) 
     pub leave-stands : {table : List (List ℕ)} → TableOf (take (n .rank * n .operands) S) (n .rank) (n .operands) table
         → Standing (n .rank) (take (n .operands) Z) (take (n .rank * n .operands) S) Z S R table
     leave-stands t = own-table r′ t
+
+    pub leave-plan : (n .«plan_operands» ≤ 8) × (PS ≡ padded 512 (pos 0) (take (n .«plan_operands» * 64) PS))
+    leave-plan = own-plan r′
 
     pub leave-at : k < n .operands
     leave-at = let a = leave-there s k let-out in let e = right-operands s r′ in omega (arith, a, e)

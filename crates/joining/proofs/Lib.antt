@@ -1,3 +1,4 @@
 pub mod Laying
+pub mod Closing
 pub mod Moving
 pub mod Answering

@@ -19,7 +19,7 @@ use Rattle.strided.specs.declared.Purpose.{Purpose}
 use Rattle.laws.specs.Base.Arrays.{length-padded, take-padded, take-counted}
 use Rattle.laws.specs.Base.Filling.{length-rows, fill-at}
 use Rattle.laws.specs.Base.Lists.{over-last}
-use Rattle.laws.specs.Base.Rows.{row-fits, length-over}
+use Rattle.laws.specs.Base.Rows.{row-fits, length-over, row-over}
 use Rattle.laws.specs.Order.Ranks.{table-rows}
 use Rattle.auxiliary.specs.Fitting.{Fitting}
 use Rattle.session.specs.declared.Numbers.{Numbers}
@@ -82,12 +82,14 @@ module _ (rank m : ℕ) (Z : List ℕ) (S : List ℤ) (R : List ℕ) (table : Li
   ss = take (rank * m) S
 
   -- the ranks so far
-  front-ranks : take (m * 64) R ≡ over (rankTable ss rank m) (padded 64 0)
-  front-ranks =
-      let is = rows-laid ss rank m few table stand-table in
+  pub front-rows : take (m * 64) R ≡ rowsOf table m
+  front-rows =
       let even = table-even ss rank m (st .fits .rank-few) table stand-table in
       let long : length (rowsOf table m) ≡ m * 64 = length-over 64 (λ j. getD table j []) m 0 (λ j a b. even .rows j (omega arith) .long) in
-      ap (take (m * 64)) stand-ranks ∙ take-counted 0 512 (m * 64) (rowsOf table m) long (omega (arith, few)) ∙ is
+      ap (take (m * 64)) stand-ranks ∙ take-counted 0 512 (m * 64) (rowsOf table m) long (omega (arith, few))
+
+  front-ranks : take (m * 64) R ≡ over (rankTable ss rank m) (padded 64 0)
+  front-ranks = front-rows ∙ rows-laid ss rank m few table stand-table
 
   pub ranks-front : R ≡ padded 512 0 (take (m * 64) R)
   ranks-front = stand-ranks ∙ ap (padded 512 0) (rows-laid ss rank m few table stand-table ∙ sym front-ranks)
@@ -160,14 +162,24 @@ module _ (rank m : ℕ) (Z : List ℕ) (S : List ℤ) (R : List ℕ) (table : Li
       let e = stand-operands rank m Z S R table few st in
       omega (arith, a, e)
 
-  pub drop-even : {table′ : List (List ℕ)} → table′ ≡ padded 8 zeroRow (map (λ j. getD table (oldPlace k j) []) (run 0 (m - 1))) → Even table′
-  drop-even {table′} et =
-      table-even (stridesWithout rank m k (take (rank * m) S)) rank (m - 1) (st .fits .rank-few) table′
-      (table-less (take (rank * m) S) rank m few table (stand-table rank m Z S R table few st) k (stand-strides rank m Z S R table few st) there table′ et)
+  -- the rows of the ranks that stay are those of the table that stays
+  row-stays : (j : ℕ) → j < m - 1 → {table′ : List (List ℕ)} → table′ ≡ padded 8 zeroRow (map (λ j. getD table (oldPlace k j) []) (run 0 (m - 1)))
+      → take 64 (drop (oldPlace k j * 64) R) ≡ getD table′ j []
+  row-stays j h et =
+      let i : ℕ = oldPlace k j in
+      let q = old-there m k j there h in
+      let even = table-even (take (rank * m) S) rank m (st .fits .rank-few) table (stand-table rank m Z S R table few st) in
+      let e : 0 + i ≡ i = omega arith in
+      let fits : i * 64 + 64 ≤ m * 64 = omega (arith, q) in
+      sym (take-in (i * 64) 64 (m * 64) R fits)
+      ∙ ap (λ (l : List ℕ). take 64 (drop (i * 64) l)) (front-rows rank m Z S R table few st)
+      ∙ row-over 64 (λ j. getD table j []) m 0 i (λ j a b. even .rows j (omega arith) .long) q
+      ∙ ap (λ (x : ℕ). getD table x []) e
+      ∙ sym (ap (λ (t : List (List ℕ)). getD t j []) et ∙ fill-at 8 zeroRow [] (λ j. getD table (oldPlace k j) []) (m - 1) j h (omega (arith, few)))
 
   pub drop-stands : {Z′ : List ℕ} {S′ : List ℤ} {R′ : List ℕ} {table′ : List (List ℕ)} → Z′ ≡ padded 8 0 (sizesWithout k (take m Z))
       → S′ ≡ padded 512 (pos 0) (stridesWithout rank m k S) → table′ ≡ padded 8 zeroRow (map (λ j. getD table (oldPlace k j) []) (run 0 (m - 1)))
-      → R′ ≡ ranksIn table′ (m - 1) → Standing rank (sizesWithout k (take m Z)) (stridesWithout rank m k (take (rank * m) S)) Z′ S′ R′ table′
+      → R′ ≡ padded 512 0 (over (run 0 (m - 1)) (λ j. take 64 (drop (oldPlace k j * 64) R))) → Standing rank (sizesWithout k (take m Z)) (stridesWithout rank m k (take (rank * m) S)) Z′ S′ R′ table′
   drop-stands {Z′} {S′} {R′} {table′} ez es et er =
       let ss = take (rank * m) S in
       let long = stand-strides rank m Z S R table few st in
@@ -182,7 +194,9 @@ module _ (rank m : ℕ) (Z : List ℕ) (S : List ℤ) (R : List ℕ) (table : Li
         sizes = ez;
         strides = es ∙ ap (padded 512 (pos 0)) (strides-cut S rank m k (let f = few-strides rank m (st .fits .rank-few) few in let e = stand-long rank m Z S R table few st in omega (arith, f, e)) there);
         rows = record { is = after ∙ ap (tableOf (stridesWithout rank m k ss) rank) (sym less) };
-        ranks = er ∙ ap (ranksIn table′) (sym less);
+        ranks =
+            er ∙ ap (padded 512 0) (over-agree (λ j. take 64 (drop (oldPlace k j * 64) R)) (λ j. getD table′ j []) (m - 1) 0 (λ j a b. row-stays j (omega arith) et))
+            ∙ ap (ranksIn table′) (sym less);
       }
 
 -- ---- a layout that planning accepts stands in the arrays

@@ -3,7 +3,8 @@ ghost use mathlib.Core.Path.{_≡_};
 ghost use mathlib.Core.List.{[], _∷_, _++_, map};
 ghost use Prim.Native.Nat.{ℕ, _+_, _-_, _*_, _≤_, _<_};
 ghost use lib.IntN.{pos};
-ghost use lib.ListN.{length, getD, take, replicate};
+ghost use lib.ListN.{length, getD, take, drop, replicate};
+ghost use lib.Seq.{paste};
 ghost use Rattle.strided.specs.Base.{padded, over, run};
 ghost use Rattle.strided.specs.Ranks.{ranks};
 ghost use Rattle.session.specs.Session.{kindOf, oldPlace, newPlace, purposeWithout, sizesWithout, stridesWithout};
@@ -109,29 +110,6 @@ pub fn sizes_without(sizes: &[u64; 8], operands: usize, k: usize) -> [u64; 8]
     kept
 }
 
-// The strides without those of operand k, written into an array of zeros. `strides` has `rank` of them for each operand, and may have more
-// behind them.
-pub fn strides_without_into(
-    strides: &[i64],
-    rank: usize,
-    operands: usize,
-    k: usize,
-    out: &mut [i64; 512],
-)
-    requires { ⌜ (k < operands) × ((operands ≤ 8) × (rank ≤ 64)) ⌝ }
-    requires { ⌜ rank * operands ≤ length (now strides) ⌝ }
-    requires { ⌜ now out ≡ replicate 512 (pos 0) ⌝ }
-    ensures { λ _. ⌜ now (out .exit) ≡ padded 512 (pos 0) (stridesWithout rank operands k (now (strides .entry))) ⌝ }
-{
-    let mut j: usize = 0;
-    while j < operands - 1 {
-        let start = old_place(k, j) * rank;
-        let end = start + rank;
-        put_strides(out, j * rank, &strides[start..end]);
-        j += 1;
-    }
-}
-
 // The rows of ranks without that of operand k.
 pub fn rows_without(table: &[[u8; 64]; 8], operands: usize, k: usize) -> [[u8; 64]; 8]
     requires { ⌜ (k < operands) × (operands ≤ 8) ⌝ }
@@ -145,6 +123,80 @@ pub fn rows_without(table: &[[u8; 64]; 8], operands: usize, k: usize) -> [[u8; 6
         j += 1;
     }
     kept
+}
+
+// The places from `start` on, cleared in an array that is 0 from `end` on.
+pub fn clear_from(out: &mut [u64; 512], start: usize, end: usize)
+    requires { ⌜ (start ≤ end) × (end ≤ 512) ⌝ }
+    requires { ⌜ now out ≡ padded 512 0 (take end (now out)) ⌝ }
+    ensures { λ _. ⌜ now (out .exit) ≡ padded 512 0 (take start (now (out .entry))) ⌝ }
+{
+    let mut i: usize = end;
+    while start < i {
+        i -= 1;
+        out[i] = 0;
+    }
+}
+
+// The same of signed numbers.
+pub fn clear_signed_from(out: &mut [i64; 512], start: usize, end: usize)
+    requires { ⌜ (start ≤ end) × (end ≤ 512) ⌝ }
+    requires { ⌜ now out ≡ padded 512 (pos 0) (take end (now out)) ⌝ }
+    ensures { λ _. ⌜ now (out .exit) ≡ padded 512 (pos 0) (take start (now (out .entry))) ⌝ }
+{
+    let mut i: usize = end;
+    while start < i {
+        i -= 1;
+        out[i] = 0;
+    }
+}
+
+// The places from at + width up to `end`, put `width` places to the front.
+fn move_up(out: &mut [u64; 512], at: usize, width: usize, end: usize)
+    requires { ⌜ (at + width ≤ end) × ((end ≤ 512) × (length (now out) ≡ 512)) ⌝ }
+    ensures { λ _. ⌜ now (out .exit) ≡ paste (now (out .entry)) at (drop (at + width) (now (out .entry))) (end - width - at) ⌝ }
+{
+    let mut i: usize = at;
+    while i < end - width {
+        let x = out[i + width];
+        out[i] = x;
+        i += 1;
+    }
+}
+
+// The same of signed numbers.
+fn move_signed_up(out: &mut [i64; 512], at: usize, width: usize, end: usize)
+    requires { ⌜ (at + width ≤ end) × ((end ≤ 512) × (length (now out) ≡ 512)) ⌝ }
+    ensures { λ _. ⌜ now (out .exit) ≡ paste (now (out .entry)) at (drop (at + width) (now (out .entry))) (end - width - at) ⌝ }
+{
+    let mut i: usize = at;
+    while i < end - width {
+        let x = out[i + width];
+        out[i] = x;
+        i += 1;
+    }
+}
+
+// Row k taken out of rows of `width` places; the later ones move up.
+pub fn drop_row(out: &mut [u64; 512], width: usize, rows: usize, k: usize)
+    requires { ⌜ (k < rows) × ((rows ≤ 8) × (width ≤ 64)) ⌝ }
+    requires { ⌜ now out ≡ padded 512 0 (take (width * rows) (now out)) ⌝ }
+    ensures { λ _. ⌜ now (out .exit) ≡ padded 512 0 (over (run 0 (rows - 1)) (λ j. take width (drop (oldPlace k j * width) (now (out .entry))))) ⌝ }
+{
+    let end = width * rows;
+    move_up(&mut *out, k * width, width, end);
+    clear_from(out, end - width, end);
+}
+
+// The strides of operand k taken out; the later ones move up.
+pub fn drop_strides(out: &mut [i64; 512], rank: usize, operands: usize, k: usize)
+    requires { ⌜ (k < operands) × ((operands ≤ 8) × (rank ≤ 64)) ⌝ }
+    requires { ⌜ now out ≡ padded 512 (pos 0) (take (rank * operands) (now out)) ⌝ }
+    ensures { λ _. ⌜ now (out .exit) ≡ padded 512 (pos 0) (stridesWithout rank operands k (now (out .entry))) ⌝ }
+{
+    let end = rank * operands;
+    move_signed_up(&mut *out, k * rank, rank, end);
+    clear_signed_from(out, end - rank, end);
 }
 
 // ---- ranks

@@ -4,6 +4,7 @@ use layout::check_planning;
 use layouts::lay;
 use moves::add_operand;
 use moves::begun;
+use moves::clear_plan;
 use moves::drop_operand;
 use moves::grown;
 use moves::keep;
@@ -71,6 +72,7 @@ pub fn begin_lent<'a>(
             &mut *strides,
             ranks,
         );
+        *plan_strides = [0i64; 512];
         let numbers = keep(
             begun(aim, rank, layout_sizes.len()),
             extents,
@@ -138,6 +140,7 @@ pub fn join_lent<'a>(
             &mut *strides,
             ranks,
         );
+        clear_plan(numbers, &mut *plan_strides);
         let after = keep(
             grown(numbers),
             extents,
@@ -203,6 +206,7 @@ pub fn leave_lent<'a>(
             &mut *strides,
             ranks,
         );
+        clear_plan(numbers, &mut *plan_strides);
         let after = keep(
             shrunk(numbers, operand),
             extents,

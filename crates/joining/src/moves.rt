@@ -3,11 +3,16 @@
 ghost use mathlib.Core.Path.{_≡_};
 ghost use mathlib.Core.List.{[], _∷_, _++_};
 ghost use Prim.Native.Nat.{_*_, _≤_, _<_};
+ghost use lib.IntN.{pos};
 ghost use lib.ListN.{length, take, replicate};
+ghost use Rattle.strided.specs.Base.{padded};
 ghost use Rattle.auxiliary.specs.Fitting.{Fitting};
 ghost use Rattle.session.specs.Session.{sizesWithout, stridesWithout};
 ghost use Rattle.session.specs.Made.{TableOf, KeptIn, LayoutRight, givenIn, Standing, begunWith, withMore, withLess, withPlan};
 use super::layouts::add_row;
+use super::layouts::clear_signed_from;
+use super::layouts::drop_row;
+use super::layouts::drop_strides;
 use super::layouts::kind_of;
 use super::layouts::lay;
 use super::layouts::purpose_without;
@@ -16,7 +21,6 @@ use super::layouts::put_strides;
 use super::layouts::ranks_into;
 use super::layouts::rows_without;
 use super::layouts::sizes_without;
-use super::layouts::strides_without_into;
 use auxiliary::rank_table_into;
 use kernel::Aim;
 use layout::lead;
@@ -146,18 +150,25 @@ pub fn drop_operand(
     let operands = numbers.operands;
     let rows = rows_without(table, operands, k);
     *table = rows;
-    *ranks = [0u64; 512];
-    ranks_into(table, operands - 1, ranks);
+    drop_row(ranks, 64, operands, k);
     let left_sizes = sizes_without(sizes, operands, k);
     *sizes = left_sizes;
-    let mut left_strides = [0i64; 512];
-    strides_without_into(strides, numbers.rank, operands, k, &mut left_strides);
-    *strides = left_strides;
+    drop_strides(strides, numbers.rank, operands, k);
 }
 
 // ---- what the layout gives
 
-// Weights, costs and plan of the layout that stands in a session's arrays, from the table of its ranks. The session's numbers are answered.
+// The strides of a session's plan, cleared for those of the next. Only the rows of its operands are not 0 as it is.
+pub fn clear_plan(numbers: Numbers, plan_strides: &mut [i64; 512])
+    requires { ⌜ numbers .«plan_operands» ≤ 8 ⌝ }
+    requires { ⌜ now «plan_strides» ≡ padded 512 (pos 0) (take (numbers .«plan_operands» * 64) (now «plan_strides»)) ⌝ }
+    ensures { λ _. ⌜ now («plan_strides» .exit) ≡ replicate 512 (pos 0) ⌝ }
+{
+    clear_signed_from(plan_strides, 0, numbers.plan_operands * 64);
+}
+
+// Weights, costs and plan of the layout that stands in a session's arrays, from the table of its ranks. The strides of a plan are lent as
+// zeros. The session's numbers are answered.
 pub fn keep<'a>(
     numbers: Numbers,
     extents: &'a [u64; 64],
@@ -172,12 +183,12 @@ pub fn keep<'a>(
 ) -> Numbers
     requires { ⌜ LayoutRight numbers (now extents) (now sizes) (now strides) ⌝ }
     requires { ⌜ TableOf (take (numbers .rank * numbers .operands) (now strides)) (numbers .rank) (numbers .operands) (now table) ⌝ }
+    requires { ⌜ now «plan_strides» ≡ replicate 512 (pos 0) ⌝ }
     ensures numbers { λ r. ⌜ r ≡ withPlan numbers (r .«plan_rank») ⌝ }
     ensures kept { λ r. let g = givenIn numbers (now (extents .entry)) (now (sizes .entry)) (now (strides .entry)) in
         ⌜ KeptIn g (r .«plan_rank») (now (weights .exit)) (now (costs .exit)) (now («plan_extents» .exit)) (now (blocks .exit)) (now («plan_strides» .exit)) ⌝ }
 {
     *plan_extents = [0u64; 64];
-    *plan_strides = [0i64; 512];
     let axes = axes_kept(
         numbers,
         extents,

@@ -50,20 +50,23 @@ begun-requires c κs = search needs
 keep-requires : tie.Need-keep-requires
 keep-requires c κs =
     let n = c .before .before .before .before .before .before .before .before .before in
-    let o = n .before in
+    let o = n .before .before in
     let l = o .before .before .before .before .before in
     let b = l .before .before .before in
     let g = G (start (checked b)) in
     let q = n .begun .ensures in (
       stands-right g (passed b) (n .begun .result) _ _ _ _ _ (l .lay .ensures) (o .lay-operands .ensures) (ap (λ (x : Numbers). x .rank) q) (ap (λ (x : Numbers). x .operands) q) (ap (λ (x : Numbers). x .machine) q) (ap (λ (x : Numbers). x .purpose) q) (ap (λ (x : Numbers). x .chosen) q),
-      stands-table g (passed b) (n .begun .result) _ _ _ _ _ (l .lay .ensures) (o .lay-operands .ensures) (ap (λ (x : Numbers). x .rank) q) (ap (λ (x : Numbers). x .operands) q) (ap (λ (x : Numbers). x .machine) q) (ap (λ (x : Numbers). x .purpose) q) (ap (λ (x : Numbers). x .chosen) q),
+      (
+        stands-table g (passed b) (n .begun .result) _ _ _ _ _ (l .lay .ensures) (o .lay-operands .ensures) (ap (λ (x : Numbers). x .rank) q) (ap (λ (x : Numbers). x .operands) q) (ap (λ (x : Numbers). x .machine) q) (ap (λ (x : Numbers). x .purpose) q) (ap (λ (x : Numbers). x .chosen) q),
+        refl,
+      ),
     )
 
 returns : tie.Need-returns
 unfolding begun
 returns c =
     let n = c .before .before .before .before .before .before .before .before .before .before in
-    let o = n .before in
+    let o = n .before .before in
     let l = o .before .before .before .before .before in
     let b = l .before .before .before in
     let p = checked b in

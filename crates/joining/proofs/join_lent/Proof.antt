@@ -6,7 +6,7 @@ use Rattle.strided.specs.declared.Answer.the-variants.{Served}
 use Rattle.session.specs.declared.Session.{Session}
 use Rattle.session.specs.Session.{freshOf, givenOf, withOperand, joinRows, joined}
 use Rattle.session.specs.Made.{sessionAt}
-use Rattle.joining.proofs.Answering.{lent-refused, lent-served, join-stands, join-few, join-all, joined-layout, joined-table, joined-session}
+use Rattle.joining.proofs.Answering.{lent-refused, lent-served, join-stands, join-plan, join-few, join-all, joined-layout, joined-table, joined-session}
 use Rattle.joining.proofs.join_lent.Statement.{statement}
 use Rattle.joining.proofs.join_lent.Tie as tie
 
@@ -42,24 +42,32 @@ add-operand-requires c κs =
       join-stands (a .numbers) (a .extents .now) (a .sizes .now) (a .strides .now) (a .ranks .now) (a .weights .now) (a .costs .now) (a .plan-extents .now) (a .blocks .now) (a .plan-strides .now) (a .joining .now) (served b) (k .check-join .ensures .1 (told b)),
     )
 
+clear-plan-requires : tie.Need-clear-plan-requires
+clear-plan-requires c κs =
+    let b = c .before .before .before .before .before .before in
+    let a = start (checked b) .args in
+    join-plan (a .numbers) (a .extents .now) (a .sizes .now) (a .strides .now) (a .ranks .now) (a .weights .now) (a .costs .now) (a .plan-extents .now) (a .blocks .now) (a .plan-strides .now) (a .joining .now) (served b)
+
 grown-requires : tie.Need-grown-requires
-grown-requires c κs = let b = c .before .before .before .before .before in let a = start (checked b) .args in join-few (a .numbers) (a .extents .now) (a .sizes .now) (a .strides .now) (a .ranks .now) (a .weights .now) (a .costs .now) (a .plan-extents .now) (a .blocks .now) (a .plan-strides .now) (a .joining .now) (served b)
+grown-requires c κs = let b = c .before .before .before .before .before .before .before in let a = start (checked b) .args in join-few (a .numbers) (a .extents .now) (a .sizes .now) (a .strides .now) (a .ranks .now) (a .weights .now) (a .costs .now) (a .plan-extents .now) (a .blocks .now) (a .plan-strides .now) (a .joining .now) (served b)
 
 keep-requires : tie.Need-keep-requires
 keep-requires c κs =
     let m = c .before .before .before .before .before .before .before .before in
-    let o = m .before in
+    let p = m .before in
+    let o = p .before .before in
     let b = o .before .before .before .before .before in
     let a = start (checked b) .args in (
       joined-layout (a .numbers) (a .extents .now) (a .sizes .now) (a .strides .now) (a .ranks .now) (a .weights .now) (a .costs .now) (a .plan-extents .now) (a .blocks .now) (a .plan-strides .now) (a .joining .now) (served b) (a .size) _ (m .grown .ensures) (o .add-operand .ensures),
-      joined-table (a .numbers) (a .extents .now) (a .sizes .now) (a .strides .now) (a .ranks .now) (a .weights .now) (a .costs .now) (a .plan-extents .now) (a .blocks .now) (a .plan-strides .now) (a .joining .now) (served b) (a .size) _ (m .grown .ensures) (o .add-operand .ensures),
+      (joined-table (a .numbers) (a .extents .now) (a .sizes .now) (a .strides .now) (a .ranks .now) (a .weights .now) (a .costs .now) (a .plan-extents .now) (a .blocks .now) (a .plan-strides .now) (a .joining .now) (served b) (a .size) _ (m .grown .ensures) (o .add-operand .ensures), p .clear-plan .ensures),
     )
 
 returns : tie.Need-returns
 unfolding joined
 returns c =
     let m = c .before .before .before .before .before .before .before .before .before in
-    let o = m .before in
+    let p = m .before in
+    let o = p .before .before in
     let b = o .before .before .before .before .before in
     let k = checked b in
     let s = start k in
@@ -83,6 +91,7 @@ join-lent-spec =
     check-join-requires
     served-requires
     add-operand-requires
+    clear-plan-requires
     grown-requires
     keep-requires
     returns

@@ -6,7 +6,7 @@ use Rattle.strided.specs.declared.Answer.the-variants.{Served}
 use Rattle.session.specs.declared.Session.{Session}
 use Rattle.session.specs.Session.{freshOf, givenOf, withoutOperand, leaveRows, left}
 use Rattle.session.specs.Made.{sessionAt}
-use Rattle.joining.proofs.Answering.{lent-refused, lent-served, leave-stands, leave-at, leave-few, leave-others, left-layout, left-table, left-session}
+use Rattle.joining.proofs.Answering.{lent-refused, lent-served, leave-stands, leave-plan, leave-at, leave-few, leave-others, left-layout, left-table, left-session}
 use Rattle.joining.proofs.leave_lent.Statement.{statement}
 use Rattle.joining.proofs.leave_lent.Tie as tie
 
@@ -42,24 +42,32 @@ drop-operand-requires c κs =
       leave-stands (a .numbers) (a .extents .now) (a .sizes .now) (a .strides .now) (a .ranks .now) (a .weights .now) (a .costs .now) (a .plan-extents .now) (a .blocks .now) (a .plan-strides .now) (a .operand) (served b) (k .check-leave .ensures .1 (told b)),
     )
 
+clear-plan-requires : tie.Need-clear-plan-requires
+clear-plan-requires c κs =
+    let b = c .before .before .before .before .before .before in
+    let a = start (checked b) .args in
+    leave-plan (a .numbers) (a .extents .now) (a .sizes .now) (a .strides .now) (a .ranks .now) (a .weights .now) (a .costs .now) (a .plan-extents .now) (a .blocks .now) (a .plan-strides .now) (a .operand) (served b)
+
 shrunk-requires : tie.Need-shrunk-requires
-shrunk-requires c κs = let b = c .before .before .before .before .before in let a = start (checked b) .args in leave-others (a .numbers) (a .extents .now) (a .sizes .now) (a .strides .now) (a .ranks .now) (a .weights .now) (a .costs .now) (a .plan-extents .now) (a .blocks .now) (a .plan-strides .now) (a .operand) (served b)
+shrunk-requires c κs = let b = c .before .before .before .before .before .before .before in let a = start (checked b) .args in leave-others (a .numbers) (a .extents .now) (a .sizes .now) (a .strides .now) (a .ranks .now) (a .weights .now) (a .costs .now) (a .plan-extents .now) (a .blocks .now) (a .plan-strides .now) (a .operand) (served b)
 
 keep-requires : tie.Need-keep-requires
 keep-requires c κs =
     let m = c .before .before .before .before .before .before .before .before in
-    let o = m .before in
+    let p = m .before in
+    let o = p .before .before in
     let b = o .before .before .before .before .before in
     let a = start (checked b) .args in (
       left-layout (a .numbers) (a .extents .now) (a .sizes .now) (a .strides .now) (a .ranks .now) (a .weights .now) (a .costs .now) (a .plan-extents .now) (a .blocks .now) (a .plan-strides .now) (a .operand) (served b) _ (m .shrunk .ensures) (o .drop-operand .ensures),
-      left-table (a .numbers) (a .extents .now) (a .sizes .now) (a .strides .now) (a .ranks .now) (a .weights .now) (a .costs .now) (a .plan-extents .now) (a .blocks .now) (a .plan-strides .now) (a .operand) (served b) _ (m .shrunk .ensures) (o .drop-operand .ensures),
+      (left-table (a .numbers) (a .extents .now) (a .sizes .now) (a .strides .now) (a .ranks .now) (a .weights .now) (a .costs .now) (a .plan-extents .now) (a .blocks .now) (a .plan-strides .now) (a .operand) (served b) _ (m .shrunk .ensures) (o .drop-operand .ensures), p .clear-plan .ensures),
     )
 
 returns : tie.Need-returns
 unfolding left
 returns c =
     let m = c .before .before .before .before .before .before .before .before .before in
-    let o = m .before in
+    let p = m .before in
+    let o = p .before .before in
     let b = o .before .before .before .before .before in
     let k = checked b in
     let s = start k in
@@ -83,6 +91,7 @@ leave-lent-spec =
     check-leave-requires
     served-requires
     drop-operand-requires
+    clear-plan-requires
     shrunk-requires
     keep-requires
     returns

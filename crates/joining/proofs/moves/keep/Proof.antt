@@ -14,7 +14,7 @@ abbrev axes : tie.After-planned → tie.After-axes-kept
 axes p = p .before
 
 abbrev start : tie.After-axes-kept → tie.Start
-start x = x .before .before .before .before .before .before .before .before
+start x = x .before .before .before .before .before .before .before
 
 -- the numbers have the plan's
 counted : (p : tie.After-planned) → p .planned .result ≡ withPlan (start (axes p) .args .numbers) (p .planned .result .«plan_rank»)
@@ -34,9 +34,9 @@ laid p =
 
 axes-kept-requires : tie.Need-axes-kept-requires
 axes-kept-requires c κs =
-    let s = c .before .before .before .before .before .before .before in
+    let s = c .before .before .before .before .before .before in
     let a = s .args in
-    (laid-of (a .numbers) (a .extents .now) (a .sizes .now) (a .strides .now) (s .pre .0) (a .table .now) (s .pre .1), record { extents = refl; strides = refl })
+    (laid-of (a .numbers) (a .extents .now) (a .sizes .now) (a .strides .now) (s .pre .0) (a .table .now) (s .pre .1 .0), record { extents = refl; strides = s .pre .1 .1 })
 
 planned-requires : tie.Need-planned-requires
 planned-requires c κs = search needs
