@@ -97,7 +97,7 @@ fn region_of<'a>(
     times(m, whole_lines(machine, least(c, top)), top)
 }
 
-// The region over a tail, summed over the operands.
+// The region over a tail, summed over the operands. A sum at the limit stays there: the operands that are left are not looked at.
 pub fn memory_region<'a>(
     machine: Machine,
     tail: Tail,
@@ -112,6 +112,9 @@ pub fn memory_region<'a>(
     let mut r: u64 = 0;
     let mut k = 0;
     while k < tail.operands {
+        if r == limit {
+            return r;
+        }
         r = sat_add(r, region_of(machine, tail, blocks, bytes, k), limit);
         k += 1;
     }
