@@ -24,13 +24,26 @@ pub fn pick_into(xs: &[u64], order: &[usize; 64], count: usize, out: &mut [u64; 
     }
 }
 
+// The elements of xs as they are given, written into an array of zeros.
+pub fn lay_into(xs: &[u64], out: &mut [u64; 64])
+    requires few { ⌜ length (now xs) ≤ 64 ⌝ }
+    requires out { ⌜ now out ≡ replicate 64 0 ⌝ }
+    ensures { λ _. ⌜ now (out .exit) ≡ padded 64 0 (now (xs .entry)) ⌝ }
+{
+    let mut j: usize = 0;
+    while j < xs.len() {
+        out[j] = xs[j];
+        j += 1;
+    }
+}
+
 // Operand k's strides, put into the table behind those of the operands before it.
 fn put_row(
     table: &mut [i64; 512],
     k: usize,
     strides: &[i64],
     pitch: usize,
-    order: &[usize; 64],
+    order: &[u8; 64],
     count: usize,
 )
     requires table { ⌜ now table ≡ padded 512 (pos 0) (pickRows (now strides) pitch (take count (now order)) k) ⌝ }
@@ -43,7 +56,7 @@ fn put_row(
     let to = k * 64;
     let mut j: usize = 0;
     while j < count {
-        let a = order[j];
+        let a = order[j] as usize;
         let s = strides[from + a];
         table[to + j] = s;
         j += 1;
@@ -56,7 +69,7 @@ pub fn pick_strides_into(
     strides: &[i64],
     pitch: usize,
     operands: usize,
-    order: &[usize; 64],
+    order: &[u8; 64],
     count: usize,
     table: &mut [i64; 512],
 )

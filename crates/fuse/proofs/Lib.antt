@@ -3,3 +3,4 @@ pub mod Fusing
 pub mod Keeping
 pub mod Costing
 pub mod Planning
+pub mod Given

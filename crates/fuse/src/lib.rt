@@ -5,7 +5,7 @@ use layout::magnitude;
 use layout::sizes::least;
 ghost use mathlib.Core.Path.{_≡_};
 ghost use mathlib.Core.Bool.{_&&_};
-ghost use Prim.Native.Nat.{_+_, _-_, _*_, _/_, _^_, _<_, _≤_, min};
+ghost use Prim.Native.Nat.{ℕ, _+_, _-_, _*_, _/_, _^_, _<_, _≤_, min};
 ghost use lib.Dec.{ltb, leb};
 ghost use lib.IntN.{pos, natAbs};
 ghost use lib.ListN.{length, getD, take, replicate};
@@ -19,7 +19,7 @@ ghost use Rattle.laws.specs.Fuse.Places.{axesBy};
 ghost use Rattle.arrange.specs.Axes.{InOrder};
 ghost use Rattle.fuse.specs.Room.{roomOf};
 ghost use Rattle.fuse.specs.Kept.{stays};
-ghost use Rattle.fuse.specs.Named.{Named, fusedIn};
+ghost use Rattle.fuse.specs.Named.{Named, given, fusedIn};
 
 // ---- which axes join
 
@@ -163,9 +163,10 @@ fn kept_axes<'a>(
     order: &'a [usize; 64],
     rank: usize,
     extents: &mut [u64; 64],
-    axes: &mut [usize; 64],
+    axes: &mut [u8; 64],
 ) -> usize
     requires arrays { ⌜ (length (now fused) ≡ 64) × ((length (now order) ≡ 64) × (rank ≤ 64)) ⌝ }
+    requires inside { ⌜ ((j : ℕ) → j < rank → getD (now order) j 0 < 256) ⌝ }
     requires zeros { ⌜ (now extents ≡ replicate 64 0) × (now axes ≡ replicate 64 0) ⌝ }
     ensures count { λ r. ⌜ r ≡ length (stays (take rank (now (fused .entry)))) ⌝ }
     ensures extents { λ _. ⌜ now (extents .exit) ≡ padded 64 0 (pick 0 (now (fused .entry)) (stays (take rank (now (fused .entry))))) ⌝ }
@@ -178,7 +179,7 @@ fn kept_axes<'a>(
         if f != 1 {
             let a = order[i];
             extents[count] = f;
-            axes[count] = a;
+            axes[count] = a as u8;
             count += 1;
         }
         i += 1;
@@ -188,7 +189,7 @@ fn kept_axes<'a>(
             let f = fused[0];
             let a = order[0];
             extents[0] = f;
-            axes[0] = a;
+            axes[0] = a as u8;
             return 1;
         }
     }
@@ -208,7 +209,7 @@ pub fn compress_dims<'a>(
     table: &mut [i64; 512],
 ) -> usize
     requires layout { ⌜ Named (now strides) pitch operands (now order) rank ⌝ }
-    requires fused { ⌜ length (now fused) ≡ 64 ⌝ }
+    requires fused { ⌜ (length (now fused) ≡ 64) × (pitch ≤ 64) ⌝ }
     requires zeros { ⌜ (now extents ≡ replicate 64 0) × (now table ≡ replicate 512 (pos 0)) ⌝ }
     ensures rank { λ r. ⌜ r ≡ length (compress (axesBy (now (strides .entry)) pitch operands (now (order .entry)) (take rank (now (fused .entry))))) ⌝ }
     ensures extents { λ _. ⌜ now (extents .exit) ≡ padded 64 0 (extentsOf
@@ -216,7 +217,7 @@ pub fn compress_dims<'a>(
     ensures strides { λ _. ⌜ now (table .exit) ≡ strideTable
         (compress (axesBy (now (strides .entry)) pitch operands (now (order .entry)) (take rank (now (fused .entry))))) operands ⌝ }
 {
-    let mut axes = [0usize; 64];
+    let mut axes = [0u8; 64];
     let count = kept_axes(fused, order, rank, extents, &mut axes);
     arrange::pick_strides_into(strides, pitch, operands, &axes, count, table);
     count
@@ -243,6 +244,85 @@ pub fn plan_axes(
     arrange::pick_into(extents, order, rank, &mut fused);
     fuse_dims(&mut fused, strides, rank, operands, order, rank);
     compress_dims(&fused, strides, rank, operands, order, rank, es, table)
+}
+
+// ---- axes as they are given
+
+// The extents of axes as they are given, after fusing: as `fuse_dims`, where the order names each axis at its own place.
+fn fuse_given(extents: &mut [u64; 64], strides: &[i64], operands: usize, rank: usize)
+    requires layout { ⌜ Named (now strides) rank operands (given rank) rank ⌝ }
+    requires extents { ⌜ (length (now extents) ≡ 64) × (now extents ≡ padded 64 0 (take rank (now extents))) ⌝ }
+    ensures { λ _. ⌜ now (extents .exit) ≡ padded 64 0 (extentsOf
+        (fuseAxes (axesBy (now (strides .entry)) rank operands (given rank) (take rank (now (extents .entry)))))) ⌝ }
+{
+    let mut k: usize = 1;
+    while k < rank {
+        let axis = rank - k;
+        let h = axis - 1;
+        let a = extents[h];
+        let b = extents[axis];
+        if can_fuse(a, b, strides, rank, operands, h, axis) {
+            extents[h] = a * b;
+            extents[axis] = 1;
+        }
+        k += 1;
+    }
+}
+
+// As `kept_axes`, where each axis stands at its own place.
+fn kept_given(fused: &[u64; 64], rank: usize, extents: &mut [u64; 64], axes: &mut [u8; 64]) -> usize
+    requires arrays { ⌜ (length (now fused) ≡ 64) × (rank ≤ 64) ⌝ }
+    requires zeros { ⌜ (now extents ≡ replicate 64 0) × (now axes ≡ replicate 64 0) ⌝ }
+    ensures count { λ r. ⌜ r ≡ length (stays (take rank (now (fused .entry)))) ⌝ }
+    ensures extents { λ _. ⌜ now (extents .exit) ≡ padded 64 0 (pick 0 (now (fused .entry)) (stays (take rank (now (fused .entry))))) ⌝ }
+    ensures axes { λ _. ⌜ now (axes .exit) ≡ padded 64 0 (pick 0 (given rank) (stays (take rank (now (fused .entry))))) ⌝ }
+{
+    let mut count: usize = 0;
+    let mut i: usize = 0;
+    while i < rank {
+        let f = fused[i];
+        if f != 1 {
+            extents[count] = f;
+            axes[count] = i as u8;
+            count += 1;
+        }
+        i += 1;
+    }
+    if count == 0 {
+        if rank > 0 {
+            let f = fused[0];
+            extents[0] = f;
+            axes[0] = 0;
+            return 1;
+        }
+    }
+    count
+}
+
+// As `plan_axes`, where the axes are fused as they are given: there is no order to make, and none to read.
+pub fn given_axes(
+    extents: &[u64],
+    strides: &[i64],
+    operands: usize,
+    es: &mut [u64; 64],
+    table: &mut [i64; 512],
+) -> usize
+    requires layout { ⌜ (length (now extents) ≤ 64) × ((operands ≤ 8) × (length (now strides) ≡ length (now extents) * operands)) ⌝ }
+    requires zeros { ⌜ (now es ≡ replicate 64 0) × (now table ≡ replicate 512 (pos 0)) ⌝ }
+    ensures rank { λ r. ⌜ r ≡ length (fusedIn (now (extents .entry)) operands (now (strides .entry)) (given (length (now (extents .entry))))) ⌝ }
+    ensures extents { λ _. ⌜ now (es .exit) ≡ padded 64 0 (extentsOf
+        (fusedIn (now (extents .entry)) operands (now (strides .entry)) (given (length (now (extents .entry)))))) ⌝ }
+    ensures strides { λ _. ⌜ now (table .exit)
+        ≡ strideTable (fusedIn (now (extents .entry)) operands (now (strides .entry)) (given (length (now (extents .entry))))) operands ⌝ }
+{
+    let rank = extents.len();
+    let mut fused = [0u64; 64];
+    arrange::lay_into(extents, &mut fused);
+    fuse_given(&mut fused, strides, operands, rank);
+    let mut axes = [0u8; 64];
+    let count = kept_given(&fused, rank, es, &mut axes);
+    arrange::pick_strides_into(strides, rank, operands, &axes, count, table);
+    count
 }
 
 // ---- costs

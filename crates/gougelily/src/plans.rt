@@ -1,14 +1,32 @@
 // Planning from C: rows 1 to 6 and 24, then the plan, made where the caller wants it.
+ghost use mathlib.Core.Path.{_≡_};
+ghost use lib.ListN.{length};
 ghost use Rattle.strided.specs.Machine.{machineOf};
 ghost use Rattle.strided.specs.Plan.{planned};
 ghost use Rattle.strided.specs.Memory.{purposeOf, planAt, Plans};
 use kernel::Aim;
+use kernel::clear_axes;
 use kernel::plan_into;
 use layout::check_planning;
 use layout::negated;
 use layout::purpose_of;
 use strided::Answer;
 use strided::Machine;
+
+// How many strides there are, where a slice has them all.
+fn counted(table: &[i64]) -> usize
+    requires { ⌜ length (now table) ≡ 512 ⌝ }
+    ensures { λ r. ⌜ length (now (table .entry)) ≡ 512 ⌝ }
+{
+    table.len()
+}
+
+// How many strides a plan's array holds. Its type says so; the contract makes it a fact, which clearing asks for.
+fn places(table: &[i64; 512]) -> usize
+    ensures { λ r. ⌜ length (now (table .entry)) ≡ 512 ⌝ }
+{
+    counted(table)
+}
 
 // The plan of a layout for a purpose, on a machine of these four numbers.
 #[no_mangle]
@@ -45,8 +63,8 @@ pub extern "C" fn gougelily_plan<'a>(
     match answer {
         Answer::Refused(refusal) => negated(refusal),
         Answer::Served => {
-            *plan_extents = [0u64; 64];
-            *plan_strides = [0i64; 512];
+            let count = places(plan_strides);
+            clear_axes(&mut *plan_extents, &mut *plan_strides);
             let aim = Aim {
                 purpose: wanted,
                 machine,

@@ -1,7 +1,7 @@
 -- What the plan's arrays give: all that cutting asks of them, the plan put together from them, and the answer of the entry.
 -- Assumes nothing.
-use mathlib.Core.Path.{_≡_, sym, _∙_, subst}
-use mathlib.Core.Bool.{true, false}
+use mathlib.Core.Path.{_≡_, sym, ap, _∙_, subst}
+use mathlib.Core.Bool.{Bool, true, false, cond}
 use mathlib.Core.List.{List}
 use mathlib.Core.Option.{none}
 use Prim.Native.Nat.{ℕ, _<_}
@@ -11,6 +11,7 @@ use lib.IntN.{ℤ, pos}
 use lib.ListN.{length}
 use Rattle.strided.specs.Base.{padded, over, run}
 use Rattle.strided.specs.Layout.{Axis, extents, row, total, hasZero}
+use Rattle.strided.specs.Order.{loopOrder, fusingOrder}
 use Rattle.strided.specs.Refusals.{planningRefused}
 use Rattle.strided.specs.Fuse.{planAxes}
 use Rattle.strided.specs.Plan.{strideTable, cutBlocks, planFrom, planned}
@@ -25,8 +26,14 @@ use Rattle.laws.specs.Refusals.Accepted.{Accepted}
 use Rattle.laws.specs.Refusals.Zeros.{no-zero-test}
 use Rattle.laws.specs.Plan.Answers.{planned-served}
 use Rattle.laws.specs.Plan.Bounds.{plan-few, array-small, array-near}
+use Rattle.fuse.specs.Named.{given}
 use Rattle.model.specs.Plannable.{Plannable}
 use Rattle.kernel.specs.Made.{Made}
+
+-- "Total at most 1,024": the order of fusing names each axis at its own place
+pub given-small : (es : List ℕ) (m : ℕ) (ss : List ℤ) (u : Purpose) → leb (total es) 1024 ≡ true → given (length es) ≡ padded 64 0 (fusingOrder es m ss u)
+unfolding fusingOrder
+given-small es m ss u h = ap (padded 64 0) (sym (ap (λ (t : Bool). cond t (run 0 (length es)) (loopOrder es m ss u)) h))
 
 -- the arrays have the plan's axes
 module _ (es sizes : List ℕ) (ss : List ℤ) (u : Purpose) (a : Accepted es sizes ss u) (rank : ℕ) (E : List ℕ) (S : List ℤ)

@@ -1,5 +1,6 @@
 // Planning: the plan of a layout for a purpose, as pointwise_plan and fold_plan of the Rust make it, and the public entry, which first
 // refuses what cannot be planned. A plan is 5 KB: it is made in arrays that the entry lends, and put together once, at the end.
+use fuse::given_axes;
 use fuse::plan_axes;
 use layout::check_planning;
 use layout::total_at_most;
@@ -12,7 +13,10 @@ use strided::Plan;
 use strided::Planned;
 use strided::Purpose;
 ghost use mathlib.Core.Path.{_≡_};
-ghost use lib.ListN.{length};
+ghost use mathlib.Core.List.{_++_};
+ghost use Prim.Native.Nat.{_≤_};
+ghost use lib.IntN.{pos};
+ghost use lib.ListN.{length, replicate, drop};
 ghost use Rattle.strided.specs.Base.{padded};
 ghost use Rattle.strided.specs.Layout.{extents as extentsOf};
 ghost use Rattle.strided.specs.Machine.{Allowed};
@@ -26,6 +30,31 @@ ghost use Rattle.kernel.specs.Made.{Zeros, Made};
 pub struct Aim {
     pub purpose: Purpose,
     pub machine: Machine,
+}
+
+// Zeros in the first `to` of a plan's strides, of which the first `from` are 0 already.
+fn clear_up_to(table: &mut [i64; 512], from: usize, to: usize)
+    requires { ⌜ (from ≤ to) × (to ≤ length (now table)) ⌝ }
+    requires { ⌜ now table ≡ replicate from (pos 0) ++ drop from (now table) ⌝ }
+    requires { ⌜ length (now table) ≡ 512 ⌝ }
+    ensures { λ _. ⌜ now (table .exit) ≡ replicate to (pos 0) ++ drop to (now (table .entry)) ⌝ }
+{
+    let mut i = from;
+    while i < to {
+        table[i] = 0;
+        i += 1;
+    }
+}
+
+// Zeros in the arrays that a plan's axes are written into. The strides are cleared in two halves with the extents between them: each is a
+// call of the C library's memset, which takes longer for 4 KB at once than for 2 KB twice.
+pub fn clear_axes(es: &mut [u64; 64], table: &mut [i64; 512])
+    requires { ⌜ length (now table) ≡ 512 ⌝ }
+    ensures { λ _. ⌜ Zeros (now (es .exit)) (now (table .exit)) ⌝ }
+{
+    clear_up_to(&mut *table, 0, 256);
+    *es = [0u64; 64];
+    clear_up_to(table, 256, 512);
 }
 
 // The axes of the plan, their extents and strides written into arrays of zeros. Their number is answered.
@@ -68,6 +97,11 @@ pub fn plan_into<'a>(
 {
     let purpose = aim.purpose;
     let machine = aim.machine;
+    if total_at_most(extents, SMALL_TENSOR_THRESHOLD) {
+        let axes = given_axes(extents, strides, sizes.len(), &mut *es, &mut *table);
+        *blocks = *es;
+        return axes;
+    }
     let rank = axes_into(
         extents,
         strides,
@@ -76,10 +110,6 @@ pub fn plan_into<'a>(
         &mut *es,
         &mut *table,
     );
-    if total_at_most(extents, SMALL_TENSOR_THRESHOLD) {
-        *blocks = *es;
-        return rank;
-    }
     block_sizes(machine, sizes, es, table, rank, purpose, blocks);
     rank
 }

@@ -29,11 +29,13 @@ mul-to c = omega arith
 loop-holds : tie.Need-loop-holds Inv-loop μ-loop
 loop-holds c = (omega arith, c .pre .0 ∙ row-start (c .args .order .now) (c .args .count) (c .args .strides .now) (c .args .pitch) (c .args .k))
 
-mul-a : tie.Need-mul-a Inv-loop μ-loop
-mul-a c = omega arith
-
 element-copy-out-a : tie.Need-element-copy-out-a Inv-loop μ-loop
 element-copy-out-a c = omega arith
+
+cast-a : tie.Need-cast-a Inv-loop μ-loop
+cast-a c =
+    let s = c .before .before .before in
+    omega (arith, s .pre .1 .0 .1, s .pre .1 .1 .1 (c .before .before .loop .j) (c .before .loop-test .taken))
 
 add-s : tie.Need-add-s Inv-loop μ-loop
 add-s c =
@@ -93,8 +95,8 @@ put-row-spec =
     mul-from
     mul-to
     loop-holds
-    mul-a
     element-copy-out-a
+    cast-a
     add-s
     mul-s
     shared-slice-copy-out-s

@@ -1,11 +1,20 @@
 -- `fuse::compress_dims` meets its contract: picking the places that stay is dropping the others. Assumes nothing.
-use borrow.Author.Needs.{needs}
+use mathlib.Core.Path.{refl}
+use Prim.Native.Nat.{ℕ, _≤_, _<_}
+use native.Mathlib.Omega.{arith}
 use Rattle.fuse.proofs.Keeping.{stand-few, stand-long, stand-inside, stand-rank, stand-extents, stand-strides}
 use Rattle.fuse.proofs.compress_dims.Statement.{statement}
 use Rattle.fuse.proofs.compress_dims.Tie as tie
 
+below-256 : {x n : ℕ} → x < n → n ≤ 64 → x < 256
+below-256 h k = omega arith
+
 kept-axes-requires : tie.Need-kept-axes-requires
-kept-axes-requires c κs = search needs
+kept-axes-requires c κs =
+    let s = c .before .before in
+    let t = s .pre .0 in
+    let l = s .pre .1 .0 in
+    ((l .0, (t .places, t .few-axes)), ((λ j h. below-256 (t .inside j h) (l .1)), (s .pre .1 .1 .0, refl)))
 
 pick-strides-into-requires : tie.Need-pick-strides-into-requires
 pick-strides-into-requires c κs =
@@ -13,7 +22,7 @@ pick-strides-into-requires c κs =
     let s = k .before .before .before in
     let a = s .args in
     let t = s .pre .0 in
-    let l = s .pre .1 .0 in
+    let l = s .pre .1 .0 .0 in
     let w = k .kept-axes .ensures in
     let ss = a .strides .now in
     let O = a .order .now in
@@ -31,7 +40,7 @@ returns c =
     let s = k .before .before .before in
     let a = s .args in
     let t = s .pre .0 in
-    let l = s .pre .1 .0 in
+    let l = s .pre .1 .0 .0 in
     let w = k .kept-axes .ensures in
     let ss = a .strides .now in
     let O = a .order .now in

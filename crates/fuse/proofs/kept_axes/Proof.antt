@@ -16,7 +16,7 @@ abbrev μ-loop : tie.MeasureT-loop
 μ-loop fused order rank extents₀ axes₀ count₀ i₀ extents axes count i = rank - i
 
 loop-holds : tie.Need-loop-holds Inv-loop μ-loop
-loop-holds c = (omega arith, record { few = omega arith; lengths = c .pre .1 .0 ∙ fill-none 64 0; names = c .pre .1 .1 ∙ fill-none 64 0; number = refl })
+loop-holds c = (omega arith, record { few = omega arith; lengths = c .pre .1 .1 .0 ∙ fill-none 64 0; names = c .pre .1 .1 .1 ∙ fill-none 64 0; number = refl })
 
 mul-f : tie.Need-mul-f Inv-loop μ-loop
 mul-f c = omega arith
@@ -36,8 +36,8 @@ mul-extents c = omega arith
 element-write-extents : tie.Need-element-write-extents Inv-loop μ-loop
 element-write-extents c = omega arith
 
-mul-axes : tie.Need-mul-axes Inv-loop μ-loop
-mul-axes c = omega arith
+cast-axes : tie.Need-cast-axes Inv-loop μ-loop
+cast-axes c = let l = c .before .before .before .before in omega (arith, l .before .pre .1 .0 (l .loop .i) (c .before .before .before .loop-test .taken))
 
 element-write-axes : tie.Need-element-write-axes Inv-loop μ-loop
 element-write-axes c = omega arith
@@ -76,6 +76,9 @@ element-copy-out-a-2 c = omega arith
 
 element-write-extents-2 : tie.Need-element-write-extents-2 Inv-loop μ-loop
 element-write-extents-2 c = omega arith
+
+cast-axes-2 : tie.Need-cast-axes-2 Inv-loop μ-loop
+cast-axes-2 c = omega (arith, c .before .before .before .before .before .before .pre .1 .0 0 (c .before .before .if3 .taken))
 
 element-write-axes-2 : tie.Need-element-write-axes-2 Inv-loop μ-loop
 element-write-axes-2 c = omega arith
@@ -116,7 +119,7 @@ kept-axes-spec =
     element-copy-out-a
     mul-extents
     element-write-extents
-    mul-axes
+    cast-axes
     element-write-axes
     add-count
     add-i
@@ -125,6 +128,7 @@ kept-axes-spec =
     element-copy-out-f-2
     element-copy-out-a-2
     element-write-extents-2
+    cast-axes-2
     element-write-axes-2
     returns
     returns-2

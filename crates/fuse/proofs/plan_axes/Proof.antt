@@ -22,7 +22,7 @@ compress-dims-requires c κs =
     let f = c .before .before .before in
     let p = f .before .before in
     let s = p .before .before .before in
-    (named (s .pre .0), (made-long (s .pre .0) (p .pick-into .ensures) (f .fuse-dims .ensures), s .pre .1))
+    (named (s .pre .0), ((made-long (s .pre .0) (p .pick-into .ensures) (f .fuse-dims .ensures), s .pre .0 .few-axes), s .pre .1))
 
 returns : tie.Need-returns
 returns c =

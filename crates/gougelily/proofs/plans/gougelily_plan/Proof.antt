@@ -38,16 +38,23 @@ passed : (c : tie.After-enum-told) → let a = c .before .before .before .before
     planningRefused (machineOf (a .line) (a .cache) (a .way) (a .live)) (a .extents .now) (a .sizes .now) (a .strides .now) (c .before .before .before .purpose-of .result) ≡ none
 passed c = served-none _ (sym (c .before .before .check-planning .ensures) ∙ c .enum-told .given .1)
 
+places-requires : tie.Need-places-requires
+places-requires c κs = search needs
+
+clear-axes-requires : tie.Need-clear-axes-requires
+clear-axes-requires c κs = search needs
+
 plan-into-requires : tie.Need-plan-into-requires
 plan-into-requires c κs =
-    let t = c .before .before .before .before .before in
+    let z = c .before .before .before in
+    let t = z .before .before .before .before .before in
     let a = t .before .before .before .before .before .before .args in
     let mc = machineOf (a .line) (a .cache) (a .way) (a .live) in
     let u = t .before .before .before .purpose-of .result in (
       planning-allowed mc (a .extents .now) (a .sizes .now) (a .strides .now) u (passed t),
       (
         accepted (a .extents .now) (a .sizes .now) (a .strides .now) u (planning-layout mc (a .extents .now) (a .sizes .now) (a .strides .now) u (passed t)),
-        record { extents = refl; strides = refl },
+        z .clear-axes .ensures,
       ),
     )
 
@@ -65,7 +72,7 @@ returns c =
 returns-2 : tie.Need-returns-2
 returns-2 c =
     let m = c .before .before in
-    let t = m .before .before .before .before .before .before in
+    let t = m .before .before .before .before .before .before .before .before .before in
     let a = t .before .before .before .before .before .before .args in
     handed-served (λ (p : Planned). p .answer) (λ (p : Planned). planMemory (p .plan))
     (called (planned (machineOf (a .line) (a .cache) (a .way) (a .live)) (a .extents .now) (a .sizes .now) (a .strides .now))
@@ -82,6 +89,8 @@ gougelily-plan-spec =
     enum-known-answer
     negated-requires
     enum-told
+    places-requires
+    clear-axes-requires
     plan-into-requires
     returns
     returns-2)
