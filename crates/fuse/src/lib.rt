@@ -158,7 +158,7 @@ pub fn fuse_dims(
 
 // The axes whose extent is not 1, with their extents, written into arrays of zeros. If there is none the first axis stays, so that a walk has
 // an axis to step on.
-fn kept_axes<'a>(
+pub fn kept_axes<'a>(
     fused: &'a [u64; 64],
     order: &'a [usize; 64],
     rank: usize,

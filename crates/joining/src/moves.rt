@@ -22,12 +22,14 @@ use super::layouts::ranks_into;
 use super::layouts::rows_without;
 use super::layouts::sizes_without;
 use auxiliary::rank_table_into;
+use fuse::compute_costs;
 use kernel::Aim;
 use layout::lead;
 use layout::purpose_of;
 use session::Numbers;
 use session::kept::axes_kept;
 use session::kept::blocks_kept;
+use session::kept::weights_kept;
 
 // ---- the numbers
 
@@ -188,25 +190,20 @@ pub fn keep<'a>(
     ensures kept { λ r. let g = givenIn numbers (now (extents .entry)) (now (sizes .entry)) (now (strides .entry)) in
         ⌜ KeptIn g (r .«plan_rank») (now (weights .exit)) (now (costs .exit)) (now («plan_extents» .exit)) (now (blocks .exit)) (now («plan_strides» .exit)) ⌝ }
 {
+    let w = weights_kept(numbers, extents, strides, table);
+    *weights = w;
     *plan_extents = [0u64; 64];
     let axes = axes_kept(
         numbers,
         extents,
         strides,
-        table,
         weights,
         &mut *plan_extents,
         &mut *plan_strides,
     );
     let after = planned(numbers, axes);
-    blocks_kept(
-        after,
-        extents,
-        sizes,
-        plan_extents,
-        plan_strides,
-        costs,
-        blocks,
-    );
+    let c = compute_costs(plan_strides, numbers.operands, axes);
+    *costs = c;
+    blocks_kept(after, extents, sizes, plan_extents, plan_strides, blocks);
     after
 }

@@ -89,7 +89,3 @@ module _ (xs bs : List ℤ) (i seen : ℕ) where
       (ap₂ sameInts (drop-cons xs i (pos 0) l) (drop-cons bs i (pos 0) k)
       ∙ ap (λ (j : ℕ). eqZ (getD xs i (pos 0)) (getD bs i (pos 0)) && sameInts (drop j xs) (drop j bs)) (sym (add-one i)))
       h
-
-  pub sameZ-over : length xs ≤ i → length bs ≤ i → (eqb seen 0 && sameInts (drop i xs) (drop i bs)) ≡ sameInts xs bs → eqb seen 0 ≡ sameInts xs bs
-  sameZ-over l k h =
-      sym (and-true (eqb seen 0)) ∙ ap₂ (λ (x y : List ℤ). eqb seen 0 && sameInts x y) (sym (drop-of-length-le xs l)) (sym (drop-of-length-le bs k)) ∙ h

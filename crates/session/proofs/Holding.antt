@@ -36,12 +36,13 @@ use Rattle.laws.specs.Base.Arrays.{blank-ℕ, blank-ℤ, blank-behind, padded-t
 use Rattle.laws.specs.Base.Rows.{length-over}
 use Rattle.laws.specs.Base.Tests.{and-both, both-and, or-cases}
 use Rattle.laws.specs.Refusals.Rows.{served-none}
+use Rattle.laws.specs.Fuse.Arrays.{pickRows}
 use Rattle.session.specs.declared.Numbers.{Numbers}
 use Rattle.session.specs.declared.Session.{Session}
 use Rattle.session.specs.Session.{Given, refusedOf, ranksOf, weightsOf, costsOf, planOf, kindOf, freshOf, sameNats, sameInts, Right, holds, row10}
 use Rattle.session.specs.Same.{Decides, same-nats, nats-same, same-ints, ints-same, right-holds, decides-holds}
 use Rattle.session.specs.Afresh.{taken-of, allowed-of, few-strides}
-use Rattle.session.specs.Made.{Even, rowsOf, ranksIn, TableOf, AxesIn, AxesAt, Cuttable, BlocksAt, KeptIn, Keeps, LayoutRight, Laid, withPlan, givenIn, sessionAt}
+use Rattle.session.specs.Made.{Even, rowsOf, ranksIn, TableOf, AxesIn, StaysIn, AxesAt, Cuttable, BlocksAt, KeptIn, Keeps, LayoutRight, Laid, weightsIn, Weighed, withPlan, givenIn, sessionAt}
 use Rattle.session.specs.Tabled.{Tabled}
 use Rattle.session.proofs.Tabling.{rows-more, own-tabled, exact-ranks}
 
@@ -235,36 +236,29 @@ module _ (table : List (List ℕ)) (R : List ℕ) (even : Even table) (long : le
 
 -- ---- the kept parts
 
--- weights and axes: the fresh ones are compared with those that are there
-module _ (es : List ℕ) (m : ℕ) (ss : List ℤ) (u : Purpose) {rank : ℕ} {W E : List ℕ} {S : List ℤ} (fresh : AxesIn es m ss u rank W E S)
-    (po o rank′ : ℕ) (W′ E′ : List ℕ) (S′ : List ℤ) {w e s : Bool} (iw : w ≡ sameNats W W′) (ie : e ≡ sameNats E E′) (is : s ≡ sameInts S S′) where
-  pub axes-decides : Decides ((eqb po o && eqb rank rank′) && ((w && e) && s)) ((po ≡ o) × AxesIn es m ss u rank′ W′ E′ S′)
+-- axes: the fresh ones are compared with those that are there, where the weights are right
+module _ (es : List ℕ) (m : ℕ) (ss : List ℤ) (u : Purpose) {rank : ℕ} {E A : List ℕ} (fresh : StaysIn es m ss u rank E A)
+    (po o rank′ : ℕ) (W′ E′ : List ℕ) (S′ : List ℤ) (weighed : W′ ≡ padded 64 0 (weights es m ss (lead u)))
+    {e s : Bool} (ie : e ≡ sameNats E E′) (is : s ≡ sameInts (padded 512 (pos 0) (pickRows ss (length es) (take rank A) m)) S′) where
+  pub axes-decides : Decides ((eqb po o && eqb rank rank′) && (e && s)) ((po ≡ o) × AxesIn es m ss u rank′ W′ E′ S′)
   axes-decides =
       decides-as
-      (decides-both (eqb po o && eqb rank rank′) ((w && e) && s)
+      (decides-both (eqb po o && eqb rank rank′) (e && s)
       (decides-both (eqb po o) (eqb rank rank′) (decides-eqb po o) (decides-eqb rank rank′))
-      (decides-both (w && e) s (decides-both w e (decides-is iw (decides-nats W W′)) (decides-is ie (decides-nats E E′))) (decides-is is (decides-ints S S′))))
+      (decides-both e s (decides-is ie (decides-nats E E′)) (decides-is is (decides-ints (padded 512 (pos 0) (pickRows ss (length es) (take rank A) m)) S′))))
       (λ q. (
         q .0 .0,
         record {
-          weights = sym (q .1 .0 .0) ∙ fresh .weights;
+          weights = weighed;
           count = sym (q .0 .1) ∙ fresh .count;
-          extents = sym (q .1 .0 .1) ∙ fresh .extents;
+          extents = sym (q .1 .0) ∙ fresh .extents;
           strides = sym (q .1 .1) ∙ fresh .strides;
         },
       ))
       (λ q. let a = q .1 in (
         (q .0, fresh .count ∙ sym (a .count)),
-        ((fresh .weights ∙ sym (a .weights), fresh .extents ∙ sym (a .extents)), fresh .strides ∙ sym (a .strides)),
+        (fresh .extents ∙ sym (a .extents), fresh .strides ∙ sym (a .strides)),
       ))
-
--- the fresh arrays have their places still
-pub axes-places : (es : List ℕ) (m : ℕ) (ss : List ℤ) (u : Purpose) {rank : ℕ} {W E : List ℕ} {S : List ℤ} → AxesIn es m ss u rank W E S → (length W ≡ 64) × (length E ≡ 64) × (length S ≡ 512)
-axes-places es m ss u a = (
-  ap length (a .weights) ∙ length-padded 0 64 (weights es m ss (lead u)),
-  ap length (a .extents) ∙ length-padded 0 64 (extentsOf (planAxes es m ss u)),
-  ap length (a .strides) ∙ length-padded (pos 0) 512 (over (run 0 m) (λ k. padded 64 (pos 0) (row k (planAxes es m ss u)))),
-)
 
 pub blocks-places : (n : Numbers) (E Z PE : List ℕ) (PS : List ℤ) {C B : List ℕ} → length PE ≡ 64 → BlocksAt n E Z PE PS C B → (length C ≡ 64) × (length B ≡ 64)
 blocks-places n E Z PE PS e b = (
@@ -381,6 +375,9 @@ module _ (n : Numbers) (E Z : List ℕ) (S : List ℤ) (l : LayoutRight n E Z S)
   -- the table of ranks, laid out
   pub laid-of : (table : List (List ℕ)) → TableOf (take (n .rank * n .operands) S) (n .rank) (n .operands) table → Laid n E S table
   laid-of table t = record { axes = l .axes; few = l .few; extents = extents-long; strides = strides-long; ranks = t }
+
+  pub weighed-of : (W : List ℕ) → W ≡ weightsIn n E S → Weighed n E S W
+  weighed-of W e = record { axes = l .axes; few = l .few; extents = extents-long; strides = strides-long; weights = e }
 
   pub own-ranks : (table : List (List ℕ)) → TableOf (take (n .rank * n .operands) S) (n .rank) (n .operands) table → ranksIn table (n .operands) ≡ ranksOf lg
   own-ranks table t =

@@ -2,3 +2,4 @@ pub mod Comparing
 pub mod Tabling
 pub mod Keeping
 pub mod Holding
+pub mod Picking

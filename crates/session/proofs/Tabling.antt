@@ -133,6 +133,9 @@ module _ (rank operands : ℕ) (axes : rank ≤ 64) (few : operands ≤ 8) (S : 
   pub own-fits : Fitting ss rank operands
   own-fits = record { rank-few = axes; operands-few = few; strides-all = own-strides }
 
+  pub kept-fits : (E : List ℕ) → length E ≡ 64 → Fitting ss (length (take rank E)) operands
+  kept-fits E e = subst (λ (r : ℕ). Fitting ss r operands) (sym (length-take-le rank E (omega (arith, e, axes)))) own-fits
+
   pub own-tabled : (E : List ℕ) → length E ≡ 64 → (table : List (List ℕ)) → table ≡ tableOf ss rank operands → Tabled (take rank E) ss table operands
   own-tabled E e table is =
       let l : length (take rank E) ≡ rank = length-take-le rank E (omega (arith, e, axes)) in

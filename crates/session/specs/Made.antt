@@ -20,6 +20,7 @@ use Rattle.strided.specs.declared.Machine.{Machine}
 use Rattle.strided.specs.declared.Purpose.{Purpose}
 use Rattle.strided.specs.declared.Plan.{Plan}
 use Rattle.strided.specs.declared.Answer.{Answer}
+use Rattle.laws.specs.Fuse.Arrays.{pickRows}
 use Rattle.auxiliary.specs.Fitting.{Fitting}
 use Rattle.model.specs.Plannable.{Plannable}
 use Rattle.session.specs.declared.Numbers.{Numbers}
@@ -136,12 +137,32 @@ pub record Laid (n : Numbers) (E : List ℕ) (S : List ℤ) (table : List (List 
   pub strides : length S ≡ 512
   pub ranks : TableOf (take (n .rank * n .operands) S) (n .rank) (n .operands) table
 
+-- the weights of its axes, in an array; and they are at hand
+abbrev pub weightsIn : Numbers → List ℕ → List ℤ → List ℕ
+weightsIn n E S = padded 64 0 (weighed (take (n .rank) E) (n .operands) (take (n .rank * n .operands) S) (lead (purposeIn n)))
+
+pub record Weighed (n : Numbers) (E : List ℕ) (S : List ℤ) (W : List ℕ) : Type 0 where
+  pub axes : n .rank ≤ 64
+  pub few : n .operands ≤ 8
+  pub extents : length E ≡ 64
+  pub strides : length S ≡ 512
+  pub weights : W ≡ weightsIn n E S
+
 -- the weights of a layout, and its plan's axes, are in the arrays
 pub record AxesIn (es : List ℕ) (m : ℕ) (ss : List ℤ) (u : Purpose) (rank : ℕ) (W E : List ℕ) (S : List ℤ) : Type 0 where
   pub weights : W ≡ padded 64 0 (weighed es m ss (lead u))
   pub count : rank ≡ length (planAxes es m ss u)
   pub extents : E ≡ padded 64 0 (extentsOf (planAxes es m ss u))
   pub strides : S ≡ strideTable (planAxes es m ss u) m
+
+-- the extents of its plan's axes are in an array, and in another which axes of the layout have their strides
+pub record StaysIn (es : List ℕ) (m : ℕ) (ss : List ℤ) (u : Purpose) (rank : ℕ) (E A : List ℕ) : Type 0 where
+  pub count : rank ≡ length (planAxes es m ss u)
+  pub few : rank ≤ 64
+  pub extents : E ≡ padded 64 0 (extentsOf (planAxes es m ss u))
+  pub places : length A ≡ 64
+  pub inside : (j : ℕ) → j < rank → getD A j 0 < length es
+  pub strides : padded 512 (pos 0) (pickRows ss (length es) (take rank A) m) ≡ strideTable (planAxes es m ss u) m
 
 abbrev pub AxesAt : Numbers → List ℕ → List ℤ → ℕ → List ℕ → List ℕ → List ℤ → Type 0
 AxesAt n E S rank W PE PS = AxesIn (take (n .rank) E) (n .operands) (take (n .rank * n .operands) S) (purposeIn n) rank W PE PS
@@ -158,10 +179,16 @@ pub record Cuttable (n : Numbers) (E Z PE : List ℕ) (PS : List ℤ) : Type 0 w
   pub places : length PE ≡ 64
   pub cut : 1024 < total (take (n .rank) E) → Plannable (take (n .operands) Z) PE PS (n .«plan_rank») (purposeIn n)
 
--- their costs and blocks are in the arrays
+-- their costs and blocks, and these are in the arrays
+abbrev pub costsIn : Numbers → List ℤ → List ℕ
+costsIn n PS = padded 64 0 (costed PS (n .operands) (n .«plan_rank»))
+
+abbrev pub blocksIn : Numbers → List ℕ → List ℕ → List ℕ → List ℤ → List ℕ
+blocksIn n E Z PE PS = cond (leb (total (take (n .rank) E)) 1024) PE (cutBlocks (n .machine) (take (n .operands) Z) PE PS (n .«plan_rank») (purposeIn n))
+
 pub record BlocksAt (n : Numbers) (E Z PE : List ℕ) (PS : List ℤ) (C B : List ℕ) : Type 0 where
-  pub costs : C ≡ padded 64 0 (costed PS (n .operands) (n .«plan_rank»))
-  pub blocks : B ≡ cond (leb (total (take (n .rank) E)) 1024) PE (cutBlocks (n .machine) (take (n .operands) Z) PE PS (n .«plan_rank») (purposeIn n))
+  pub costs : C ≡ costsIn n PS
+  pub blocks : B ≡ blocksIn n E Z PE PS
 
 -- weights, costs and plan of the layout are in the arrays
 pub record KeptIn (g : Given) (rank : ℕ) (W C E B : List ℕ) (S : List ℤ) : Type 0 where

@@ -3,25 +3,30 @@
 ghost use mathlib.Core.Path.{_≡_};
 ghost use mathlib.Core.Bool.{true, _&&_};
 ghost use mathlib.Core.List.{[], _∷_};
-ghost use Prim.Native.Nat.{_*_, _≤_};
+ghost use Prim.Native.Nat.{ℕ, _+_, _*_, _≤_, _<_};
 ghost use lib.Dec.{eqb};
-ghost use lib.ListN.{length, take, drop, replicate};
+ghost use lib.IntN.{pos};
+ghost use lib.ListN.{length, getD, take, drop, replicate};
+ghost use Rattle.strided.specs.Base.{padded};
 ghost use Rattle.strided.specs.Layout.{lead as leadOf};
 ghost use Rattle.strided.specs.Memory.{purposeOf};
+ghost use Rattle.strided.specs.Order.{pick};
 ghost use Rattle.strided.specs.Step.{blank, blankZ};
 ghost use Rattle.strided.specs.Refusals.{refusedBy, answered};
 ghost use Rattle.strided.specs.declared.Answer.the-variants.{Served};
-ghost use Rattle.session.specs.Session.{kindOf, sameNats, Right, row21, newRows};
+ghost use Rattle.laws.specs.Fuse.Arrays.{pickRows};
+ghost use Rattle.session.specs.Session.{kindOf, sameNats, sameInts, Right, row21, newRows};
 ghost use Rattle.session.specs.Same.{Decides};
-ghost use Rattle.session.specs.Made.{RankRow, Even, ranksIn, TableOf, Laid, AxesAt, Cuttable, BlocksAt, Keeps, LayoutRight, givenIn, sessionAt};
+ghost use Rattle.session.specs.Made.{RankRow, Even, ranksIn, TableOf, Laid, weightsIn, Weighed, AxesAt, Cuttable, BlocksAt, Keeps, LayoutRight, givenIn, sessionAt};
 use super::Numbers;
 use super::compare::all_zero;
 use super::compare::all_zero_signed;
 use super::compare::same;
-use super::compare::same_signed;
-use super::kept::axes_kept;
 use super::kept::blocks_kept;
+use super::kept::stays_by_into;
+use super::kept::weights_kept;
 use auxiliary::rank_table_into;
+use fuse::compute_costs;
 use layout::check_planning;
 use layout::operands_wrong;
 use layout::purpose_of;
@@ -150,27 +155,102 @@ fn ranks_right<'a>(table: &'a [[u8; 64]; 8], operands: usize, ranks: &'a [u64]) 
     alike & rest
 }
 
-// Whether weights and the plan's axes are what the layout gives.
-fn axes_right<'a>(
+// Whether the weights are what the layout gives.
+fn weights_right<'a>(
     numbers: Numbers,
     extents: &'a [u64],
     strides: &'a [i64],
     table: &'a [[u8; 64]; 8],
     weights: &'a [u64; 64],
+) -> bool
+    requires { ⌜ Laid numbers (now extents) (now strides) (now table) ⌝ }
+    ensures { λ r. ⌜ Decides r (now (weights .entry) ≡ weightsIn numbers (now (extents .entry)) (now (strides .entry))) ⌝ }
+{
+    let w = weights_kept(numbers, extents, strides, table);
+    same(&w, weights)
+}
+
+// Whether a row of a plan's strides has an operand's strides of these axes, and 0 behind them. The operand's strides start at `from`.
+fn row_picked<'a>(
+    strides: &'a [i64],
+    from: usize,
+    axes: &'a [usize; 64],
+    count: usize,
+    row: &'a [i64],
+) -> bool
+    requires { ⌜ (length (now axes) ≡ 64) × ((count ≤ 64) × (length (now row) ≡ 64)) ⌝ }
+    requires { ⌜ ((j : ℕ) → j < count → from + getD (now axes) j 0 < length (now strides)) ⌝ }
+    ensures { λ r. ⌜ r ≡ sameInts (padded 64 (pos 0) (pick (pos 0) (drop from (now (strides .entry))) (take count (now (axes .entry))))) (now (row .entry)) ⌝ }
+{
+    let mut differing: i64 = 0;
+    let mut i: usize = 0;
+    while i < count {
+        let axis = axes[i];
+        differing = differing | (strides[from + axis] ^ row[i]);
+        i += 1;
+    }
+    let rest = all_zero_signed(&row[count..]);
+    (differing == 0) & rest
+}
+
+// Whether a plan's strides are those of these axes.
+fn strides_right<'a>(
+    strides: &'a [i64],
+    pitch: usize,
+    operands: usize,
+    axes: &'a [usize; 64],
+    count: usize,
+    plan_strides: &'a [i64],
+) -> bool
+    requires { ⌜ (operands ≤ 8) × (operands * pitch ≤ length (now strides)) ⌝ }
+    requires { ⌜ (length (now axes) ≡ 64) × ((count ≤ 64) × (length (now «plan_strides») ≡ 512)) ⌝ }
+    requires { ⌜ ((j : ℕ) → j < count → getD (now axes) j 0 < pitch) ⌝ }
+    ensures { λ r. ⌜ r ≡ sameInts (padded 512 (pos 0) (pickRows (now (strides .entry)) pitch (take count (now (axes .entry))) operands)) (now («plan_strides» .entry)) ⌝ }
+{
+    let mut alike = true;
+    let mut k: usize = 0;
+    while k < operands {
+        let start = k * 64;
+        let end = start + 64;
+        alike = alike & row_picked(strides, k * pitch, axes, count, &plan_strides[start..end]);
+        k += 1;
+    }
+    let behind = operands * 64;
+    let rest = all_zero_signed(&plan_strides[behind..]);
+    alike & rest
+}
+
+// Whether the plan's axes are what the layout gives, where the weights are.
+fn axes_right<'a>(
+    numbers: Numbers,
+    extents: &'a [u64],
+    strides: &'a [i64],
+    weights: &'a [u64; 64],
     plan_extents: &'a [u64; 64],
     plan_strides: &'a [i64; 512],
 ) -> bool
-    requires { ⌜ Laid numbers (now extents) (now strides) (now table) ⌝ }
+    requires { ⌜ Weighed numbers (now extents) (now strides) (now weights) ⌝ }
     ensures { λ r. ⌜ Decides r ((numbers .«plan_operands» ≡ numbers .operands) × AxesAt numbers (now (extents .entry)) (now (strides .entry))
         (numbers .«plan_rank») (now (weights .entry)) (now («plan_extents» .entry)) (now («plan_strides» .entry))) ⌝ }
 {
-    let mut w = [0u64; 64];
+    let rank = numbers.rank;
+    let operands = numbers.operands;
+    let count = rank * operands;
+    let own = &strides[..count];
     let mut e = [0u64; 64];
-    let mut s = [0i64; 512];
-    let axes = axes_kept(numbers, extents, strides, table, &mut w, &mut e, &mut s);
-    let counts = (numbers.plan_operands == numbers.operands) & (axes == numbers.plan_rank);
-    let loops = same(&w, weights) & same(&e, plan_extents);
-    let moves = same_signed(&s, plan_strides);
+    let mut axes = [0usize; 64];
+    let found = stays_by_into(
+        &extents[..rank],
+        own,
+        operands,
+        purpose_of(numbers.purpose, numbers.chosen),
+        weights,
+        &mut e,
+        &mut axes,
+    );
+    let counts = (numbers.plan_operands == operands) & (found == numbers.plan_rank);
+    let loops = same(&e, plan_extents);
+    let moves = strides_right(own, rank, operands, &axes, found, plan_strides);
     counts & (loops & moves)
 }
 
@@ -188,17 +268,9 @@ fn blocks_right<'a>(
     ensures { λ r. ⌜ Decides r (BlocksAt numbers (now (extents .entry)) (now (sizes .entry)) (now («plan_extents» .entry)) (now («plan_strides» .entry))
         (now (costs .entry)) (now (blocks .entry))) ⌝ }
 {
-    let mut c = [0u64; 64];
+    let c = compute_costs(plan_strides, numbers.operands, numbers.plan_rank);
     let mut b = [0u64; 64];
-    blocks_kept(
-        numbers,
-        extents,
-        sizes,
-        plan_extents,
-        plan_strides,
-        &mut c,
-        &mut b,
-    );
+    blocks_kept(numbers, extents, sizes, plan_extents, plan_strides, &mut b);
     same(&c, costs) & same(&b, blocks)
 }
 
@@ -220,24 +292,26 @@ fn kept_right<'a>(
     ensures { λ r. let g = givenIn numbers (now (extents .entry)) (now (sizes .entry)) (now (strides .entry)) in
         ⌜ Decides r (Keeps g numbers (now (weights .entry)) (now (costs .entry)) (now («plan_extents» .entry)) (now (blocks .entry)) (now («plan_strides» .entry))) ⌝ }
 {
-    if axes_right(
-        numbers,
-        extents,
-        strides,
-        table,
-        weights,
-        plan_extents,
-        plan_strides,
-    ) {
-        return blocks_right(
+    if weights_right(numbers, extents, strides, table, weights) {
+        if axes_right(
             numbers,
             extents,
-            sizes,
+            strides,
+            weights,
             plan_extents,
             plan_strides,
-            costs,
-            blocks,
-        );
+        ) {
+            return blocks_right(
+                numbers,
+                extents,
+                sizes,
+                plan_extents,
+                plan_strides,
+                costs,
+                blocks,
+            );
+        }
+        return false;
     }
     false
 }

@@ -3,7 +3,7 @@
 ghost use mathlib.Core.Path.{_≡_};
 ghost use lib.ListN.{length};
 ghost use Rattle.strided.specs.Step.{blank, blankZ};
-ghost use Rattle.session.specs.Session.{sameNats, sameInts};
+ghost use Rattle.session.specs.Session.{sameNats};
 
 // Whether two slices of one length are the same.
 pub fn same<'a>(a: &'a [u64], b: &'a [u64]) -> bool
@@ -11,20 +11,6 @@ pub fn same<'a>(a: &'a [u64], b: &'a [u64]) -> bool
     ensures { λ r. ⌜ r ≡ sameNats (now (a .entry)) (now (b .entry)) ⌝ }
 {
     let mut differing: u64 = 0;
-    let mut i: usize = 0;
-    while i < a.len() {
-        differing = differing | (a[i] ^ b[i]);
-        i += 1;
-    }
-    differing == 0
-}
-
-// The same of signed numbers.
-pub fn same_signed<'a>(a: &'a [i64], b: &'a [i64]) -> bool
-    requires { ⌜ length (now a) ≡ length (now b) ⌝ }
-    ensures { λ r. ⌜ r ≡ sameInts (now (a .entry)) (now (b .entry)) ⌝ }
-{
-    let mut differing: i64 = 0;
     let mut i: usize = 0;
     while i < a.len() {
         differing = differing | (a[i] ^ b[i]);

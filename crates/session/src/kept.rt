@@ -1,20 +1,24 @@
-// What a session keeps beside the ranks, worked out of them: the weights, and by these the plan, with the costs of its axes.
+// What a session keeps beside the ranks, worked out of them: the weights, and by these the plan.
 ghost use mathlib.Core.Path.{_≡_};
 ghost use mathlib.Core.Bool.{cond};
 ghost use Prim.Native.Nat.{_≤_, _<_};
 ghost use lib.Dec.{leb};
 ghost use lib.ListN.{length, replicate};
 ghost use Rattle.strided.specs.Base.{padded, run};
-ghost use Rattle.strided.specs.Layout.{total};
+ghost use Rattle.strided.specs.Layout.{total, lead as leadOf};
 ghost use Rattle.strided.specs.Machine.{Allowed};
 ghost use Rattle.strided.specs.Order.{follows, orderTo};
+ghost use Rattle.strided.specs.Weights.{weights as weighed};
 ghost use Rattle.strided.specs.Plan.{cutBlocks};
+ghost use Rattle.auxiliary.specs.Fitting.{Fitting};
 ghost use Rattle.model.specs.Plannable.{Plannable};
 ghost use Rattle.kernel.specs.Made.{Zeros};
 ghost use Rattle.session.specs.Tabled.{Tabled};
-ghost use Rattle.session.specs.Made.{Laid, AxesIn, AxesAt, Cuttable, BlocksAt};
+ghost use Rattle.session.specs.Made.{Laid, weightsIn, Weighed, AxesIn, AxesAt, StaysIn, Cuttable, blocksIn};
 use super::Numbers;
-use fuse::compute_costs;
+use arrange::pick_into;
+use fuse::fuse_dims;
+use fuse::kept_axes;
 use fuse::plan_axes;
 use importance::first_weights;
 use importance::sort_by_importance_into;
@@ -41,25 +45,59 @@ fn order_into<'a>(extents: &'a [u64], weights: &'a [u64; 64], out: &mut [usize; 
     sort_by_importance_into(weights, extents, out);
 }
 
-// The weights of a layout's axes from the table of its ranks, and by them the axes of its plan, written into arrays of zeros. Their number is
-// answered. It is kernel's `axes_into` where the ranks are known.
-fn axes_by_into<'a>(
+// The weights of a layout's axes from the table of its ranks.
+fn weights_by<'a>(
     extents: &'a [u64],
     strides: &'a [i64],
     operands: usize,
     purpose: Purpose,
     table: &'a [[u8; 64]; 8],
-    weights: &mut [u64; 64],
+) -> [u64; 64]
+    requires { ⌜ Tabled (now extents) (now strides) (now table) operands ⌝ }
+    ensures { λ r. ⌜ r ≡ padded 64 0 (weighed (now (extents .entry)) operands (now (strides .entry)) (leadOf purpose)) ⌝ }
+{
+    let rows = *table;
+    first_weights(extents, strides, rows, operands, lead(purpose))
+}
+
+// The same of the layout in a session's arrays.
+pub fn weights_kept<'a>(
+    numbers: Numbers,
+    extents: &'a [u64],
+    strides: &'a [i64],
+    table: &'a [[u8; 64]; 8],
+) -> [u64; 64]
+    requires { ⌜ Laid numbers (now extents) (now strides) (now table) ⌝ }
+    ensures { λ r. ⌜ r ≡ weightsIn numbers (now (extents .entry)) (now (strides .entry)) ⌝ }
+{
+    let rank = numbers.rank;
+    let operands = numbers.operands;
+    let count = rank * operands;
+    weights_by(
+        &extents[..rank],
+        &strides[..count],
+        operands,
+        purpose_of(numbers.purpose, numbers.chosen),
+        table,
+    )
+}
+
+// The axes of a layout's plan by the weights of its own, written into arrays of zeros. Their number is answered. It is kernel's `axes_into`
+// where the weights are known.
+fn axes_by_into<'a>(
+    extents: &'a [u64],
+    strides: &'a [i64],
+    operands: usize,
+    purpose: Purpose,
+    weights: &'a [u64; 64],
     es: &mut [u64; 64],
     plan_strides: &mut [i64; 512],
 ) -> usize
-    requires { ⌜ Tabled (now extents) (now strides) (now table) operands ⌝ }
+    requires { ⌜ Fitting (now strides) (length (now extents)) operands ⌝ }
+    requires { ⌜ now weights ≡ padded 64 0 (weighed (now extents) operands (now strides) (leadOf purpose)) ⌝ }
     requires { ⌜ Zeros (now es) (now «plan_strides») ⌝ }
-    ensures { λ r. ⌜ AxesIn (now (extents .entry)) operands (now (strides .entry)) purpose r (now (weights .exit)) (now (es .exit)) (now («plan_strides» .exit)) ⌝ }
+    ensures { λ r. ⌜ AxesIn (now (extents .entry)) operands (now (strides .entry)) purpose r (now (weights .entry)) (now (es .exit)) (now («plan_strides» .exit)) ⌝ }
 {
-    let rows = *table;
-    let w = first_weights(extents, strides, rows, operands, lead(purpose));
-    *weights = w;
     let mut order = [0usize; 64];
     order_into(extents, weights, &mut order);
     plan_axes(extents, strides, operands, &order, es, plan_strides)
@@ -70,14 +108,13 @@ pub fn axes_kept<'a>(
     numbers: Numbers,
     extents: &'a [u64],
     strides: &'a [i64],
-    table: &'a [[u8; 64]; 8],
-    weights: &mut [u64; 64],
+    weights: &'a [u64; 64],
     es: &mut [u64; 64],
     plan_strides: &mut [i64; 512],
 ) -> usize
-    requires { ⌜ Laid numbers (now extents) (now strides) (now table) ⌝ }
+    requires { ⌜ Weighed numbers (now extents) (now strides) (now weights) ⌝ }
     requires { ⌜ Zeros (now es) (now «plan_strides») ⌝ }
-    ensures { λ r. ⌜ AxesAt numbers (now (extents .entry)) (now (strides .entry)) r (now (weights .exit)) (now (es .exit)) (now («plan_strides» .exit)) ⌝ }
+    ensures { λ r. ⌜ AxesAt numbers (now (extents .entry)) (now (strides .entry)) r (now (weights .entry)) (now (es .exit)) (now («plan_strides» .exit)) ⌝ }
 {
     let rank = numbers.rank;
     let operands = numbers.operands;
@@ -87,11 +124,35 @@ pub fn axes_kept<'a>(
         &strides[..count],
         operands,
         purpose_of(numbers.purpose, numbers.chosen),
-        table,
         weights,
         es,
         plan_strides,
     )
+}
+
+// The extents of the axes of a layout's plan by the weights of its own, and where their strides are, written into arrays of zeros: the
+// number of an axis of the layout for each. How many there are is answered. It is `axes_by_into` without the strides.
+pub fn stays_by_into<'a>(
+    extents: &'a [u64],
+    strides: &'a [i64],
+    operands: usize,
+    purpose: Purpose,
+    weights: &'a [u64; 64],
+    es: &mut [u64; 64],
+    axes: &mut [usize; 64],
+) -> usize
+    requires { ⌜ Fitting (now strides) (length (now extents)) operands ⌝ }
+    requires { ⌜ now weights ≡ padded 64 0 (weighed (now extents) operands (now strides) (leadOf purpose)) ⌝ }
+    requires { ⌜ (now es ≡ replicate 64 0) × (now axes ≡ replicate 64 0) ⌝ }
+    ensures { λ r. ⌜ StaysIn (now (extents .entry)) operands (now (strides .entry)) purpose r (now (es .exit)) (now (axes .exit)) ⌝ }
+{
+    let rank = extents.len();
+    let mut order = [0usize; 64];
+    order_into(extents, weights, &mut order);
+    let mut fused = [0u64; 64];
+    pick_into(extents, &order, rank, &mut fused);
+    fuse_dims(&mut fused, strides, rank, operands, &order, rank);
+    kept_axes(&fused, &order, rank, es, axes)
 }
 
 // The blocks of a plan whose axes are in the arrays: at most 1,024 cells are not cut.
@@ -118,24 +179,21 @@ fn blocks_into<'a>(
     block_sizes(machine, sizes, es, plan_strides, rank, purpose, blocks);
 }
 
-// The costs and blocks of the plan whose axes are in a session's arrays.
+// The blocks of the plan whose axes are in a session's arrays.
 pub fn blocks_kept<'a>(
     numbers: Numbers,
     extents: &'a [u64],
     sizes: &'a [u64],
     es: &'a [u64; 64],
     plan_strides: &'a [i64; 512],
-    costs: &mut [u64; 64],
     blocks: &mut [u64; 64],
 )
     requires { ⌜ Cuttable numbers (now extents) (now sizes) (now es) (now «plan_strides») ⌝ }
-    ensures { λ _. ⌜ BlocksAt numbers (now (extents .entry)) (now (sizes .entry)) (now (es .entry)) (now («plan_strides» .entry)) (now (costs .exit)) (now (blocks .exit)) ⌝ }
+    ensures { λ _. ⌜ now (blocks .exit) ≡ blocksIn numbers (now (extents .entry)) (now (sizes .entry)) (now (es .entry)) (now («plan_strides» .entry)) ⌝ }
 {
     let rank = numbers.rank;
     let operands = numbers.operands;
     let machine = numbers.machine;
-    let found = compute_costs(plan_strides, operands, numbers.plan_rank);
-    *costs = found;
     let purpose = purpose_of(numbers.purpose, numbers.chosen);
     let aim = Aim { purpose, machine };
     blocks_into(

@@ -1,7 +1,8 @@
 -- `session::check::blocks_right` meets its contract. Assumes nothing.
-use mathlib.Core.Path.{_≡_, sym, _∙_}
+use mathlib.Core.Path.{_≡_, sym, ap, _∙_}
 use lib.ListN.{length}
 use borrow.Author.Needs.{needs}
+use Rattle.session.specs.Made.{BlocksAt}
 use Rattle.session.proofs.Holding.{blocks-places, blocks-decide}
 use Rattle.session.proofs.check.blocks_right.Statement.{statement}
 use Rattle.session.proofs.check.blocks_right.Tie as tie
@@ -10,18 +11,24 @@ use Rattle.session.proofs.check.blocks_right.Tie as tie
 abbrev start : tie.After-blocks-kept → tie.Start
 start k = k .before .before .before .before .before
 
--- the fresh arrays have their places still
-places : (k : tie.After-blocks-kept) → let l = k .blocks-kept .last in (length (l .1 .1 .1 .1 .1 .0) ≡ 64) × (length (l .1 .1 .1 .1 .1 .1 .0) ≡ 64)
+-- the fresh costs and blocks, and their places
+laid : (k : tie.After-blocks-kept) → let a = start k .args in BlocksAt (a .numbers) (a .extents .now) (a .sizes .now) (a .plan-extents .now) (a .plan-strides .now) (k .before .before .compute-costs .result) (k .blocks-kept .last .1 .1 .1 .1 .1 .0)
+laid k = record { costs = k .before .before .compute-costs .ensures; blocks = k .blocks-kept .ensures }
+
+places : (k : tie.After-blocks-kept) → (length (k .before .before .compute-costs .result) ≡ 64) × (length (k .blocks-kept .last .1 .1 .1 .1 .1 .0) ≡ 64)
 places k =
     let s = start k in
     let a = s .args in
-    blocks-places (a .numbers) (a .extents .now) (a .sizes .now) (a .plan-extents .now) (a .plan-strides .now) (s .pre .places) (k .blocks-kept .ensures)
+    blocks-places (a .numbers) (a .extents .now) (a .sizes .now) (a .plan-extents .now) (a .plan-strides .now) (s .pre .places) (laid k)
+
+compute-costs-requires : tie.Need-compute-costs-requires
+compute-costs-requires c κs = let t = c .before .before .pre in (t .one, (t .few, t .plan))
 
 blocks-kept-requires : tie.Need-blocks-kept-requires
 blocks-kept-requires c κs = search needs
 
 slice-aggregate-same : tie.Need-slice-aggregate-same
-slice-aggregate-same c = sym (places (c .before) .0)
+slice-aggregate-same c = search needs
 
 same-requires : tie.Need-same-requires
 same-requires c κs = places (c .before .before) .0 ∙ sym (c .same-arg .given .0)
@@ -37,12 +44,13 @@ returns c =
     let f = c .before .before .before in
     let k = f .before .before .before in
     let a = start k .args in
-    blocks-decide (a .numbers) (a .extents .now) (a .sizes .now) (a .plan-extents .now) (a .plan-strides .now) (k .blocks-kept .ensures) (a .costs .now) (a .blocks .now) (f .same .ensures) (c .same2 .ensures)
+    blocks-decide (a .numbers) (a .extents .now) (a .sizes .now) (a .plan-extents .now) (a .plan-strides .now) (laid k) (a .costs .now) (a .blocks .now) (f .same .ensures) (c .same2 .ensures)
 
 pub blocks-right-spec : {M : Type 1} → statement M
 blocks-right-spec =
     tie.close
     (tie.spec
+    compute-costs-requires
     blocks-kept-requires
     slice-aggregate-same
     same-requires

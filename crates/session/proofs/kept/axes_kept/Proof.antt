@@ -1,13 +1,17 @@
 -- `session::kept::axes_kept` meets its contract. Assumes nothing.
-use mathlib.Core.Path.{sym}
+use mathlib.Core.Path.{_≡_, sym, ap, _∙_}
 use native.Mathlib.Omega.{arith}
-use Prim.Native.Nat.{_*_}
+use Prim.Native.Nat.{ℕ, _*_}
 use lib.ListN.{length, take}
 use lib.Seq.{length-take-le}
 use borrow.Author.Needs.{needs}
+use Rattle.strided.specs.Base.{padded}
+use Rattle.strided.specs.Layout.{lead}
+use Rattle.strided.specs.Weights.{weights}
+use Rattle.strided.specs.declared.Purpose.{Purpose}
 use Rattle.session.specs.Afresh.{few-strides}
 use Rattle.session.proofs.Keeping.{axes-for}
-use Rattle.session.proofs.Tabling.{own-strides, own-tabled}
+use Rattle.session.proofs.Tabling.{own-strides, kept-fits}
 use Rattle.session.proofs.kept.axes_kept.Statement.{statement}
 use Rattle.session.proofs.kept.axes_kept.Tie as tie
 
@@ -40,14 +44,17 @@ purpose-of-requires c κs = search needs
 
 axes-by-into-requires : tie.Need-axes-by-into-requires
 axes-by-into-requires c κs =
-    let s = start (c .before .before .before) in
+    let p = c .before .before in
+    let s = start p in
     let a = s .args in
-    let l = s .pre .0 in
-    (own-tabled (a .numbers .rank) (a .numbers .operands) (l .axes) (l .few) (a .strides .now) (l .strides) (a .extents .now) (l .extents) (a .table .now) (l .ranks .is), s .pre .1)
+    let l = s .pre .0 in (
+      kept-fits (a .numbers .rank) (a .numbers .operands) (l .axes) (l .few) (a .strides .now) (l .strides) (a .extents .now) (l .extents),
+      (l .weights ∙ ap (λ (u : Purpose). padded 64 0 (weights (take (a .numbers .rank) (a .extents .now)) (a .numbers .operands) (take (a .numbers .rank * a .numbers .operands) (a .strides .now)) (lead u))) (sym (p .purpose-of .ensures)), s .pre .1),
+    )
 
 returns : tie.Need-returns
 returns c =
-    let p = c .before .before .before .before in
+    let p = c .before .before .before in
     let a = start p .args in
     axes-for (take (a .numbers .rank) (a .extents .now)) (a .numbers .operands) (take (a .numbers .rank * a .numbers .operands) (a .strides .now)) (p .purpose-of .ensures) (c .axes-by-into .ensures)
 

@@ -17,10 +17,7 @@ use Rattle.session.proofs.kept.blocks_kept.Tie as tie
 
 -- back to the entry
 abbrev start : tie.After-purpose-of → tie.Start
-start p = p .before .before .before .before .before
-
-compute-costs-requires : tie.Need-compute-costs-requires
-compute-costs-requires c κs = search needs
+start p = p .before .before .before .before
 
 purpose-of-requires : tie.Need-purpose-of-requires
 purpose-of-requires c κs = search needs
@@ -55,22 +52,16 @@ blocks-into-requires c κs =
 returns : tie.Need-returns
 returns c =
     let p = c .before .before .before .before in
-    let s = start p in
-    let a = s .args in
+    let a = start p .args in
     let es = take (a .numbers .rank) (a .extents .now) in
     let zs = take (a .numbers .operands) (a .sizes .now) in
-    record {
-      costs = p .before .compute-costs .ensures;
-      blocks =
-          c .blocks-into .ensures
-          ∙ ap (λ (u : Purpose). cond (leb (total es) 1024) (a .es .now) (cutBlocks (a .numbers .machine) zs (a .es .now) (a .plan-strides .now) (a .numbers .«plan_rank») u)) (p .purpose-of .ensures);
-    }
+    c .blocks-into .ensures
+    ∙ ap (λ (u : Purpose). cond (leb (total es) 1024) (a .es .now) (cutBlocks (a .numbers .machine) zs (a .es .now) (a .plan-strides .now) (a .numbers .«plan_rank») u)) (p .purpose-of .ensures)
 
 pub blocks-kept-spec : {M : Type 1} → statement M
 blocks-kept-spec =
     tie.close
     (tie.spec
-    compute-costs-requires
     purpose-of-requires
     slice-aggregate-blocks-into
     slice-aggregate-blocks-into-2
