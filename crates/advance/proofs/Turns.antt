@@ -1,7 +1,7 @@
 -- Laws of a carry: what holds before each turn of its loop, and what a turn and the end make of it.
 -- Assumes nothing.
 use mathlib.Core.Path.{_≡_, refl, sym, ap, ap₂, _∙_, subst}
-use mathlib.Core.Bool.{Bool, true, false, cond}
+use mathlib.Core.Bool.{Bool, true, false, cond, false≢true}
 use mathlib.Core.List.{List}
 use Prim.Native.Nat.{ℕ, zero, suc, _+_, _-_, _≤_, _<_}
 use native.Mathlib.Numerals.{add-one}
@@ -13,7 +13,7 @@ use borrow.Author.Tests.{le-ltb}
 use Rattle.advance.specs.declared.Aim.{Aim}
 use Rattle.advance.specs.Axis.{startOf, back, insideAim, aimOf}
 use Rattle.advance.specs.Moves.{shifted, movedAt, Shifts}
-use Rattle.advance.specs.Carry.{Carried, carryOf, startAt, nextOf, Roomy, Tiled, Single, CarriedTo, AdvancedTo}
+use Rattle.advance.specs.Carry.{Carried, carryOf, startAt, nextOf, Roomy, Tiled, Single, CarriedTo, WentAhead, AdvancedTo}
 use Rattle.advance.specs.Filled.{by-lt, filled-above}
 use Rattle.advance.proofs.Axis.{start-one, Lands, aim-lands}
 use Rattle.advance.proofs.Dot.{roomy-shifts, roomy-moved, start-stays}
@@ -132,6 +132,28 @@ module _ (inside : Bool) (first last rank operands : ℕ) (e w : List ℕ) (s : 
                 same =
                     ap (λ (n : ℕ). carryOf inside e w (last - (i + 1)) n (set c i (a .to))) (add-one i) ∙ carry-more false h ∙ p .same;
               })
+
+-- ---- one axis alone
+
+module _ {axis rank operands : ℕ} {e w : List ℕ} {s : List ℤ} {t c : List ℕ} {o : List ℤ} (r : Roomy rank operands e s c o) (d : Tiled rank w c t) (h : axis < rank)
+    {a : Aim} (is-aim : a ≡ insideAim (getD e axis 0) (getD w axis 0) (getD c axis 0)) where
+  aims : a ≡ aimOf true (getD e axis 0) (getD w axis 0) (getD c axis 0)
+  unfolding aimOf
+  aims = is-aim
+
+  -- what `shift` asks
+  pub shifts-ahead : Shifts operands axis (getD c axis 0) (a .to) s o
+  shifts-ahead =
+      shifts-at true axis (axis + 1) rank operands e w s c o axis t c o (begins true axis (axis + 1) rank operands e w s c o t r d) (omega (arith, h)) (omega arith) a aims
+
+  pub went-ahead : {l : List ℤ} → l ≡ shifted operands axis (getD c axis 0) (a .to) s o → a .more ≡ true → WentAhead axis rank operands e w s t c o true (set t axis (a .start)) (set c axis (a .to)) l
+  went-ahead {l} f g = record {
+    ahead = λ q last p m. stops-at true axis last rank operands e w s c o axis t c o (begins true axis last rank operands e w s c o t r d) m p a aims l f g;
+    kept = λ q. absurd (false≢true (sym q));
+  }
+
+pub stayed : {axis rank operands : ℕ} {e w : List ℕ} {s : List ℤ} {t c : List ℕ} {o : List ℤ} → WentAhead axis rank operands e w s t c o false t c o
+stayed = record { ahead = λ q. absurd (false≢true q); kept = λ q. (refl, refl, refl) }
 
 -- ---- axes that do not move inside a tile
 

@@ -76,3 +76,8 @@ CarriedTo inside first last rank operands e w s c o = MovedTo (carryOf inside e 
 
 abbrev pub AdvancedTo : ℕ → ℕ → List ℕ → List ℕ → List ℤ → List ℕ → List ℤ → Bool → List ℕ → List ℕ → List ℤ → Type 0
 AdvancedTo rank operands e w s c o = MovedTo (nextOf rank e w c) rank operands e w s c o
+
+-- an axis inside its tile went ahead, which is a carry from it on up to wherever; or it did not, and nothing moved
+pub record WentAhead (axis rank operands : ℕ) (e w : List ℕ) (s : List ℤ) (t c : List ℕ) (o : List ℤ) (r : Bool) (t′ c′ : List ℕ) (o′ : List ℤ) : Type 0 where
+  pub ahead : r ≡ true → (last : ℕ) → axis < last → last ≤ rank → CarriedTo true axis last rank operands e w s c o true t′ c′ o′
+  pub kept : r ≡ false → (t′ ≡ t) × (c′ ≡ c) × (o′ ≡ o)

@@ -6,7 +6,7 @@ ghost use lib.ListN.{getD, replicate};
 ghost use Rattle.strided.specs.Walk.{effective};
 ghost use Rattle.advance.specs.Moves.{Moves, afterMove, Shifts, shifted};
 ghost use Rattle.advance.specs.Axis.{widthOf, startOf, insideAim, tileAim, aimOf, widthsTo, startsTo};
-ghost use Rattle.advance.specs.Carry.{Roomy, Tiled, Single, CarriedTo, AdvancedTo};
+ghost use Rattle.advance.specs.Carry.{Roomy, Tiled, Single, CarriedTo, WentAhead, AdvancedTo};
 ghost use Rattle.advance.specs.Blocks.{lengthOf, firstsOf};
 
 // The offset `o` after a move along an axis of stride `s`, from one counter to another. Where the stride is 0 the counters may be any.
@@ -237,6 +237,38 @@ pub fn carry(
             return true;
         }
         i += 1;
+    }
+    false
+}
+
+// One axis inside its tile: it goes one ahead if it can. Says whether it did; if not, nothing has moved.
+pub fn go_ahead<'a>(
+    axis: usize,
+    rank: usize,
+    operands: usize,
+    e: &'a [u64; 64],
+    w: &'a [u64; 64],
+    s: &'a [i64; 512],
+    t: &mut [u64; 64],
+    c: &mut [u64; 64],
+    o: &mut [i64; 8],
+) -> bool
+    requires { ⌜ Roomy rank operands (now e) (now s) (now c) (now o) ⌝ }
+    requires { ⌜ Tiled rank (now w) (now c) (now t) ⌝ }
+    requires { ⌜ axis < rank ⌝ }
+    ensures { λ r. ⌜ WentAhead axis rank operands (now (e .entry)) (now (w .entry)) (now (s .entry)) (now (t .entry)) (now (c .entry)) (now (o .entry))
+        r (now (t .exit)) (now (c .exit)) (now (o .exit)) ⌝ }
+{
+    let at = c[axis];
+    let a = inside_aim(e[axis], w[axis], t[axis], at);
+    let more = a.more;
+    if more {
+        let to = a.to;
+        shift(operands, axis, at, to, s, &mut *o);
+        c[axis] = to;
+        let start = a.start;
+        t[axis] = start;
+        return true;
     }
     false
 }

@@ -6,15 +6,15 @@ use Prim.Native.Nat.{ℕ, zero, suc, _+_, _-_, _*_, _≤_, _<_}
 use native.Mathlib.Nat.{zero-add, zero-mul, mul-le-mul-right}
 use native.Mathlib.Numerals.{add-one}
 use native.Mathlib.Omega.{arith}
-use lib.IntN.{ℤ}
+use lib.IntN.{ℤ, pos, _+ℤ_, _*ℤ_}
 use lib.ListN.{length, getD, take, drop, set, length-append}
-use lib.Seq.{paste, paste-zero, paste-suc, take-paste, drop-paste, length-paste, length-take-le, take-all, drop-drop, take-append-seam, drop-append-add}
+use lib.Seq.{paste, paste-zero, paste-suc, take-paste, drop-paste, length-paste, length-take-le, take-all, drop-drop, take-append-seam, drop-append-add, getD-take}
 use Rattle.strided.specs.Base.{over, run}
 use Rattle.strided.specs.Bulk.{laidOn}
 use Rattle.laws.specs.Base.Lists.{over-last, run-append}
 use Rattle.walker.specs.Stretch.{RowsFit}
-use Rattle.walker.proofs.Rows.{length-moved, RowIs, row-list}
-use Rattle.bulk.specs.Blocks.{rowAt, rowsFor, MayPut}
+use Rattle.walker.proofs.Rows.{length-moved, moved-at}
+use Rattle.bulk.specs.Blocks.{rowAt, rowsFor, RowFits, MayPut}
 
 module _ {A : Type 0} where
   -- one place more
@@ -48,14 +48,27 @@ over-long : (f : ℕ → List ℤ) (m : ℕ) → ((i : ℕ) → length (f i) ≡
 over-long f m h zero s = omega (arith, zero-mul m)
 over-long f m h (suc n) s = omega (arith, length-append (f s) (over (run (suc s) n) f), h s, over-long f m h n (suc s))
 
+-- a row has an offset for each operand, and each is o + j * d
+module _ (operands : ℕ) (d o : List ℤ) (few : operands ≤ 8) (x : length d ≡ 8) (y : length o ≡ 8) (j : ℕ) where
+  own : length (take operands o) ≡ operands
+  own = length-take-le operands o (omega (arith, y, few))
+
+  by : length (take operands d) ≡ operands
+  by = length-take-le operands d (omega (arith, x, few))
+
+  pub row-many : length (rowAt operands d o j) ≡ operands
+  row-many = length-moved j (take operands o) (take operands d) (by ∙ sym own) ∙ own
+
+  pub row-place : (k : ℕ) → k < operands → getD o k (pos 0) +ℤ pos j *ℤ getD d k (pos 0) ≡ getD (rowAt operands d o j) k (pos 0)
+  row-place k h =
+      ap₂ (λ (u v : ℤ). u +ℤ pos j *ℤ v) (sym (getD-take operands o k (pos 0) h)) (sym (getD-take operands d k (pos 0) h))
+      ∙ sym (moved-at j (take operands o) (take operands d) k (by ∙ sym own) (subst (λ (n : ℕ). k < n) (sym own) h))
+
+row-long : {n operands : ℕ} {d o : List ℤ} → RowsFit n operands d o → (j : ℕ) → length (rowAt operands d o j) ≡ operands
+row-long {n} {operands} {d} {o} f j = row-many operands d o (f .few) (f .moves) (f .offered) j
+
 pub rows-long : {n operands : ℕ} {d o : List ℤ} → RowsFit n operands d o → (j : ℕ) → length (rowsFor j operands d o) ≡ j * operands
-rows-long {n} {operands} {d} {o} f j =
-    let x = f .offered in
-    let y = f .moves in
-    let few = f .few in
-    let a : length (take operands o) ≡ operands = length-take-le operands o (omega (arith, x, few)) in
-    let b : length (take operands d) ≡ operands = length-take-le operands d (omega (arith, y, few)) in
-    over-long (rowAt operands d o) operands (λ i. length-moved i (take operands o) (take operands d) (b ∙ sym a) ∙ a) j 0
+rows-long {n} {operands} {d} {o} f j = over-long (rowAt operands d o) operands (row-long f) j 0
 
 module _ {n operands at : ℕ} {d o₀ os₀ : List ℤ} (f : MayPut n operands at d o₀ os₀) where
   -- j rows are written
@@ -79,25 +92,27 @@ module _ {n operands at : ℕ} {d o₀ os₀ : List ℤ} (f : MayPut n operands 
     pub rows-room : j < n → (at + j) * operands + operands ≤ length os
     rows-room h = let a = within (j + 1) (let g : j + 1 ≤ n = omega arith in g) in let b = rows-as-long (let g : j ≤ n = omega arith in g) in omega (arith, a, b)
 
-    pub rows-next : j < n → {o os′ : List ℤ} → RowIs j operands d o₀ o → os′ ≡ paste os ((at + j) * operands) o operands → Rows (j + 1) os′
-    rows-next h {o} {os′} m e =
+    pub rows-next : j < n → {os′ : List ℤ} → os′ ≡ paste os ((at + j) * operands) (rowAt operands d o₀ j) operands → Rows (j + 1) os′
+    rows-next h {os′} e =
         let R : List ℤ = rowsFor j operands d o₀ in
-        let x = m .offered in
-        let few = f .rows .few in
+        let long : length (rowAt operands d o₀ j) ≡ operands = row-long (f .rows) j in
         let b = within 0 (let g : 0 ≤ n = omega arith in g) in
-        let more : rowsFor (j + 1) operands d o₀ ≡ R ++ take operands o =
+        let more : rowsFor (j + 1) operands d o₀ ≡ R ++ take operands (rowAt operands d o₀ j) =
         ap (λ (l : List ℕ). over l (rowAt operands d o₀)) (run-append j 1 0) ∙ over-last (run 0 j) (0 + j) (rowAt operands d o₀)
-        ∙ ap (λ (i : ℕ). R ++ rowAt operands d o₀ i) (zero-add j) ∙ ap (λ (l : List ℤ). R ++ l) (sym (row-list (f .rows) m)) in
+        ∙ ap (λ (i : ℕ). R ++ rowAt operands d o₀ i) (zero-add j) ∙ ap (λ (l : List ℤ). R ++ l) (sym (take-all operands (rowAt operands d o₀ j) (omega (arith, long)))) in
         let place : (at + j) * operands ≡ at * operands + j * operands = omega arith in
         let count : j * operands + operands ≡ (j + 1) * operands = omega arith in
-        e ∙ ap₂ (λ (l : List ℤ) (i : ℕ). paste l i o operands) w place
-        ∙ paste-behind os₀ (at * operands) R o (j * operands) operands (rows-long (f .rows) j) (omega (arith, b)) (omega (arith, x, few))
+        e ∙ ap₂ (λ (l : List ℤ) (i : ℕ). paste l i (rowAt operands d o₀ j) operands) w place
+        ∙ paste-behind os₀ (at * operands) R (rowAt operands d o₀ j) (j * operands) operands (rows-long (f .rows) j) (omega (arith, b)) (omega (arith, long))
         ∙ ap₂ (λ (l : List ℤ) (i : ℕ). paste os₀ (at * operands) l i) (sym more) count
 
-    -- the last one
-    pub rows-last : j ≡ n - 1 → {o os′ : List ℤ} → RowIs j operands d o₀ o → os′ ≡ paste os ((at + (n - 1)) * operands) o operands → Rows n os′
-    rows-last g {o} {os′} m e =
-        let s = f .some in
-        let h : j < n = omega (arith, s, g) in
-        subst (λ (i : ℕ). Rows i os′) (let z : j + 1 ≡ n = omega (arith, s, g) in z)
-        (rows-next h m (e ∙ ap (λ (i : ℕ). paste os ((at + i) * operands) o operands) (sym g)))
+    -- what `put_row` asks
+    pub row-fits : j < n → RowFits j operands d o₀
+    row-fits h = record {
+      few = f .rows .few;
+      moves = f .rows .moves;
+      offered = f .rows .offered;
+      small = let k = f .small in omega (arith, k, h);
+      steps = λ k g. f .steps j k h g;
+      fits = λ k g. f .rows .fits j h k g;
+    }

@@ -1,9 +1,9 @@
 -- The loop that writes the next blocks: what a turn of it leaves, stretch by stretch, and what all turns have written at the end.
 -- Assumes nothing.
-use mathlib.Core.Path.{_≡_, refl, sym, ap, _∙_}
-use mathlib.Core.Bool.{true, false}
+use mathlib.Core.Path.{_≡_, refl, sym, ap, _∙_, transport}
+use mathlib.Core.Bool.{Bool, true, false}
 use mathlib.Core.List.{List, _++_, map, map-map, map-append}
-use Prim.Native.Nat.{ℕ, _+_, _-_, _*_, _^_, _≤_, _<_}
+use Prim.Native.Nat.{ℕ, _+_, _-_, _*_, _^_, _≤_, _<_, min}
 use native.Mathlib.Nat.{mul-le-mul-right}
 use native.Mathlib.Omega.{arith}
 use lib.IntN.{ℤ}
@@ -21,14 +21,16 @@ use Rattle.laws.specs.Base.Filling.{rows-alike}
 use Rattle.laws.specs.Base.Lists.{over-append, over-map}
 use Rattle.laws.specs.Walk.Placed.{Placed, placedOf}
 use Rattle.advance.specs.Axis.{startsTo}
+use Rattle.advance.specs.Blocks.{lengthOf}
 use Rattle.strided.specs.Memory.{walkOf}
 use Rattle.walk.specs.Lent.{Taken}
 use Rattle.walk.proofs.Stepping.{block-here}
 use Rattle.walker.specs.declared.Way.{Way}
 use Rattle.walker.specs.declared.Next.{Next}
 use Rattle.walker.specs.Stretch.{blockIn, told, sizes}
-use Rattle.walker.specs.Way.{Leads, movesOf, Strode}
-use Rattle.walker.proofs.Walked.{Walked, walked-none, walked-some, walked-most, walked-blocks, walked-next, walked-laid, walked-fit, walked-all}
+use Rattle.walker.specs.Way.{Leads, leftOf, movesOf, Strides, Passed, Strode}
+use Rattle.walker.proofs.Going.{strode-of}
+use Rattle.walker.proofs.Walked.{Walked, walked-none, walked-left, rows-here, steps-here, walked-blocks, walked-next, walked-laid, walked-fit, walked-all}
 use Rattle.bulk.specs.Blocks.{handed, HasRoom, Wrote, rowsFor, MayPut}
 use Rattle.bulk.proofs.Laying.{laid-paste, rows-long}
 
@@ -72,38 +74,40 @@ module _ {p : Plan} {u : Walk} {y : Way} {w ls₀ : List ℕ} {os₀ : List ℤ}
         let b : n * p .operands ≤ room * p .operands = mul-le-mul-right (p .operands) h in
         ap length (d .offsets) ∙ laid-long (offsetsOf (p .operands) (nextBlocks n p u)) os₀ (omega (arith, a, b, f))
 
-  -- a stretch of them
-  module _ (h : n < room) {r : Next} {first : List ℤ} {t′ c′ : List ℕ} {o′ : List ℤ} (x : Strode y (room - n) (p .extents) w (p .strides) c o r first t′ c′ o′) where
+  -- some blocks of the stretch at the state
+  module _ (h : n < room) {left count : ℕ} (left-is : left ≡ leftOf y (p .extents) w c) (count-is : count ≡ min (room - n) left) where
     below : n ≤ room
     below = omega arith
 
-    pub count-some : 1 ≤ r .count
-    count-some = walked-some (d .walked) x (omega (arith, h))
+    pub count-some : 1 ≤ count
+    count-some = let k = walked-left (d .walked) in omega (arith, k, h, left-is, count-is)
 
-    pub count-fits : n + r .count ≤ room
-    count-fits = let k = walked-most (d .walked) x in omega (arith, k, h)
+    pub count-fits : n + count ≤ room
+    count-fits = omega (arith, h, count-is)
 
-    pub count-place : n + r .count ≤ length ls
+    pub count-place : n + count ≤ length ls
     count-place = let k = count-fits in let b = turned-many below in let f = fits .lengths in omega (arith, k, b, f)
 
-    places : (n + r .count) * p .operands ≤ length os
+    places : (n + count) * p .operands ≤ length os
     places =
         let b = turned-long below in
         let f = fits .offsets in
-        let m : (n + r .count) * p .operands ≤ room * p .operands = mul-le-mul-right (p .operands) count-fits in
+        let m : (n + count) * p .operands ≤ room * p .operands = mul-le-mul-right (p .operands) count-fits in
         omega (arith, b, f, m)
 
+    -- what `put_rows` asks; the moves as `moves_of` tells them
+    pub may-put : {d′ : List ℤ} → d′ ≡ movesOf y (y .operands) (p .strides) → room < 2 ^ 63 → MayPut count (p .operands) n d′ o os
+    may-put d-is g = record {
+      small = let k = count-fits in omega (arith, k, g);
+      room = places;
+      rows = rows-here (d .walked) d-is (omega (arith, left-is, count-is));
+      steps = steps-here (d .walked) d-is (omega (arith, left-is, count-is));
+    }
+
+  -- a stretch of them
+  module _ (h : n < room) {r : Next} {first : List ℤ} {t′ c′ : List ℕ} {o′ : List ℤ} (x : Strode y (room - n) (p .extents) w (p .strides) c o r first t′ c′ o′) where
     -- the moves, as `moves_of` tells them
     module _ {d′ : List ℤ} (d-is : d′ ≡ movesOf y (y .operands) (p .strides)) where
-      -- what `put_rows` asks
-      pub may-put : room < 2 ^ 64 → MayPut (r .count) (p .operands) n d′ first os
-      may-put g = record {
-        some = count-some;
-        small = let k = count-fits in omega (arith, k, g);
-        room = places;
-        rows = walked-fit (d .walked) x d-is;
-      }
-
       lengths-of : lengthsOf (nextBlocks (r .count) p (walkOf false c o)) ≡ replicate (r .count) (r .length)
       lengths-of =
           sym (map-map (λ (z : Placed). z .length) (placedOf (p .operands)) (nextBlocks (r .count) p (walkOf false c o)))
@@ -152,13 +156,13 @@ module _ {p : Plan} {u : Walk} {y : Way} {w ls₀ : List ℕ} {os₀ : List ℤ}
         pub next-many : length ls′ ≡ length ls₀
         next-many =
             let m = length-replicate {A = ℕ} (r .count) (r .length) in
-            ap length e ∙ length-paste ls n (replicate (r .count) (r .length)) (r .count) count-place (omega (arith, m)) ∙ turned-many below
+            ap length e ∙ length-paste ls n (replicate (r .count) (r .length)) (r .count) (count-place h refl (x .count)) (omega (arith, m)) ∙ turned-many (below h refl (x .count))
 
         pub next-long : length os′ ≡ length os₀
         next-long =
             let m = rows-many in
-            let k = places in
-            ap length f ∙ length-paste os (n * p .operands) (rowsFor (r .count) (p .operands) d′ first) (r .count * p .operands) (omega (arith, k)) (omega (arith, m)) ∙ turned-long below
+            let k = places h refl (x .count) in
+            ap length f ∙ length-paste os (n * p .operands) (rowsFor (r .count) (p .operands) d′ first) (r .count * p .operands) (omega (arith, k)) (omega (arith, m)) ∙ turned-long (below h refl (x .count))
 
         -- there is a next block
         pub turned-next : r .more ≡ true → Turned p u y w ls₀ os₀ (n + r .count) t′ c′ o′ ls′ os′
@@ -176,7 +180,7 @@ module _ {p : Plan} {u : Walk} {y : Way} {w ls₀ : List ℕ} {os₀ : List ℤ}
         pub wrote-last : r .more ≡ false → Taken p u → u .ended ≡ false → {a : Several} → a ≡ handed (n + r .count) (walkOf true c′ o′) → Wrote room p u ls₀ os₀ a ls′ os′
         wrote-last g k z q =
             let v : Walked p u y w (n + r .count) false t′ c′ o′ = rw g at (walked-next (d .walked) x) in
-            let b = count-fits in
+            let b = count-fits h refl (x .count) in
             let m : n + r .count + (room - (n + r .count)) ≡ room = omega (arith, b) in
             let same : nextBlocks room p u ≡ nextBlocks (n + r .count) p u = ap (λ (i : ℕ). nextBlocks i p u) (sym m) ∙ walked-all v (room - (n + r .count)) in
             record {
@@ -194,3 +198,17 @@ module _ {p : Plan} {u : Walk} {y : Way} {w ls₀ : List ℕ} {os₀ : List ℤ}
         lengths = d .lengths ∙ ap (λ (l : List Stepped). laidOn (lengthsOf l) ls₀) (sym same);
         offsets = d .offsets ∙ ap (λ (l : List Stepped). laidOn (offsetsOf (p .operands) l) os₀) (sym same);
       }
+
+-- ---- past a stretch: at once, or after a hop that was none
+
+module _ {y : Way} {limit : ℕ} {e w : List ℕ} {s : List ℤ} {c : List ℕ} {o : List ℤ} {left len count : ℕ} (a : left ≡ leftOf y e w c) (b : len ≡ lengthOf (y .rank) e w c) (n : count ≡ min limit left)
+    {more : Bool} {t′ c′ : List ℕ} {o′ : List ℤ} where
+  pub strode-past : Passed y limit e w s c o more t′ c′ o′ → Strode y limit e w s c o (record { count = count; length = len; more = more }) o t′ c′ o′
+  strode-past p = strode-of a b n refl p
+
+module _ {y : Way} {e w : List ℕ} {s : List ℤ} {t c : List ℕ} {o : List ℤ} {t₁ c₁ : List ℕ} {o₁ : List ℤ} (k : (t₁ ≡ t) × (c₁ ≡ c) × (o₁ ≡ o)) where
+  pub kept-asks : Strides y e w s t c o → {left : ℕ} → left ≡ leftOf y e w c → Strides y e w s t₁ c₁ o₁ × (left ≡ leftOf y e w c₁)
+  kept-asks m a = (transport (λ i. Strides y e w s (sym (k .0) i) (sym (k .1) i) (sym (k .2) i)) m, a ∙ ap (leftOf y e w) (sym (k .1)))
+
+  pub kept-passed : {limit : ℕ} {more : Bool} {t′ c′ : List ℕ} {o′ : List ℤ} → Passed y limit e w s c₁ o₁ more t′ c′ o′ → Passed y limit e w s c o more t′ c′ o′
+  kept-passed {limit} {more} {t′} {c′} {o′} p = transport (λ i. Passed y limit e w s (k .1 i) (k .2 i) more t′ c′ o′) p

@@ -3,8 +3,10 @@
 use mathlib.Core.Path.{_≡_}
 use mathlib.Core.List.{List}
 use Prim.Native.Nat.{ℕ, _+_, _*_, _^_, _≤_, _<_}
-use lib.IntN.{ℤ}
-use lib.ListN.{length, take}
+use lib.IntN.{ℤ, pos, _+ℤ_, _*ℤ_}
+use lib.ListN.{length, getD, take}
+use mir.Syntax.{w64}
+use mir.Val.{SFits}
 use Rattle.strided.specs.Base.{over, run}
 use Rattle.strided.specs.Begin.{noWalk}
 use Rattle.strided.specs.Bulk.{nextBlocks, lengthsOf, offsetsOf, laidOn, severalOf}
@@ -41,9 +43,18 @@ rowAt operands d o j = movedOn j (take operands o) (take operands d)
 abbrev pub rowsFor : ℕ → ℕ → List ℤ → List ℤ → List ℤ
 rowsFor n operands d o = over (run 0 n) (rowAt operands d o)
 
--- what writing them asks, from block `at` of a slice on
+-- what writing row j of them asks
+pub record RowFits (j operands : ℕ) (d o : List ℤ) : Type 0 where
+  pub few : operands ≤ 8
+  pub moves : length d ≡ 8
+  pub offered : length o ≡ 8
+  pub small : j < 2 ^ 63
+  pub steps : (k : ℕ) → k < operands → SFits w64 (pos j *ℤ getD d k (pos 0))
+  pub fits : (k : ℕ) → k < operands → SFits w64 (getD o k (pos 0) +ℤ pos j *ℤ getD d k (pos 0))
+
+-- what writing all of them asks, from block `at` of a slice on
 pub record MayPut (n operands at : ℕ) (d o os : List ℤ) : Type 0 where
-  pub some : 1 ≤ n
-  pub small : at + n < 2 ^ 64
+  pub small : at + n < 2 ^ 63
   pub room : (at + n) * operands ≤ length os
   pub rows : RowsFit n operands d o
+  pub steps : (j k : ℕ) → j < n → k < operands → SFits w64 (pos j *ℤ getD d k (pos 0))

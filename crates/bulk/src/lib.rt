@@ -1,17 +1,13 @@
 // Many steps of a walk in one call, for hosts that pay for every call: row 10 is checked once, and the next blocks are written as numbers.
 ghost use mathlib.Core.Path.{_≡_};
 ghost use mathlib.Core.Bool.{false};
-ghost use Prim.Native.Nat.{ℕ, _+_, _*_, _≤_, _<_};
-ghost use lib.IntN.{pos};
-ghost use lib.ListN.{length, getD, replicate};
+ghost use Prim.Native.Nat.{_+_, _*_, _≤_, _<_};
+ghost use lib.ListN.{length, replicate};
 ghost use lib.Seq.{paste};
-ghost use mir.Syntax.{w64};
-ghost use mir.Val.{SFits};
 ghost use Rattle.strided.specs.Bulk.{roomFor, manyOf, steppedMany};
 ghost use Rattle.strided.specs.Memory.{planOf, walkOf};
 ghost use Rattle.walk.specs.Lent.{Taken};
-ghost use Rattle.walker.specs.Way.{added, MayMove};
-ghost use Rattle.bulk.specs.Blocks.{notSeveral, handed, HasRoom, Wrote, rowsFor, MayPut};
+ghost use Rattle.bulk.specs.Blocks.{notSeveral, handed, HasRoom, Wrote, rowAt, rowsFor, RowFits, MayPut};
 use advance::tile_starts;
 use advance::widths;
 use strided::Outcome;
@@ -20,8 +16,11 @@ use strided::Refusal;
 use strided::Several;
 use strided::Walk;
 use walk::answer_of;
+use walker::go_behind;
+use walker::hop;
+use walker::least;
 use walker::moves_of;
-use walker::next_stretch;
+use walker::stretch_here;
 use walker::way_of;
 
 // "A refusal carries its number and nothing else."
@@ -68,38 +67,28 @@ fn room_for(operands: usize, lengths: usize, offsets: usize) -> usize
     blocks
 }
 
-// A block's offsets, operand by operand, from place `at` on; then each moves on by its place of `d`. One loop does both.
-fn put_moving<'a>(
+// The offsets of block j of a stretch, operand by operand, from place `at` on: each is its place of `o` and j times its place of `d`.
+fn put_row<'a>(
     operands: usize,
     at: usize,
+    j: usize,
     d: &'a [i64; 8],
-    o: &mut [i64; 8],
+    o: &'a [i64; 8],
     offsets: &mut [i64],
 )
-    requires { ⌜ MayMove operands (now d) (now o) ⌝ }
+    requires { ⌜ RowFits j operands (now d) (now o) ⌝ }
     requires { ⌜ at + operands ≤ length (now offsets) ⌝ }
-    ensures { λ _. ⌜ (now (offsets .exit) ≡ paste (now (offsets .entry)) at (now (o .entry)) operands)
-        × (now (o .exit) ≡ added operands (now (d .entry)) (now (o .entry))) ⌝ }
+    ensures { λ _. ⌜ now (offsets .exit) ≡ paste (now (offsets .entry)) at (rowAt operands (now (d .entry)) (now (o .entry)) j) operands ⌝ }
 {
+    let times = j as i64;
     let mut k = 0;
     while k < operands {
         let x = o[k];
-        offsets[at + k] = x;
         let y = d[k];
-        let z = x + y;
-        o[k] = z;
+        let z = x + times * y;
+        offsets[at + k] = z;
         k += 1;
     }
-}
-
-// The same for a block that no other of its stretch follows: the offsets stay. A loop that only copied would be compiled to a call of
-// memcpy, which costs more than adding 0 to a few numbers.
-fn put_staying(operands: usize, at: usize, o: &mut [i64; 8], offsets: &mut [i64])
-    requires { ⌜ (operands ≤ 8) × (length (now o) ≡ 8) × (at + operands ≤ length (now offsets)) × ((k : ℕ) → k < operands → SFits w64 (getD (now o) k (pos 0))) ⌝ }
-    ensures { λ _. ⌜ (now (offsets .exit) ≡ paste (now (offsets .entry)) at (now (o .entry)) operands) × (now (o .exit) ≡ now (o .entry)) ⌝ }
-{
-    let still = [0i64; 8];
-    put_moving(operands, at, &still, &mut *o, &mut *offsets);
 }
 
 // The length of `count` blocks, from place `at` on.
@@ -120,19 +109,17 @@ fn put_rows<'a>(
     operands: usize,
     at: usize,
     d: &'a [i64; 8],
-    o: &mut [i64; 8],
+    o: &'a [i64; 8],
     offsets: &mut [i64],
 )
     requires { ⌜ MayPut count operands at (now d) (now o) (now offsets) ⌝ }
     ensures { λ _. ⌜ now (offsets .exit) ≡ paste (now (offsets .entry)) (at * operands) (rowsFor count operands (now (d .entry)) (now (o .entry))) (count * operands) ⌝ }
 {
-    let last = count - 1;
     let mut j: usize = 0;
-    while j < last {
-        put_moving(operands, (at + j) * operands, d, &mut *o, &mut *offsets);
+    while j < count {
+        put_row(operands, (at + j) * operands, j, d, o, &mut *offsets);
         j += 1;
     }
-    put_staying(operands, (at + last) * operands, &mut *o, &mut *offsets);
 }
 
 // Writes the next blocks, at most `room`, from a state that runs, stretch by stretch. It checks nothing.
@@ -158,28 +145,19 @@ fn put_blocks<'a>(
     let d = moves_of(y, s);
     let mut c = counters;
     let mut o = start;
-    let mut first = start;
     let mut t = tile_starts(rank, &w, &c);
     let mut n: usize = 0;
     while n < room {
-        let x = next_stretch(
-            y,
-            (room - n) as u64,
-            e,
-            &w,
-            s,
-            &mut t,
-            &mut c,
-            &mut o,
-            &mut first,
-        );
-        let count = x.count as usize;
+        let x = stretch_here(y, e, &w, &t, &c);
+        let limit = (room - n) as u64;
+        let count = least(limit, x.left) as usize;
         put_lengths(count, n, x.length, &mut *lengths);
-        put_rows(count, operands, n, &d, &mut first, &mut *offsets);
+        put_rows(count, operands, n, &d, &o, &mut *offsets);
         n += count;
-        let more = x.more;
-        if !more {
-            return blocks_written(n, true, c, o);
+        if !hop(y, limit, x.left, e, &w, s, &mut t, &mut c, &mut o) {
+            if !go_behind(y, limit, x.left, e, &w, s, &mut t, &mut c, &mut o) {
+                return blocks_written(n, true, c, o);
+            }
         }
     }
     blocks_written(n, false, c, o)

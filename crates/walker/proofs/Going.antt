@@ -1,9 +1,9 @@
--- ALONG THE WAY: going on by so many blocks is what as many steps of the walk do, and what `go_on` and `next_stretch` ask and leave.
+-- ALONG THE WAY: going on by so many blocks is what as many steps of the walk do, and what `go_on`, `go_behind` and `next_stretch` ask and leave.
 -- Assumes nothing.
 use mathlib.Core.Path.{_≡_, refl, sym, ap, _∙_, subst, transport}
 use mathlib.Core.Bool.{Bool, true, false, cond}
 use mathlib.Core.List.{List}
-use Prim.Native.Nat.{ℕ, zero, suc, _+_, _-_, _*_, _≤_, _<_, _^_}
+use Prim.Native.Nat.{ℕ, zero, suc, _+_, _-_, _*_, _≤_, _<_, _^_, min}
 use native.Mathlib.Nat.{mul-one, zero-mul, suc-mul}
 use native.Mathlib.Omega.{arith}
 use lib.Dec.{ltb, eqb}
@@ -20,7 +20,7 @@ use Rattle.advance.proofs.Axis.{start-one, start-whole, start-on, start-tiles}
 use Rattle.advance.proofs.Dot.{roomy-shifts, roomy-moved, start-stays}
 use Rattle.advance.proofs.Turns.{tiled-set, passed, passed-single}
 use Rattle.walker.specs.declared.Way.{Way}
-use Rattle.walker.specs.Way.{Leads, leftOf, onward, OnTo, AtEnd, MayGo, Gone, MayStride, LeftFrom, StrodeOn}
+use Rattle.walker.specs.Way.{Leads, leftOf, onward, OnTo, AtEnd, MayGo, Gone, MayStride, LeftFrom, MayTell, PassedOn, StrodeOn}
 use Rattle.walker.proofs.Ahead.{inside-next, tiles-fit, tile-next, left-inside, left-tile, left-some, left-way}
 
 -- ---- axes that stay where they are
@@ -96,7 +96,7 @@ module _ {y : Way} {rank operands : ℕ} {e w : List ℕ} {s : List ℤ} {t c : 
     pub inside-by : y .inside ≡ true → (j : ℕ) → j * y .by ≡ j
     inside-by i j = ap (λ (x : ℕ). j * x) (l .inner-by i h) ∙ mul-one j
 
-    below : (j : ℕ) → j < leftOf y e w c → A + j * y .by < E
+    pub below : (j : ℕ) → j < leftOf y e w c → A + j * y .by < E
     below j g = go (y .inside) refl
       where
         go : (b : Bool) → y .inside ≡ b → A + j * y .by < E
@@ -316,7 +316,7 @@ module _ {y : Way} {rank operands : ℕ} {e w : List ℕ} {s : List ℤ} {t c : 
           (ap (cond (eqb rank 0) 1) (full-length Z (E - A) here)) in
           p ∙ sym q
 
-  -- what `next_stretch` makes of its callees' answers
+  -- what `go_behind` makes of its callees' answers
   module _ {left : ℕ} (left-is : left ≡ leftOf y e w c) where
     pub last-less : left - 1 < leftOf y e w c
     last-less = let p = some-left in omega (arith, p, left-is)
@@ -344,26 +344,28 @@ module _ {y : Way} {rank operands : ℕ} {e w : List ℕ} {s : List ℤ} {t c : 
       then = m;
     }
 
-    module _ {len : ℕ} {first : List ℤ} (len-is : len ≡ lengthOf rank e w c) (first-is : first ≡ o) where
-      pub strode-short : (limit : ℕ) → limit < left → {t₁ c₁ : List ℕ} {o₁ : List ℤ} → Gone y limit s t c o t₁ c₁ o₁
-          → StrodeOn y rank operands limit e w s c o (record { count = limit; length = len; more = true }) first t₁ c₁ o₁
-      strode-short limit h k = record {
-        count = omega (arith, h, left-is);
-        length = len-is;
-        offsets = first-is;
-        short = λ g. (refl, gone-on limit (limit-less limit h) k);
-        all = λ g. absurd (let z : ⊥ = omega (arith, g, h, left-is) in z);
-      }
+    pub passed-short : (limit : ℕ) → limit < left → {t₁ c₁ : List ℕ} {o₁ : List ℤ} → Gone y limit s t c o t₁ c₁ o₁ → PassedOn y rank operands limit e w s c o true t₁ c₁ o₁
+    passed-short limit h k = record {
+      short = λ g. (refl, gone-on limit (limit-less limit h) k);
+      all = λ g. absurd (let z : ⊥ = omega (arith, g, h, left-is) in z);
+    }
 
-      pub strode-all : (limit : ℕ) → left ≤ limit → {more : Bool} {t₂ c₂ : List ℕ} {o₂ : List ℤ} → LeftFrom y (leftOf y e w c - 1) rank operands e w s c o more t₂ c₂ o₂
-          → StrodeOn y rank operands limit e w s c o (record { count = left; length = len; more = more }) first t₂ c₂ o₂
-      strode-all limit h m = record {
-        count = omega (arith, h, left-is);
-        length = len-is;
-        offsets = first-is;
-        short = λ g. absurd (let z : ⊥ = omega (arith, g, h, left-is) in z);
-        all = λ g. m;
-      }
+    pub passed-all : (limit : ℕ) → left ≤ limit → {more : Bool} {t₂ c₂ : List ℕ} {o₂ : List ℤ} → LeftFrom y (leftOf y e w c - 1) rank operands e w s c o more t₂ c₂ o₂
+        → PassedOn y rank operands limit e w s c o more t₂ c₂ o₂
+    passed-all limit h m = record {
+      short = λ g. absurd (let z : ⊥ = omega (arith, g, h, left-is) in z);
+      all = λ g. m;
+    }
+
+  -- what `stretch_here` asks
+  pub may-tell : y .rank ≡ rank → MayTell y e w t c
+  may-tell f = record { small = l .small; first = λ p. r .within 0 (subst (λ (n : ℕ). 0 < n) f p); there = left-asks }
+
+-- a stretch that was looked at, and that the walk went past, was handed out
+pub strode-of : {y : Way} {rank operands limit : ℕ} {e w : List ℕ} {s : List ℤ} {c : List ℕ} {o : List ℤ} {left len count : ℕ} → left ≡ leftOf y e w c → len ≡ lengthOf rank e w c → count ≡ min limit left
+    → {first : List ℤ} → first ≡ o → {more : Bool} {t′ c′ : List ℕ} {o′ : List ℤ} → PassedOn y rank operands limit e w s c o more t′ c′ o′
+    → StrodeOn y rank operands limit e w s c o (record { count = count; length = len; more = more }) first t′ c′ o′
+strode-of {limit = limit} a b n f p = record { count = n ∙ ap (λ (i : ℕ). min limit i) a; length = b; offsets = f; short = p .short; all = p .all }
 
 -- what `go_on` leaves, by the way it went
 module _ {y : Way} {steps : ℕ} {s : List ℤ} {t c : List ℕ} {o : List ℤ} where

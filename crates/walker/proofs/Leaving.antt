@@ -1,7 +1,7 @@
 -- LEAVING A STRETCH: its axis goes home at once, not to the last block and back, and the axes behind it carry on.
 -- Assumes nothing.
-use mathlib.Core.Path.{_≡_, sym, ap, ap₂, _∙_, subst, transport}
-use mathlib.Core.Bool.{Bool, true, false, cond}
+use mathlib.Core.Path.{_≡_, refl, sym, ap, ap₂, _∙_, subst, transport}
+use mathlib.Core.Bool.{Bool, true, false, cond, false≢true}
 use mathlib.Core.List.{List}
 use Prim.Native.Nat.{ℕ, zero, suc, _+_, _-_, _*_, _≤_, _<_, min}
 use native.Mathlib.Nat.{div-mul-le-self}
@@ -13,14 +13,14 @@ use lib.Seq.{getD-set-same, set-set, set-getD}
 use Rattle.advance.specs.Axis.{startOf, back, insideAim, tileAim, aimOf}
 use Rattle.advance.specs.Filled.{filled-above}
 use Rattle.advance.specs.Moves.{Shifts, shifted, movedAt}
-use Rattle.advance.specs.Carry.{Carried, carryOf, nextOf, Roomy, Tiled, MovedTo, CarriedTo}
+use Rattle.advance.specs.Carry.{Carried, carryOf, nextOf, Roomy, Tiled, MovedTo, CarriedTo, WentAhead}
 use Rattle.advance.proofs.Axis.{start-start, start-zero, start-tiles}
-use Rattle.advance.proofs.Dot.{roomy-shifts, roomy-moved, start-stays}
+use Rattle.advance.proofs.Dot.{roomy-shifts, roomy-moved, start-stays, unmoved-at}
 use Rattle.advance.proofs.Turns.{tiled-set, inner-only}
 use Rattle.walker.specs.declared.Way.{Way}
-use Rattle.walker.specs.Way.{Leads, leftOf, onward, MayStride, LeftFrom, AtEnd}
+use Rattle.walker.specs.Way.{Leads, leftOf, onward, MayStride, Strides, LeftFrom, AtEnd, Hopped}
 use Rattle.walker.proofs.Ahead.{last-inside, last-tile, left-inside}
-use Rattle.walker.proofs.Going.{still-axes, whole-axes, left-asks, some-left, inside-by, stands, long, There, moved-there}
+use Rattle.walker.proofs.Going.{still-axes, whole-axes, left-asks, some-left, inside-by, stands, long, There, moved-there, passed-all}
 
 -- where the axis goes when its blocks are done: to the start of the tile, or of the first one
 abbrev homeOf : Way → ℕ → ℕ → ℕ
@@ -236,3 +236,23 @@ module _ {y : Way} {rank operands : ℕ} {e w : List ℕ} {s : List ℤ} {t c : 
 
   pub home-zero : y .inside ≡ false → 0 ≡ home
   home-zero i = sym (ap (λ (b : Bool). cond b (startOf Z A) 0) i)
+
+  -- A HOP: the stretch began with its tile, so that its axis is at home, and the next axis goes ahead inside the tile
+  pub left-ahead : y .inside ≡ true → getD c (y .axis) 0 ≡ getD t (y .axis) 0 → y .axis + 1 < y .inner
+      → {r : Bool} {t′ c′ : List ℕ} {o′ : List ℤ} → WentAhead (y .axis + 1) rank operands e w s t c o r t′ c′ o′ → r ≡ true → LeftFrom y n rank operands e w s c o true t′ c′ o′
+  left-ahead i z g {r} {t′} {c′} {o′} f b =
+      let few = m .roomy .few in
+      let eight = m .roomy .offered in
+      let same : set c (y .axis) (getD t (y .axis) 0) ≡ c = ap (set c (y .axis)) (sym z) ∙ set-getD c (y .axis) 0 in
+      let k : CarriedTo true (y .axis + 1) (y .inner) rank operands e w s (set c (y .axis) (getD t (y .axis) 0)) o true t′ c′ o′ =
+      subst (λ (v : List ℕ). CarriedTo true (y .axis + 1) (y .inner) rank operands e w s v o true t′ c′ o′) (sym same) (f .ahead b (y .inner) g (l .single .most)) in
+      left-inside-at (home-tile i) (unmoved-at operands (y .axis) A (getD t (y .axis) 0) s o (omega (arith, few, eight)) z) (λ u. absurd (false≢true (sym u ∙ i))) i k refl
+
+-- what `hop` leaves, by the way it went
+pub not-hopped : {y : Way} {limit : ℕ} {e w : List ℕ} {s : List ℤ} {t c : List ℕ} {o : List ℤ} → Hopped y limit e w s t c o false t c o
+not-hopped = record { past = λ b. absurd (false≢true b); kept = λ b. (refl, refl, refl) }
+
+pub hopped : {y : Way} {limit : ℕ} {e w : List ℕ} {s : List ℤ} {t c : List ℕ} {o : List ℤ} (m : Strides y e w s t c o) {left : ℕ} → left ≡ leftOf y e w c → 0 < y .by → y .inside ≡ true → left ≤ limit
+    → getD c (y .axis) 0 ≡ getD t (y .axis) 0 → y .axis + 1 < y .inner → {r : Bool} {t′ c′ : List ℕ} {o′ : List ℤ} → WentAhead (y .axis + 1) (y .rank) (y .operands) e w s t c o r t′ c′ o′
+    → Hopped y limit e w s t c o r t′ c′ o′
+hopped {limit = limit} m a h i g z k f = record { past = λ b. passed-all m a limit g (left-ahead m h i z k f b); kept = f .kept }

@@ -2,7 +2,7 @@
 -- Assumes nothing.
 use mathlib.Core.Path.{_≡_, refl, sym, ap, ap₂, _∙_, subst}
 use mathlib.Core.List.{List, [], _∷_}
-use Prim.Native.Nat.{ℕ, suc, _+_, _<_}
+use Prim.Native.Nat.{ℕ, zero, suc, _+_, _<_}
 use native.Mathlib.Nat.{le-refl}
 use native.Mathlib.Numerals.{add-one}
 use native.Mathlib.Omega.{arith}
@@ -43,6 +43,12 @@ pub length-moved : (j : ℕ) (os ds : List ℤ) → length ds ≡ length os → 
 length-moved j [] ds a = refl
 length-moved j (o ∷ os) [] a = absurd (omega arith)
 length-moved j (o ∷ os) (d ∷ ds) a = ap suc (length-moved j os ds (omega arith))
+
+pub moved-at : (j : ℕ) (os ds : List ℤ) (k : ℕ) → length ds ≡ length os → k < length os → getD (movedOn j os ds) k (pos 0) ≡ getD os k (pos 0) +ℤ pos j *ℤ getD ds k (pos 0)
+moved-at j [] ds k a h = absurd (omega arith)
+moved-at j (o ∷ os) [] k a h = absurd (omega arith)
+moved-at j (o ∷ os) (d ∷ ds) zero a h = refl
+moved-at j (o ∷ os) (d ∷ ds) (suc k) a h = moved-at j os ds k (omega arith) (omega arith)
 
 -- o has the offsets of block j, told from those of block 0
 pub record RowIs (j operands : ℕ) (d o₀ o : List ℤ) : Type 0 where

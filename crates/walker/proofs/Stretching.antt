@@ -4,11 +4,11 @@
 use mathlib.Core.Path.{_≡_, refl, sym, ap, ap₂, _∙_, subst}
 use mathlib.Core.Bool.{Bool, true, false, not}
 use mathlib.Core.List.{List, [], _∷_, _++_, map, map-append}
-use Prim.Native.Nat.{ℕ, zero, suc, _+_, _-_, _*_, _≤_, _<_, min}
-use native.Mathlib.Nat.{zero-add}
+use Prim.Native.Nat.{ℕ, zero, suc, _+_, _-_, _*_, _^_, _≤_, _<_, min}
+use native.Mathlib.Nat.{zero-add, zero-mul, lt-of-le-of-lt, mul-le-mul-right}
 use native.Mathlib.Numerals.{add-one}
 use native.Mathlib.Omega.{arith}
-use lib.IntN.{ℤ, pos, subℕ, _+ℤ_, _*ℤ_, +ℤ-idl, +ℤ-idr, zero-*ℤ, pos-*ℤ-pos}
+use lib.IntN.{ℤ, pos, natAbs, subℕ, _+ℤ_, _*ℤ_, +ℤ-idl, +ℤ-idr, zero-*ℤ, pos-*ℤ-pos}
 use lib.ListN.{length, getD, take, replicate, length-append, length-replicate, getD-replicate}
 use lib.Seq.{getD-take, length-take-le}
 use mir.Syntax.{w64}
@@ -38,7 +38,7 @@ use Rattle.walker.specs.declared.Way.{Way}
 use Rattle.walker.specs.declared.Next.{Next}
 use Rattle.walker.specs.Stretch.{movedOn, blockIn, told, sizes, stretchAt}
 use Rattle.walker.specs.Way.{Leads, leftOf, movesOf, OnTo, MayStride, StrodeOn}
-use Rattle.walker.proofs.Going.{some-left, moved-on, unmoved-on, way-for, on-none, on-step, on-length, moved-there}
+use Rattle.walker.proofs.Going.{below, some-left, moved-on, unmoved-on, way-for, on-none, on-step, on-length, moved-there}
 use Rattle.walker.proofs.Rows.{moved-list}
 
 -- ---- offsets
@@ -73,6 +73,21 @@ module _ {y : Way} {rank operands : ℕ} {e w : List ℕ} {s : List ℤ} {t c : 
       let eight : length {A = ℤ} (replicate 8 (pos 0)) ≡ 8 = length-replicate {A = ℤ} 8 (pos 0) in
       filled-at (replicate 8 (pos 0)) (movedAt (y .axis) 0 (y .by) s (replicate 8 (pos 0))) (pos 0) operands k h (omega (arith, eight, f))
       ∙ ap (λ (u : ℤ). afterMove u (getD s (k * 64 + y .axis) (pos 0)) 0 (y .by)) (getD-replicate 8 k (pos 0) (pos 0) (omega (arith, f, h)))
+
+  -- the way from the first block to each of the others fits 64 bits
+  pub steps-fit : (j : ℕ) → j < leftOf y e w c → (k : ℕ) → k < operands → SFits w64 (pos j *ℤ getD (movesOf y operands s) k (pos 0))
+  unfolding afterMove
+  steps-fit j g k h =
+      let v : ℤ = getD s (k * 64 + y .axis) (pos 0) in
+      let a : subℕ (y .by) 0 ≡ pos (y .by) = signed.ahead 0 (y .by) (omega arith) ∙ ap pos (let z : y .by - 0 ≡ y .by = omega arith in z) in
+      let d : getD D k (pos 0) ≡ pos (y .by) *ℤ v = move-is k h ∙ +ℤ-idl (subℕ (y .by) 0 *ℤ v) ∙ ap (λ (z : ℤ). z *ℤ v) a in
+      let b : pos j *ℤ getD D k (pos 0) ≡ pos (j * y .by) *ℤ v = ap (λ (z : ℤ). pos j *ℤ z) d ∙ sym (*ℤ-assoc (pos j) (pos (y .by)) v) ∙ ap (λ (z : ℤ). z *ℤ v) (pos-*ℤ-pos j (y .by)) in
+      let small : j * y .by * natAbs v < 2 ^ 63 =
+      by-lt 0 j
+      (λ p. let way = way-for m j p g in
+      lt-of-le-of-lt (mul-le-mul-right (natAbs v) (let f = below m way j g in let z : j * y .by ≤ getD e (y .axis) 0 - 1 = omega (arith, f) in z)) (m .roomy .span k (y .axis) h (m .leads .there way)))
+      (λ p. subst (λ (n : ℕ). n * y .by * natAbs v < 2 ^ 63) (let z : 0 ≡ j = omega (arith, p) in z) (subst (λ (n : ℕ). n < 2 ^ 63) (sym (ap (λ (n : ℕ). n * natAbs v) (zero-mul (y .by)) ∙ zero-mul (natAbs v))) (omega arith))) in
+      subst (SFits w64) (sym b) (record { sfits = lt-of-le-of-lt (signed.mag-mul (j * y .by) v) small })
 
   module _ (j : ℕ) (g : j < leftOf y e w c) {t₁ c₁ : List ℕ} {o₁ : List ℤ} (n : OnTo y j rank operands e w s c o t₁ c₁ o₁) where
     each : (k : ℕ) → k < operands → getD o₁ k (pos 0) ≡ getD o k (pos 0) +ℤ pos j *ℤ getD D k (pos 0)

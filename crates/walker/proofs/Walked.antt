@@ -4,7 +4,7 @@
 use mathlib.Core.Path.{_≡_, refl, sym, ap, ap₂, _∙_, subst}
 use mathlib.Core.Bool.{Bool, true, false, not}
 use mathlib.Core.List.{List, [], _++_, map, append-nil}
-use Prim.Native.Nat.{ℕ, _+_, _≤_}
+use Prim.Native.Nat.{ℕ, _+_, _≤_, _<_}
 use native.Mathlib.Omega.{arith}
 use lib.IntN.{ℤ, pos, _+ℤ_, _*ℤ_}
 use lib.ListN.{length, getD, take, drop, replicate, length-append, length-map, length-take}
@@ -29,9 +29,10 @@ use Rattle.walk.proofs.Stepping.{operands-few, tiled-here, roomy-here, ended-no
 use Rattle.walker.specs.declared.Way.{Way}
 use Rattle.walker.specs.declared.Next.{Next}
 use Rattle.walker.specs.Stretch.{Stretch, blockIn, laid, told, RowsFit, sizes, stretchAt}
-use Rattle.walker.specs.Way.{Leads, movesOf, MayStride, Strides, StrodeOn, Strode}
+use Rattle.walker.specs.Way.{Leads, leftOf, movesOf, MayStride, Strides, MayTell, StrodeOn, Strode}
+use Rattle.walker.proofs.Going.{may-tell}
 use Rattle.walker.proofs.Leading.{moves-fit}
-use Rattle.walker.proofs.Stretching.{At, Stands, asks, some-here, fits-on, moves-long, strode-stands, strode-stretch}
+use Rattle.walker.proofs.Stretching.{At, Stands, asks, some-here, fits-on, steps-fit, moves-long, strode-stands, strode-stretch}
 
 -- n blocks of the walk from u on are done: where the arrays stand
 pub record Walked (p : Plan) (u : Walk) (y : Way) (w : List ℕ) (n : ℕ) (more : Bool) (t c : List ℕ) (o : List ℤ) : Type 0 where
@@ -72,6 +73,31 @@ module _ {p : Plan} {u : Walk} {y : Way} {w : List ℕ} {n : ℕ} {t c : List �
       subst (λ (m : ℕ). MayStride y m (y .operands) (p .extents) w (p .strides) t c o) (sym (k .leads .rank-is))
       (subst (λ (m : ℕ). MayStride y (p .rank) m (p .extents) w (p .strides) t c o) (sym (k .leads .operands-is)) (asks a))
 
+  -- what `stretch_here` asks
+  pub walked-tells : MayTell y (p .extents) w t c
+  walked-tells = may-tell walked-asks refl
+
+  -- the stretch has a block
+  pub walked-left : 1 ≤ leftOf y (p .extents) w c
+  walked-left = some-here a
+
+  -- blocks of it, told from the moves as `moves_of` tells them: all offsets fit, and so does the way to each block
+  module _ {d′ : List ℤ} (d-is : d′ ≡ movesOf y (y .operands) (p .strides)) where
+    moves-are : d′ ≡ movesOf y (p .operands) (p .strides)
+    moves-are = d-is ∙ ap (λ (m : ℕ). movesOf y m (p .strides)) (k .leads .operands-is)
+
+    module _ {count : ℕ} (h : count ≤ leftOf y (p .extents) w c) where
+      pub rows-here : RowsFit count (p .operands) d′ o
+      rows-here = record {
+        few = operands-few p here (k .taken);
+        moves = ap length moves-are ∙ moves-long y (p .operands) (p .strides);
+        offered = k .taken .offsets-all;
+        fits = λ j b i f. subst (SFits w64) (ap (λ (q : List ℤ). getD o i (pos 0) +ℤ pos j *ℤ getD q i (pos 0)) (sym moves-are)) (fits-on a j (omega (arith, h, b)) i f);
+      }
+
+      pub steps-here : (j i : ℕ) → j < count → i < p .operands → SFits w64 (pos j *ℤ getD d′ i (pos 0))
+      steps-here j i b f = subst (SFits w64) (ap (λ (q : List ℤ). pos j *ℤ getD q i (pos 0)) (sym moves-are)) (steps-fit (asks a) j (omega (arith, h, b)) i f)
+
   module _ {limit : ℕ} {r : Next} {first : List ℤ} {t′ c′ : List ℕ} {o′ : List ℤ} (x : Strode y limit (p .extents) w (p .strides) c o r first t′ c′ o′) where
     d : StrodeOn y (p .rank) (p .operands) limit (p .extents) w (p .strides) c o r first t′ c′ o′
     d =
@@ -104,11 +130,8 @@ module _ {p : Plan} {u : Walk} {y : Way} {w : List ℕ} {n : ℕ} {t c : List �
 
     -- d′ are the moves, as `moves_of` tells them
     module _ {d′ : List ℤ} (d-is : d′ ≡ movesOf y (y .operands) (p .strides)) where
-      moves-are : d′ ≡ movesOf y (p .operands) (p .strides)
-      moves-are = d-is ∙ ap (λ (m : ℕ). movesOf y m (p .strides)) (k .leads .operands-is)
-
       told-is : told (p .operands) r first d′ ≡ stretchAt y limit p here
-      told-is = ap (told (p .operands) r first) moves-are ∙ strode-stretch a d
+      told-is = ap (told (p .operands) r first) (moves-are d-is) ∙ strode-stretch a d
 
       -- what was told, laid out, are its blocks
       pub walked-laid : map (placedOf (p .operands)) (nextBlocks (r .count) p (walkOf false c o)) ≡ laid (told (p .operands) r first d′)
@@ -118,15 +141,7 @@ module _ {p : Plan} {u : Walk} {y : Way} {w : List ℕ} {n : ℕ} {t c : List �
 
       -- and all its offsets fit
       pub walked-fit : RowsFit (r .count) (p .operands) d′ first
-      walked-fit = record {
-        few = operands-few p here (k .taken);
-        moves = ap length moves-are ∙ moves-long y (p .operands) (p .strides);
-        offered = ap length (x .offsets) ∙ k .taken .offsets-all;
-        fits = λ j b i f.
-            let z = x .count in
-            subst (SFits w64) (ap₂ (λ (q m : List ℤ). getD q i (pos 0) +ℤ pos j *ℤ getD m i (pos 0)) (sym (x .offsets)) (sym moves-are))
-            (fits-on a j (omega (arith, z, b)) i f);
-      }
+      walked-fit = let z = x .count in subst (RowsFit (r .count) (p .operands) d′) (sym (x .offsets)) (rows-here d-is (omega (arith, z)))
 
       -- in a walk from the starts zs they are the next of the plan's blocks
       pub walked-part : {zs : List ℤ} → Ready p zs → u ≡ begunAt p zs .walk

@@ -94,6 +94,25 @@ pub record LeftFrom (y : Way) (j rank operands : ℕ) (e w : List ℕ) (s : List
 abbrev pub Leaves : Way → List ℕ → List ℕ → List ℤ → List ℕ → List ℤ → Bool → List ℕ → List ℕ → List ℤ → Type 0
 Leaves y e w s c = LeftFrom y (leftOf y e w c - 1) (y .rank) (y .operands) e w s c
 
+-- what looking at a stretch asks
+pub record MayTell (y : Way) (e w t c : List ℕ) : Type 0 where
+  pub small : y .axis < 64
+  pub first : 0 < y .rank → getD c 0 0 < getD e 0 0
+  pub there : 0 < y .by → (0 < getD w (y .axis) 0) × (getD c (y .axis) 0 < getD e (y .axis) 0) × (getD t (y .axis) 0 ≡ startOf (getD w (y .axis) 0) (getD c (y .axis) 0))
+
+-- what going past a stretch of at most `limit` blocks leaves of the arrays
+pub record PassedOn (y : Way) (rank operands limit : ℕ) (e w : List ℕ) (s : List ℤ) (c : List ℕ) (o : List ℤ) (more : Bool) (t′ c′ : List ℕ) (o′ : List ℤ) : Type 0 where
+  pub short : limit < leftOf y e w c → (more ≡ true) × OnTo y limit rank operands e w s c o t′ c′ o′
+  pub all : leftOf y e w c ≤ limit → LeftFrom y (leftOf y e w c - 1) rank operands e w s c o more t′ c′ o′
+
+abbrev pub Passed : Way → ℕ → List ℕ → List ℕ → List ℤ → List ℕ → List ℤ → Bool → List ℕ → List ℕ → List ℤ → Type 0
+Passed y = PassedOn y (y .rank) (y .operands)
+
+-- the walk went past it; or nothing moved
+pub record Hopped (y : Way) (limit : ℕ) (e w : List ℕ) (s : List ℤ) (t c : List ℕ) (o : List ℤ) (r : Bool) (t′ c′ : List ℕ) (o′ : List ℤ) : Type 0 where
+  pub past : r ≡ true → Passed y limit e w s c o true t′ c′ o′
+  pub kept : r ≡ false → (t′ ≡ t) × (c′ ≡ c) × (o′ ≡ o)
+
 -- what handing out a stretch of at most `limit` blocks leaves of the arrays
 pub record StrodeOn (y : Way) (rank operands limit : ℕ) (e w : List ℕ) (s : List ℤ) (c : List ℕ) (o : List ℤ) (r : Next) (first : List ℤ) (t′ c′ : List ℕ) (o′ : List ℤ) : Type 0 where
   pub count : r .count ≡ min limit (leftOf y e w c)

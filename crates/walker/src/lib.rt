@@ -11,10 +11,12 @@ ghost use Prim.Native.Nat.{ℕ, _<_, _≤_, _+_, _-_, _*_, _^_, min};
 ghost use lib.IntN.{pos};
 ghost use lib.ListN.{getD, replicate};
 ghost use Rattle.advance.specs.Axis.{startOf};
+ghost use Rattle.advance.specs.Blocks.{lengthOf};
 ghost use Rattle.advance.specs.Moves.{Shifts};
-ghost use Rattle.walker.specs.Way.{Leads, leftIn, movesOf, AtEnd, MayGo, Gone, Strides, Leaves, Strode, MayMove, added};
+ghost use Rattle.walker.specs.Way.{Leads, leftIn, leftOf, movesOf, AtEnd, MayGo, Gone, Strides, Leaves, MayTell, Passed, Hopped, Strode, MayMove, added};
 use advance::advance;
 use advance::carry;
+use advance::go_ahead;
 use advance::inner_axes;
 use advance::length_of;
 use advance::shift;
@@ -252,8 +254,129 @@ fn leave<'a>(
     )
 }
 
-// THE STRETCH at the counters, of at most `limit` blocks: the offsets of its first block go to `first`, and the counters, the offsets and
-// the starts of the tiles go on to the block behind it. If there is none, they are back at the start.
+// The stretch at the counters to its end: `left` blocks of `length` cells each.
+pub struct Here {
+    pub left: u64,
+    pub length: u64,
+}
+
+// Looks at the stretch at the counters; nothing moves.
+pub fn stretch_here<'a>(
+    y: Way,
+    e: &'a [u64; 64],
+    w: &'a [u64; 64],
+    t: &'a [u64; 64],
+    c: &'a [u64; 64],
+) -> Here
+    requires { ⌜ MayTell y (now e) (now w) (now t) (now c) ⌝ }
+    ensures { λ r. ⌜ (r .left ≡ leftOf y (now (e .entry)) (now (w .entry)) (now (c .entry)))
+        × (r .length ≡ lengthOf (y .rank) (now (e .entry)) (now (w .entry)) (now (c .entry))) × (getD (now (e .entry)) (y .axis) 0 < 2 ^ 64) ⌝ }
+{
+    let length = length_of(y.rank, e, w, c);
+    let axis = y.axis;
+    let left = blocks_left(y, e[axis], w[axis], t[axis], c[axis]);
+    Here {
+        left: left,
+        length: length,
+    }
+}
+
+// How many blocks of it a limit allows.
+pub fn least(limit: u64, left: u64) -> u64
+    ensures { λ r. ⌜ r ≡ min limit left ⌝ }
+{
+    if limit < left { limit } else { left }
+}
+
+// Goes past the stretch at the counters, of at most `limit` blocks, in the case that comes most often: it began where its tile does and is
+// taken to its end, and the next axis goes one ahead inside the tile. Nothing else moves. Says whether it was so; if not, nothing has moved.
+// Who calls it calls `go_behind` where it was not: this one is small enough to be compiled into the caller's loop.
+pub fn hop<'a>(
+    y: Way,
+    limit: u64,
+    left: u64,
+    e: &'a [u64; 64],
+    w: &'a [u64; 64],
+    s: &'a [i64; 512],
+    t: &mut [u64; 64],
+    c: &mut [u64; 64],
+    o: &mut [i64; 8],
+) -> bool
+    requires { ⌜ Strides y (now e) (now w) (now s) (now t) (now c) (now o) ⌝ }
+    requires { ⌜ left ≡ leftOf y (now e) (now w) (now c) ⌝ }
+    ensures { λ r. ⌜ Hopped y limit (now (e .entry)) (now (w .entry)) (now (s .entry)) (now (t .entry)) (now (c .entry)) (now (o .entry))
+        r (now (t .exit)) (now (c .exit)) (now (o .exit)) ⌝ }
+{
+    let axis = y.axis;
+    if y.by == 0 {
+        return false;
+    }
+    if !y.inside {
+        return false;
+    }
+    if y.inner <= axis + 1 {
+        return false;
+    }
+    if limit < left {
+        return false;
+    }
+    if c[axis] != t[axis] {
+        return false;
+    }
+    go_ahead(
+        axis + 1,
+        y.rank,
+        y.operands,
+        e,
+        w,
+        s,
+        &mut *t,
+        &mut *c,
+        &mut *o,
+    )
+}
+
+// Goes past the stretch at the counters, of at most `limit` blocks, in any case. Says whether there is a block behind it; if not, the
+// counters, the offsets and the starts of the tiles are back at the start.
+pub fn go_behind<'a>(
+    y: Way,
+    limit: u64,
+    left: u64,
+    e: &'a [u64; 64],
+    w: &'a [u64; 64],
+    s: &'a [i64; 512],
+    t: &mut [u64; 64],
+    c: &mut [u64; 64],
+    o: &mut [i64; 8],
+) -> bool
+    requires { ⌜ Strides y (now e) (now w) (now s) (now t) (now c) (now o) ⌝ }
+    requires { ⌜ (left ≡ leftOf y (now e) (now w) (now c)) × (getD (now e) (y .axis) 0 < 2 ^ 64) ⌝ }
+    ensures { λ r. ⌜ Passed y limit (now (e .entry)) (now (w .entry)) (now (s .entry)) (now (c .entry)) (now (o .entry))
+        r (now (t .exit)) (now (c .exit)) (now (o .exit)) ⌝ }
+{
+    if limit < left {
+        go_on(y, limit, s, &mut *t, &mut *c, &mut *o);
+        return true;
+    }
+    let axis = y.axis;
+    if ends_axis(y, e[axis], c[axis], left) {
+        return leave(y, e, w, s, &mut *t, &mut *c, &mut *o);
+    }
+    go_on(y, left - 1, s, &mut *t, &mut *c, &mut *o);
+    advance(
+        y.rank,
+        y.inner,
+        y.operands,
+        e,
+        w,
+        s,
+        &mut *t,
+        &mut *c,
+        &mut *o,
+    )
+}
+
+// THE STRETCH at the counters, of at most `limit` blocks: the offsets of its first block go to `first`, and the walk goes past it.
 pub fn next_stretch<'a>(
     y: Way,
     limit: u64,
@@ -269,44 +392,13 @@ pub fn next_stretch<'a>(
     ensures { λ r. ⌜ Strode y limit (now (e .entry)) (now (w .entry)) (now (s .entry)) (now (c .entry)) (now (o .entry))
         r (now (first .exit)) (now (t .exit)) (now (c .exit)) (now (o .exit)) ⌝ }
 {
-    let length = length_of(y.rank, e, w, &*c);
-    let axis = y.axis;
-    let at = c[axis];
-    let extent = e[axis];
-    let left = blocks_left(y, extent, w[axis], t[axis], at);
+    let x = stretch_here(y, e, w, &*t, &*c);
     let here = *o;
     *first = here;
-    if limit < left {
-        go_on(y, limit, s, &mut *t, &mut *c, &mut *o);
-        return Next {
-            count: limit,
-            length: length,
-            more: true,
-        };
-    }
-    if ends_axis(y, extent, at, left) {
-        let more = leave(y, e, w, s, &mut *t, &mut *c, &mut *o);
-        return Next {
-            count: left,
-            length: length,
-            more: more,
-        };
-    }
-    go_on(y, left - 1, s, &mut *t, &mut *c, &mut *o);
-    let more = advance(
-        y.rank,
-        y.inner,
-        y.operands,
-        e,
-        w,
-        s,
-        &mut *t,
-        &mut *c,
-        &mut *o,
-    );
+    let more = go_behind(y, limit, x.left, e, w, s, &mut *t, &mut *c, &mut *o);
     Next {
-        count: left,
-        length: length,
+        count: least(limit, x.left),
+        length: x.length,
         more: more,
     }
 }
