@@ -174,7 +174,7 @@ fn weights_right<'a>(
 fn row_picked<'a>(
     strides: &'a [i64],
     from: usize,
-    axes: &'a [usize; 64],
+    axes: &'a [u8; 64],
     count: usize,
     row: &'a [i64],
 ) -> bool
@@ -185,7 +185,7 @@ fn row_picked<'a>(
     let mut differing: i64 = 0;
     let mut i: usize = 0;
     while i < count {
-        let axis = axes[i];
+        let axis = axes[i] as usize;
         differing = differing | (strides[from + axis] ^ row[i]);
         i += 1;
     }
@@ -198,7 +198,7 @@ fn strides_right<'a>(
     strides: &'a [i64],
     pitch: usize,
     operands: usize,
-    axes: &'a [usize; 64],
+    axes: &'a [u8; 64],
     count: usize,
     plan_strides: &'a [i64],
 ) -> bool
@@ -238,7 +238,7 @@ fn axes_right<'a>(
     let count = rank * operands;
     let own = &strides[..count];
     let mut e = [0u64; 64];
-    let mut axes = [0usize; 64];
+    let mut axes = [0u8; 64];
     let found = stays_by_into(
         &extents[..rank],
         own,

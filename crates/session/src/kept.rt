@@ -139,7 +139,7 @@ pub fn stays_by_into<'a>(
     purpose: Purpose,
     weights: &'a [u64; 64],
     es: &mut [u64; 64],
-    axes: &mut [usize; 64],
+    axes: &mut [u8; 64],
 ) -> usize
     requires { ⌜ Fitting (now strides) (length (now extents)) operands ⌝ }
     requires { ⌜ now weights ≡ padded 64 0 (weighed (now extents) operands (now strides) (leadOf purpose)) ⌝ }

@@ -8,7 +8,7 @@ use native.Mathlib.Omega.{arith}
 use lib.Dec.{ltb, eqb}
 use lib.IntN.{ℤ, pos, negsuc, natAbs, _+ℤ_, _-ℤ_}
 use lib.ListN.{length, getD, take, drop}
-use borrow.Author.Tests.{ltb-true, ltb-false, lt-ltb, le-ltb, le-leb, eq-eqb, ne-eqb}
+use borrow.Author.Tests.{ltb-true, ltb-false, le-ltb, le-leb, eq-eqb, ne-eqb}
 use Rattle.strided.specs.Base.{some-of}
 use Rattle.strided.specs.Layout.{Within, hasZero, inI64, dot, reach, maxI}
 use Rattle.strided.specs.Refusals.{row6}

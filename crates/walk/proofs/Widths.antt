@@ -1,14 +1,14 @@
 -- Laws of block sizes and tile starts that are not kept: they are those that the arrays would have. Assumes nothing.
-use mathlib.Core.Path.{_≡_, refl, sym, ap, _∙_, subst}
+use mathlib.Core.Path.{_≡_, refl, sym, _∙_, subst}
 use mathlib.Core.Bool.{Bool, true, false, cond}
 use mathlib.Core.List.{List}
 use Prim.Native.Nat.{ℕ, _≤_, _<_}
 use native.Mathlib.Omega.{arith}
 use lib.Dec.{ltb, leb, eqb}
 use lib.ListN.{length, getD, replicate, length-replicate}
-use borrow.Author.Tests.{ltb-true, ltb-false, lt-leb, le-leb, ne-eqb}
+use borrow.Author.Tests.{ltb-true, lt-leb, ne-eqb}
 use Rattle.strided.specs.Walk.{effective}
-use Rattle.advance.specs.Axis.{widthOf, widthAt, widthsTo, startOf, tileAt, startsTo}
+use Rattle.advance.specs.Axis.{widthOf, widthAt, tileAt, startsTo}
 use Rattle.advance.specs.Carry.{Tiled, Single}
 use Rattle.advance.specs.Filled.{filled-length, filled-at}
 use Rattle.walk.specs.Onward.{widthsOf, innerOf}

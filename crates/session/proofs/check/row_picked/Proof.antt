@@ -31,11 +31,14 @@ abbrev μ-loop : tie.MeasureT-loop
 loop-holds : tie.Need-loop-holds Inv-loop μ-loop
 loop-holds c = (c .pre .0 .0, c .pre .0 .1 .0, c .pre .0 .1 .1, c .pre .1, omega arith, refl)
 
-mul-axis : tie.Need-mul-axis Inv-loop μ-loop
-mul-axis c = search needs
-
 element-copy-out-axis : tie.Need-element-copy-out-axis Inv-loop μ-loop
 element-copy-out-axis c = search needs
+
+cast-axis : tie.Need-cast-axis Inv-loop μ-loop
+cast-axis c =
+    let g = c .before .before .before .good .0 .1 in
+    let h = c .before .before .loop .inv .3 (c .before .before .loop .i) (c .before .loop-test .taken) in
+    omega (arith, g, h)
 
 add-differing : tie.Need-add-differing Inv-loop μ-loop
 add-differing c = let l = c .before .before .loop in let h = l .inv .3 (l .i) (c .before .loop-test .taken) in omega (arith, h)
@@ -112,8 +115,8 @@ row-picked-spec =
     Inv-loop
     μ-loop
     loop-holds
-    mul-axis
     element-copy-out-axis
+    cast-axis
     add-differing
     mul-differing
     shared-slice-copy-out-differing

@@ -1,5 +1,7 @@
 -- `session::kept::stays_by_into` meets its contract. Assumes nothing.
 use mathlib.Core.Path.{_≡_, refl, _∙_}
+use Prim.Native.Nat.{ℕ, _≤_, _<_}
+use native.Mathlib.Omega.{arith}
 use lib.IntN.{pos}
 use lib.ListN.{length, take}
 use Rattle.strided.specs.Base.{padded}
@@ -35,6 +37,10 @@ ready o =
     let f = s .pre .0 in
     in-order (a .extents .now) (a .operands) (a .strides .now) (a .purpose) (f .rank-few) (ordered o) (f .operands-few) (f .strides-all)
 
+-- the number of an axis is a byte
+below-256 : {x n : ℕ} → x < n → n ≤ 64 → x < 256
+below-256 h k = omega arith
+
 order-into-requires : tie.Need-order-into-requires
 order-into-requires c κs = search needs
 
@@ -53,7 +59,7 @@ kept-axes-requires c κs =
     let p = f .before .before .before in
     let o = p .before .before .before in
     let r = ready o in
-    ((made-long r (p .pick-into .ensures) (f .fuse-dims .ensures), (r .places, r .few-axes)), start o .pre .1 .1)
+    ((made-long r (p .pick-into .ensures) (f .fuse-dims .ensures), (r .places, r .few-axes)), ((λ j h. below-256 (r .inside j h) (r .few-axes)), start o .pre .1 .1))
 
 returns : tie.Need-returns
 returns c =

@@ -1,5 +1,5 @@
 -- `walk::onward::start_at` meets its contract. Assumes nothing.
-use mathlib.Core.Path.{_≡_, refl, sym, ap, _∙_}
+use mathlib.Core.Path.{sym, ap, _∙_}
 use Prim.Native.Nat.{ℕ}
 use native.Mathlib.Nat.{lt-of-le-of-lt, div-mul-le-self}
 use Rattle.advance.specs.Axis.{startOf}
