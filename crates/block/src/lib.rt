@@ -67,7 +67,7 @@ fn keeps_first(tail: Tail, ranks: &[[u8; 64]; 8]) -> bool
 }
 
 // The least byte stride of operand k in the tail.
-fn least_byte_of(tail: Tail, bytes: &[u32; 512], k: usize) -> u32
+fn least_byte_at(tail: Tail, bytes: &[u32; 512], k: usize) -> u32
     requires { ⌜ Nonempty tail × (k < 8) ⌝ }
     ensures { λ r. ⌜ r ≡ least (byteAt (now (bytes .entry)) k) (tail .offset) (axes tail) ⌝ }
 {
@@ -89,10 +89,10 @@ fn least_byte(tail: Tail, bytes: &[u32; 512]) -> u32
     requires { ⌜ Nonempty tail ⌝ }
     ensures { λ r. ⌜ r ≡ leastByte (now (bytes .entry)) (tail .operands) (tail .offset) (axes tail) ⌝ }
 {
-    let mut m = least_byte_of(tail, bytes, 0);
+    let mut m = least_byte_at(tail, bytes, 0);
     let mut k = 1;
     while k < tail.operands {
-        let x = least_byte_of(tail, bytes, k);
+        let x = least_byte_at(tail, bytes, k);
         if x < m {
             m = x;
         }

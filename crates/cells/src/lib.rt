@@ -10,8 +10,8 @@ use packed::both_down;
 use packed::both_step;
 use packed::copy_down;
 use packed::copy_packed;
-use widths::fours_by_width;
-use widths::runs_by_width;
+use widths::copy_fours_by_width;
+use widths::copy_runs_by_width;
 
 pub mod bytes;
 pub mod fours;
@@ -71,8 +71,8 @@ pub fn copy_patch(
         return;
     }
     if crowded(n0, to, from) {
-        fours_by_width(destination, source, n0, n1, width, to, from);
+        copy_fours_by_width(destination, source, n0, n1, width, to, from);
         return;
     }
-    runs_by_width(destination, source, n0, n1, width, to, from);
+    copy_runs_by_width(destination, source, n0, n1, width, to, from);
 }

@@ -13,7 +13,7 @@ use super::Side;
 use super::bytes::move_bytes;
 
 // k steps on from z.
-fn steps_on(z: i64, step: i64, k: u64) -> i64
+fn steps_from(z: i64, step: i64, k: u64) -> i64
     requires { ⌜ k < 2 ^ 63 ⌝ }
     requires { ⌜ SFits w64 (pos k *ℤ step) ⌝ }
     requires { ⌜ SFits w64 (z +ℤ pos k *ℤ step) ⌝ }
@@ -27,8 +27,8 @@ pub fn place_of(o: Side, i: u64, j: u64) -> usize
     requires { ⌜ Reaches o i j ⌝ }
     ensures { λ r. ⌜ r ≡ place o i j ⌝ }
 {
-    let run = steps_on(o.first as i64, o.step1, j);
-    let cell = steps_on(run, o.step0, i);
+    let run = steps_from(o.first as i64, o.step1, j);
+    let cell = steps_from(run, o.step0, i);
     cell as usize
 }
 

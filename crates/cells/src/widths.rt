@@ -10,7 +10,7 @@ use super::patches::copy_fours;
 use super::patches::copy_runs;
 
 // Run after run.
-pub fn runs_by_width(
+pub fn copy_runs_by_width(
     destination: &mut [u8],
     source: &[u8],
     n0: u64,
@@ -46,7 +46,7 @@ pub fn runs_by_width(
 }
 
 // Four runs at once.
-pub fn fours_by_width(
+pub fn copy_fours_by_width(
     destination: &mut [u8],
     source: &[u8],
     n0: u64,

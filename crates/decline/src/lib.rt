@@ -61,7 +61,7 @@ fn stride_size(strides: &[i64; 512], k: usize, i: usize) -> u64
 }
 
 // What operand k spans along axis i.
-fn way_of<'a>(strides: &'a [i64; 512], extents: &'a [u64; 64], k: usize, i: usize) -> u64
+fn way_at<'a>(strides: &'a [i64; 512], extents: &'a [u64; 64], k: usize, i: usize) -> u64
     requires { ⌜ ((k < 8) × (i < 64)) × (wayOf (strideSize (now strides) k) (now extents) i ≤ 2 ^ 63) ⌝ }
     ensures { λ r. ⌜ r ≡ wayOf (strideSize (now (strides .entry)) k) (now (extents .entry)) i ⌝ }
 {
@@ -76,7 +76,7 @@ fn slab_width<'a>(strides: &'a [i64; 512], extents: &'a [u64; 64], cut: usize, k
     let mut w: u64 = 1;
     let mut i = 0;
     while i < cut {
-        w += way_of(strides, extents, k, i);
+        w += way_at(strides, extents, k, i);
         i += 1;
     }
     w
@@ -101,7 +101,7 @@ fn span_so_far<'a>(slabs: Slabs, strides: &'a [i64; 512], extents: &'a [u64; 64]
     let mut j = slabs.cut;
     while j < slabs.rank {
         if comes_before(strides, slabs.operand, i, j) {
-            s += way_of(strides, extents, slabs.operand, j);
+            s += way_at(strides, extents, slabs.operand, j);
         }
         j += 1;
     }

@@ -10,7 +10,7 @@ use advance::tile_starts;
 use advance::widths;
 use strided::Walk;
 use walker::moves_of;
-use walker::next_stretch;
+use walker::take_stretch;
 use walker::way_of;
 
 // What is walked: the plan's rank, and how many bytes a cell has.
@@ -53,7 +53,7 @@ pub fn copy_blocks<'a, 'b, 'c>(
     let mut more = true;
     let mut number: u64 = 0;
     while more {
-        let x = next_stretch(y, MOST, e, &w, s, &mut t, &mut c, &mut o, &mut first);
+        let x = take_stretch(y, MOST, e, &w, s, &mut t, &mut c, &mut o, &mut first);
         copy_stretch(x, width, s, &d, &first, &mut *destination, source);
         number += x.count;
         more = x.more;

@@ -27,8 +27,8 @@ use kernel::Aim;
 use layout::lead;
 use layout::purpose_of;
 use session::Numbers;
-use session::kept::axes_kept;
-use session::kept::blocks_kept;
+use session::kept::axes_kept_into;
+use session::kept::blocks_kept_into;
 use session::kept::weights_kept;
 
 // ---- the numbers
@@ -193,7 +193,7 @@ pub fn keep<'a>(
     let w = weights_kept(numbers, extents, strides, table);
     *weights = w;
     *plan_extents = [0u64; 64];
-    let axes = axes_kept(
+    let axes = axes_kept_into(
         numbers,
         extents,
         strides,
@@ -204,6 +204,6 @@ pub fn keep<'a>(
     let after = planned(numbers, axes);
     let c = compute_costs(plan_strides, numbers.operands, axes);
     *costs = c;
-    blocks_kept(after, extents, sizes, plan_extents, plan_strides, blocks);
+    blocks_kept_into(after, extents, sizes, plan_extents, plan_strides, blocks);
     after
 }

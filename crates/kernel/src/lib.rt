@@ -4,7 +4,7 @@ use fuse::given_axes;
 use fuse::plan_axes;
 use layout::check_planning;
 use layout::total_at_most;
-use model::block_sizes;
+use model::block_sizes_into;
 use order::SMALL_TENSOR_THRESHOLD;
 use order::fusing_order_into;
 use strided::Answer;
@@ -110,7 +110,7 @@ pub fn plan_into<'a>(
         &mut *es,
         &mut *table,
     );
-    block_sizes(machine, sizes, es, table, rank, purpose, blocks);
+    block_sizes_into(machine, sizes, es, table, rank, purpose, blocks);
     rank
 }
 

@@ -110,7 +110,7 @@ impl L1Sets {
     }
 
     // The block of axis i is put at x. Answers the load.
-    fn load_with(self, blocks: &mut [u64; 64], i: usize, x: u64) -> u64
+    fn set_block(self, blocks: &mut [u64; 64], i: usize, x: u64) -> u64
         requires { ⌜ Few self × (i < 64) ⌝ }
         ensures load { λ r. ⌜ r ≡ min (loadBy self (set (now (blocks .entry)) i x)) top ⌝ }
         ensures blocks { λ _. ⌜ now (blocks .exit) ≡ set (now (blocks .entry)) i x ⌝ }
@@ -136,7 +136,7 @@ impl L1Sets {
         let mut hi = whole;
         while lo < hi {
             let mid = hi - (hi - lo) / 2;
-            if self.load_with(blocks, i, mid) <= live {
+            if self.set_block(blocks, i, mid) <= live {
                 lo = mid;
             } else {
                 hi = mid - 1;
@@ -171,7 +171,7 @@ impl L1Sets {
             let whole = blocks[i];
             // The order in which a cell of the chosen operand is written never changes: an axis along which it does not move is left alone.
             if (strides[chosen * 64 + i] != 0) & (sets.enters(i) & (1 < whole)) {
-                if sets.load_with(blocks, i, 1) <= machine.live {
+                if sets.set_block(blocks, i, 1) <= machine.live {
                     sets.widen(machine.live, blocks, i, whole);
                     return;
                 }

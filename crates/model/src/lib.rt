@@ -221,7 +221,7 @@ fn cut_axes<'a>(
 }
 
 // The blocks of a plan whose total is above 1,024, from its arrays. The tests that keep every axis whole come before what they can spare.
-pub fn block_sizes<'a>(
+pub fn block_sizes_into<'a>(
     machine: Machine,
     sizes: &'a [u64],
     es: &'a [u64; 64],

@@ -22,7 +22,7 @@ use super::Numbers;
 use super::compare::all_zero;
 use super::compare::all_zero_signed;
 use super::compare::same;
-use super::kept::blocks_kept;
+use super::kept::blocks_kept_into;
 use super::kept::stays_by_into;
 use super::kept::weights_kept;
 use auxiliary::rank_table_into;
@@ -270,7 +270,7 @@ fn blocks_right<'a>(
 {
     let c = compute_costs(plan_strides, numbers.operands, numbers.plan_rank);
     let mut b = [0u64; 64];
-    blocks_kept(numbers, extents, sizes, plan_extents, plan_strides, &mut b);
+    blocks_kept_into(numbers, extents, sizes, plan_extents, plan_strides, &mut b);
     same(&c, costs) & same(&b, blocks)
 }
 

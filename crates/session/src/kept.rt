@@ -26,7 +26,7 @@ use kernel::Aim;
 use layout::lead;
 use layout::purpose_of;
 use layout::total_at_most;
-use model::block_sizes;
+use model::block_sizes_into;
 use order::SMALL_TENSOR_THRESHOLD;
 use order::as_given;
 use strided::Purpose;
@@ -104,7 +104,7 @@ fn axes_by_into<'a>(
 }
 
 // The same of the layout in a session's arrays.
-pub fn axes_kept<'a>(
+pub fn axes_kept_into<'a>(
     numbers: Numbers,
     extents: &'a [u64],
     strides: &'a [i64],
@@ -176,11 +176,11 @@ fn blocks_into<'a>(
         *blocks = *es;
         return;
     }
-    block_sizes(machine, sizes, es, plan_strides, rank, purpose, blocks);
+    block_sizes_into(machine, sizes, es, plan_strides, rank, purpose, blocks);
 }
 
 // The blocks of the plan whose axes are in a session's arrays.
-pub fn blocks_kept<'a>(
+pub fn blocks_kept_into<'a>(
     numbers: Numbers,
     extents: &'a [u64],
     sizes: &'a [u64],

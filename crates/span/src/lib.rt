@@ -10,7 +10,7 @@ use layout::magnitude;
 use layout::sizes::reach_of;
 
 // The part of an axis's way that lies below the start.
-fn down_on(extent: u64, stride: i64) -> u64
+fn down_along(extent: u64, stride: i64) -> u64
     requires { ⌜ (0 < extent) × ((extent - 1) * natAbs stride < 2 ^ 63) ⌝ }
     ensures { λ r. ⌜ r ≡ downTerm extent stride ⌝ }
 {
@@ -28,7 +28,7 @@ fn down_of<'a>(extents: &'a [u64], strides: &'a [i64]) -> u64
     let mut sum: u64 = 0;
     let mut i: usize = 0;
     while i < extents.len() {
-        let term = down_on(extents[i], strides[i]);
+        let term = down_along(extents[i], strides[i]);
         sum = sum + term;
         i += 1;
     }

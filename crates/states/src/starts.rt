@@ -29,7 +29,7 @@ fn room_above(o: i64, above: u64) -> bool
 }
 
 // The part of an axis's way that lies below the counter.
-fn below_on(extent: u64, at: u64, stride: i64) -> u64
+fn below_along(extent: u64, at: u64, stride: i64) -> u64
     requires { ⌜ (at < extent) × ((extent - 1) * natAbs stride < 2 ^ 63) ⌝ }
     ensures { λ r. ⌜ r ≡ belowTerm extent at stride ⌝ }
 {
@@ -41,7 +41,7 @@ fn below_on(extent: u64, at: u64, stride: i64) -> u64
 }
 
 // An axis's way.
-fn way_on(extent: u64, stride: i64) -> u64
+fn way_along(extent: u64, stride: i64) -> u64
     requires { ⌜ (0 < extent) × ((extent - 1) * natAbs stride < 2 ^ 63) ⌝ }
     ensures { λ r. ⌜ r ≡ (extent - 1) * natAbs stride ⌝ }
 {
@@ -64,8 +64,8 @@ fn span_of<'a, 'b>(extents: &'a [u64], strides: &'a [i64], counters: &'b [u64]) 
     let mut below: u64 = 0;
     let mut i: usize = 0;
     while i < extents.len() {
-        let way = way_on(extents[i], strides[i]);
-        let term = below_on(extents[i], counters[i], strides[i]);
+        let way = way_along(extents[i], strides[i]);
+        let term = below_along(extents[i], counters[i], strides[i]);
         reach = reach + way;
         below = below + term;
         i += 1;

@@ -11,7 +11,7 @@ use advance::widths_into;
 use states::no_block;
 use walker::ALL;
 use walker::moves_of;
-use walker::next_stretch;
+use walker::take_stretch;
 use walker::way_of;
 
 // THE SUMMARY of the cells that a plan's walk meets from `start` on. With a zero extent there is no block, and how far a stretch would move
@@ -45,7 +45,7 @@ pub fn summary_on<'a, 'b>(
     let mut number: u64 = 0;
     let mut sum = nothing_met();
     while more {
-        let x = next_stretch(y, ALL, e, &w, s, &mut t, &mut c, &mut o, &mut first);
+        let x = take_stretch(y, ALL, e, &w, s, &mut t, &mut c, &mut o, &mut first);
         let from = first[0];
         sum = with_blocks(sum, cells, from, by, x.count, stride, x.length);
         number += x.count;

@@ -25,7 +25,7 @@ use walk::answer_of;
 use walk::memory::block_into;
 
 // The original index of the cell at a walk's counters: row 11 alone is judged.
-fn told_at<'a>(
+fn told_into<'a>(
     extents: &'a [u64],
     strides: &'a [i64],
     operands: usize,
@@ -86,7 +86,7 @@ fn found_into<'a>(
         let step = stepped p (walkOf false (now (counters .entry)) (now (offsets .entry))) in
         ⌜ VisitLeaves (seen (now (extents .entry)) (now (sizes .entry)) (now (strides .entry)) purpose p step) old new r ⌝ }
 {
-    let told = told_at(
+    let told = told_into(
         extents,
         strides,
         sizes.len(),

@@ -1,4 +1,4 @@
--- ALONG THE WAY: going on by so many blocks is what as many steps of the walk do, and what `go_on`, `go_behind` and `next_stretch` ask and leave.
+-- ALONG THE WAY: going on by so many blocks is what as many steps of the walk do, and what `go_steps`, `go_behind` and `take_stretch` ask and leave.
 -- Assumes nothing.
 use mathlib.Core.Path.{_≡_, refl, sym, ap, _∙_, subst, transport}
 use mathlib.Core.Bool.{Bool, true, false, cond}
@@ -228,7 +228,7 @@ module _ {y : Way} {rank operands : ℕ} {e w : List ℕ} {s : List ℤ} {t c : 
   pub way-for : (j : ℕ) → 0 < j → j < leftOf y e w c → 0 < y .by
   way-for j p g = left-way y E Z A (omega (arith, p, g))
 
-  -- what `go_on` asks
+  -- what `go_steps` asks
   pub may-go : (j : ℕ) → j < leftOf y e w c → E < 2 ^ 64 → MayGo y j s c o
   may-go j g f = record {
     small = l .small;
@@ -367,7 +367,7 @@ pub strode-of : {y : Way} {rank operands limit : ℕ} {e w : List ℕ} {s : List
     → StrodeOn y rank operands limit e w s c o (record { count = count; length = len; more = more }) first t′ c′ o′
 strode-of {limit = limit} a b n f p = record { count = n ∙ ap (λ (i : ℕ). min limit i) a; length = b; offsets = f; short = p .short; all = p .all }
 
--- what `go_on` leaves, by the way it went
+-- what `go_steps` leaves, by the way it went
 module _ {y : Way} {steps : ℕ} {s : List ℤ} {t c : List ℕ} {o : List ℤ} where
   pub gone-none : steps ≡ 0 → Gone y steps s t c o t c o
   gone-none h = record { starts = sym (rw (eq-eqb steps 0 h)); counters = sym (rw (eq-eqb steps 0 h)); offsets = sym (rw (eq-eqb steps 0 h)) }

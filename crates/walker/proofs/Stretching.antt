@@ -1,4 +1,4 @@
--- A STRETCH IS ITS BLOCKS: what a call of `next_stretch` leaves of the arrays is the walk after so many steps, and what it tells, laid out, are
+-- A STRETCH IS ITS BLOCKS: what a call of `take_stretch` leaves of the arrays is the walk after so many steps, and what it tells, laid out, are
 -- the blocks that those steps hand out.
 -- Assumes nothing.
 use mathlib.Core.Path.{_≡_, refl, sym, ap, ap₂, _∙_, subst}

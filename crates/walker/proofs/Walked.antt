@@ -1,4 +1,4 @@
--- A WALK IN STRETCHES: what a loop over stretches keeps, and what a call of `next_stretch` makes of it. What a loop has written of the blocks
+-- A WALK IN STRETCHES: what a loop over stretches keeps, and what a call of `take_stretch` makes of it. What a loop has written of the blocks
 -- so far it says beside this.
 -- Assumes nothing.
 use mathlib.Core.Path.{_≡_, refl, sym, ap, ap₂, _∙_, subst}
@@ -67,7 +67,7 @@ module _ {p : Plan} {u : Walk} {y : Way} {w : List ℕ} {n : ℕ} {t c : List �
   a : At p y w t here
   a = record { widths = k .widths; leads = k .leads; tiles = k .tiles; taken = k .taken; runs = refl }
 
-  -- what `next_stretch` asks
+  -- what `take_stretch` asks
   pub walked-asks : Strides y (p .extents) w (p .strides) t c o
   walked-asks =
       subst (λ (m : ℕ). MayStride y m (y .operands) (p .extents) w (p .strides) t c o) (sym (k .leads .rank-is))

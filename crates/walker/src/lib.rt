@@ -1,6 +1,6 @@
 // A WALK IN STRETCHES, on lent arrays: blocks of one length that follow each other along one axis are handed out at once. Nothing is
 // checked here: whoever walks has checked once at the beginning. Whatever walks on inside the library, to the end or for many blocks, does
-// it by `next_stretch`.
+// it by `take_stretch`.
 //
 // The law to cite is in proofs/Repeated.antt: the stretches one after another, each laid out as its blocks, are the plan's blocks in order,
 // each once, to the end (`stretches-plan`; from any state `stretches-blocks` and `stretches-all`). What a loop over stretches keeps, and
@@ -74,7 +74,7 @@ fn first_tiled<'a>(rank: usize, e: &'a [u64; 64], w: &'a [u64; 64]) -> usize
 }
 
 // How far it is to the next index of an axis; 0 if there is none.
-fn one_on(extent: u64) -> u64
+fn step_along(extent: u64) -> u64
     ensures { λ r. ⌜ r ≡ min 1 (extent - 1) ⌝ }
 {
     if 1 < extent { 1 } else { 0 }
@@ -94,7 +94,7 @@ pub fn way_of<'a>(rank: usize, operands: usize, e: &'a [u64; 64], w: &'a [u64; 6
             inner: inner,
             inside: true,
             axis: cut,
-            by: one_on(e[cut]),
+            by: step_along(e[cut]),
         };
     }
     let tiled = first_tiled(rank, e, w);
@@ -151,7 +151,14 @@ fn blocks_left(y: Way, extent: u64, width: u64, start: u64, at: u64) -> u64
 }
 
 // Goes on by `steps` blocks along the way.
-fn go_on(y: Way, steps: u64, s: &[i64; 512], t: &mut [u64; 64], c: &mut [u64; 64], o: &mut [i64; 8])
+fn go_steps(
+    y: Way,
+    steps: u64,
+    s: &[i64; 512],
+    t: &mut [u64; 64],
+    c: &mut [u64; 64],
+    o: &mut [i64; 8],
+)
     requires { ⌜ MayGo y steps (now s) (now c) (now o) ⌝ }
     ensures { λ _. ⌜ Gone y steps (now (s .entry)) (now (t .entry)) (now (c .entry)) (now (o .entry)) (now (t .exit)) (now (c .exit)) (now (o .exit)) ⌝ }
 {
@@ -355,14 +362,14 @@ pub fn go_behind<'a>(
         r (now (t .exit)) (now (c .exit)) (now (o .exit)) ⌝ }
 {
     if limit < left {
-        go_on(y, limit, s, &mut *t, &mut *c, &mut *o);
+        go_steps(y, limit, s, &mut *t, &mut *c, &mut *o);
         return true;
     }
     let axis = y.axis;
     if ends_axis(y, e[axis], c[axis], left) {
         return leave(y, e, w, s, &mut *t, &mut *c, &mut *o);
     }
-    go_on(y, left - 1, s, &mut *t, &mut *c, &mut *o);
+    go_steps(y, left - 1, s, &mut *t, &mut *c, &mut *o);
     advance(
         y.rank,
         y.inner,
@@ -377,7 +384,7 @@ pub fn go_behind<'a>(
 }
 
 // THE STRETCH at the counters, of at most `limit` blocks: the offsets of its first block go to `first`, and the walk goes past it.
-pub fn next_stretch<'a>(
+pub fn take_stretch<'a>(
     y: Way,
     limit: u64,
     e: &'a [u64; 64],
@@ -404,7 +411,7 @@ pub fn next_stretch<'a>(
 }
 
 // From a block of a stretch to the one behind it: each operand's offset moves by its place of `d`.
-pub fn move_on<'a>(operands: usize, d: &'a [i64; 8], o: &mut [i64; 8])
+pub fn move_by<'a>(operands: usize, d: &'a [i64; 8], o: &mut [i64; 8])
     requires { ⌜ MayMove operands (now d) (now o) ⌝ }
     ensures { λ _. ⌜ now (o .exit) ≡ added operands (now (d .entry)) (now (o .entry)) ⌝ }
 {

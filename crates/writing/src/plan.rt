@@ -24,7 +24,7 @@ use states::no_block;
 use strided::Refusal;
 use walker::ALL;
 use walker::moves_of;
-use walker::next_stretch;
+use walker::take_stretch;
 use walker::way_of;
 
 // A text's length, or that it is more than the limit.
@@ -164,7 +164,7 @@ fn walk_len<'a>(
     let mut blocks: u64 = 0;
     let mut cells: u64 = 0;
     while more {
-        let x = next_stretch(y, ALL, e, &w, s, &mut t, &mut c, &mut o, &mut first);
+        let x = take_stretch(y, ALL, e, &w, s, &mut t, &mut c, &mut o, &mut first);
         let Measured::Fits(n) = stretch_len(x, blocks, operands, &d, first, total, limit) else {
             return Measured::More;
         };
@@ -204,7 +204,7 @@ fn put_walk<'a>(
     let mut number: u64 = 0;
     let mut cells: u64 = 0;
     while more {
-        let x = next_stretch(y, ALL, e, &w, s, &mut t, &mut c, &mut o, &mut first);
+        let x = take_stretch(y, ALL, e, &w, s, &mut t, &mut c, &mut o, &mut first);
         next = put_stretch(out, next, x, number, operands, &d, first);
         number += x.count;
         cells += x.count * x.length;

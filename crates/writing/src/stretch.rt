@@ -10,7 +10,7 @@ use super::line::block_len;
 use super::line::put_block;
 use super::plan::Measured;
 use walker::Next;
-use walker::move_on;
+use walker::move_by;
 
 // Behind `used` bytes, numbered from `number` on.
 pub fn stretch_len(
@@ -39,7 +39,7 @@ pub fn stretch_len(
         total += line;
         j += 1;
         if j < count {
-            move_on(operands, d, &mut o);
+            move_by(operands, d, &mut o);
         }
     }
     Measured::Fits(total)
@@ -68,7 +68,7 @@ pub fn put_stretch(
         next = put_block(out, next, number + j, size, &o[..operands]);
         j += 1;
         if j < count {
-            move_on(operands, d, &mut o);
+            move_by(operands, d, &mut o);
         }
     }
     next

@@ -22,14 +22,14 @@ Inv-loop tail bytes m₀ k₀ m k = (0 < k) × (k ≤ tail .operands) × (m ≡ 
 abbrev μ-loop : tie.MeasureT-loop
 μ-loop tail bytes m₀ k₀ m k = tail .operands - k
 
-least-byte-of-requires : tie.Need-least-byte-of-requires Inv-loop μ-loop
-least-byte-of-requires c κs = omega arith
+least-byte-at-requires : tie.Need-least-byte-at-requires Inv-loop μ-loop
+least-byte-at-requires c κs = omega arith
 
 loop-holds : tie.Need-loop-holds Inv-loop μ-loop
-loop-holds c = (omega arith, omega arith, c .least-byte-of .ensures ∙ sym (least-first _))
+loop-holds c = (omega arith, omega arith, c .least-byte-at .ensures ∙ sym (least-first _))
 
-least-byte-of-requires-2 : tie.Need-least-byte-of-requires-2 Inv-loop μ-loop
-least-byte-of-requires-2 c κs = omega arith
+least-byte-at-requires-2 : tie.Need-least-byte-at-requires-2 Inv-loop μ-loop
+least-byte-at-requires-2 c κs = omega arith
 
 add-k : tie.Need-add-k Inv-loop μ-loop
 add-k c = omega arith
@@ -41,7 +41,7 @@ loop-again : tie.Need-loop-again Inv-loop μ-loop
 loop-again c = let a = c .before .before .before .before .before .before .args in
     let l = c .before .before .before .before .loop in
     let st = least-more (leastOf (a .bytes .now) (a .tail .offset) (a .tail .rank)) (l .k) (l .inv .0) in
-    ⊎-elim (λ w. omega (arith, c .before .least-byte-of2 .ensures)) (λ w. omega (arith, c .before .least-byte-of2 .ensures)) (c .if2 .came)
+    ⊎-elim (λ w. omega (arith, c .before .least-byte-at2 .ensures)) (λ w. omega (arith, c .before .least-byte-at2 .ensures)) (c .if2 .came)
 
 returns : tie.Need-returns Inv-loop μ-loop
 unfolding leastByte
@@ -56,9 +56,9 @@ least-byte-spec =
     (tie.spec
     Inv-loop
     μ-loop
-    least-byte-of-requires
+    least-byte-at-requires
     loop-holds
-    least-byte-of-requires-2
+    least-byte-at-requires-2
     add-k
     loop-less
     loop-again

@@ -86,8 +86,8 @@ returns-4 c = search needs
 crowded-requires : tie.Need-crowded-requires
 crowded-requires c κs = search needs
 
-fours-by-width-requires : tie.Need-fours-by-width-requires
-fours-by-width-requires c κs =
+copy-fours-by-width-requires : tie.Need-copy-fours-by-width-requires
+copy-fours-by-width-requires c κs =
     let e : tie.Else4 = c .before .before .before in
     let s = gapped e in
     (s .pre .0 .1, (to-in s, (from-in s, s .pre .1 .1 .1 .1)))
@@ -98,8 +98,8 @@ same-length-3 c = search needs
 returns-5 : tie.Need-returns-5
 returns-5 c = search needs
 
-runs-by-width-requires : tie.Need-runs-by-width-requires
-runs-by-width-requires c κs =
+copy-runs-by-width-requires : tie.Need-copy-runs-by-width-requires
+copy-runs-by-width-requires c κs =
     let e : tie.Else4 = c .before .before .before in
     let s = gapped e in
     (s .pre .0 .1, (to-in s, from-in s))
@@ -125,9 +125,9 @@ copy-patch-spec =
     same-length-2
     returns-4
     crowded-requires
-    fours-by-width-requires
+    copy-fours-by-width-requires
     same-length-3
     returns-5
-    runs-by-width-requires
+    copy-runs-by-width-requires
     same-length-4
     returns-6)

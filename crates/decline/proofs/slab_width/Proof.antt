@@ -33,11 +33,11 @@ room c =
     let l = c .before .loop in
     width-room (strideSize (a .strides .now) (a .k)) (a .extents .now) (a .cut) (l .i) (l .w) (omega arith) (c .before .before .pre .1) (l .inv .1)
 
-way-of-requires : tie.Need-way-of-requires Inv-loop μ-loop
-way-of-requires c κs = (omega arith, omega (arith, room c))
+way-at-requires : tie.Need-way-at-requires Inv-loop μ-loop
+way-at-requires c κs = (omega arith, omega (arith, room c))
 
 add-w : tie.Need-add-w Inv-loop μ-loop
-add-w c = omega (arith, room (c .before), c .way-of .ensures)
+add-w c = omega (arith, room (c .before), c .way-at .ensures)
 
 add-i : tie.Need-add-i Inv-loop μ-loop
 add-i c = omega arith
@@ -49,7 +49,7 @@ loop-again : tie.Need-loop-again Inv-loop μ-loop
 loop-again c = let a = c .before .before .before .args in
     let l = c .before .before .loop in
     let way : ℕ → ℕ = wayOf (strideSize (a .strides .now) (a .k)) (a .extents .now) in
-    (omega arith, omega (arith, sum-next way (l .i), c .way-of .ensures, l .inv .1))
+    (omega arith, omega (arith, sum-next way (l .i), c .way-at .ensures, l .inv .1))
 
 returns : tie.Need-returns Inv-loop μ-loop
 unfolding slab
@@ -61,4 +61,4 @@ returns c = let a = c .before .before .args in
 pub slab-width-spec : {M : Type 1} → statement M
 slab-width-spec =
     tie.close
-    (tie.spec Inv-loop μ-loop loop-holds way-of-requires add-w add-i loop-less loop-again returns)
+    (tie.spec Inv-loop μ-loop loop-holds way-at-requires add-w add-i loop-less loop-again returns)

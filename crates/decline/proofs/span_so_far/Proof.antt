@@ -35,11 +35,11 @@ room c =
     let l = c .before .before .before .before .loop in
     omega (arith, tail-room (s .args .slabs) (s .args .strides .now) (s .args .extents .now) (s .args .i) (l .j) (s .pre .0) (l .inv .0) (omega arith))
 
-way-of-requires : tie.Need-way-of-requires Inv-loop μ-loop
-way-of-requires c κs = (omega arith, omega (arith, room c))
+way-at-requires : tie.Need-way-at-requires Inv-loop μ-loop
+way-at-requires c κs = (omega arith, omega (arith, room c))
 
 add-s : tie.Need-add-s Inv-loop μ-loop
-add-s c = omega (arith, room (c .before), c .way-of .ensures)
+add-s c = omega (arith, room (c .before), c .way-at .ensures)
 
 add-j : tie.Need-add-j Inv-loop μ-loop
 add-j c = omega arith
@@ -73,7 +73,7 @@ span-so-far-spec =
     μ-loop
     loop-holds
     comes-before-requires
-    way-of-requires
+    way-at-requires
     add-s
     add-j
     loop-less

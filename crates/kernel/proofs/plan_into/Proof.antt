@@ -46,8 +46,8 @@ returns c =
 axes-into-requires : tie.Need-axes-into-requires
 axes-into-requires c κs = search needs
 
-block-sizes-requires : tie.Need-block-sizes-requires
-block-sizes-requires c κs =
+block-sizes-into-requires : tie.Need-block-sizes-into-requires
+block-sizes-into-requires c κs =
     let x = c .before .before .before in
     let on = x .before .before .before in
     let t = on .before in
@@ -68,9 +68,9 @@ returns-2 c =
     let a = s .args in
     let e = x .axes-into .ensures in
     made-cut (a .extents .now) (a .sizes .now) (a .strides .now) (a .aim .purpose) (s .pre .1 .0) (x .axes-into .result) _ _ (e .0) (e .1 .0) (e .1 .1) (a .aim .machine)
-    (sym (t .total-at-most .ensures) ∙ on .if1 .left) _ (c .block-sizes .ensures)
+    (sym (t .total-at-most .ensures) ∙ on .if1 .left) _ (c .block-sizes-into .ensures)
 
 pub plan-into-spec : {M : Type 1} → statement M
 plan-into-spec =
     tie.close
-    (tie.spec total-at-most-requires given-axes-requires returns axes-into-requires block-sizes-requires returns-2)
+    (tie.spec total-at-most-requires given-axes-requires returns axes-into-requires block-sizes-into-requires returns-2)

@@ -21,36 +21,36 @@ abbrev μ-loop : tie.MeasureT-loop
 loop-holds : tie.Need-loop-holds Inv-loop μ-loop
 loop-holds c = (omega arith, zero-add _)
 
-mul-down-on : tie.Need-mul-down-on Inv-loop μ-loop
-mul-down-on c = search needs
+mul-down-along : tie.Need-mul-down-along Inv-loop μ-loop
+mul-down-along c = search needs
 
-shared-slice-read-down-on : tie.Need-shared-slice-read-down-on Inv-loop μ-loop
-shared-slice-read-down-on c = search needs
+shared-slice-read-down-along : tie.Need-shared-slice-read-down-along Inv-loop μ-loop
+shared-slice-read-down-along c = search needs
 
-mul-down-on-2 : tie.Need-mul-down-on-2 Inv-loop μ-loop
-mul-down-on-2 c = search needs
+mul-down-along-2 : tie.Need-mul-down-along-2 Inv-loop μ-loop
+mul-down-along-2 c = search needs
 
-shared-slice-copy-out-down-on : tie.Need-shared-slice-copy-out-down-on Inv-loop μ-loop
-shared-slice-copy-out-down-on c = search needs
+shared-slice-copy-out-down-along : tie.Need-shared-slice-copy-out-down-along Inv-loop μ-loop
+shared-slice-copy-out-down-along c = search needs
 
-down-on-requires : tie.Need-down-on-requires Inv-loop μ-loop
-down-on-requires c κs =
+down-along-requires : tie.Need-down-along-requires Inv-loop μ-loop
+down-along-requires c κs =
     let n = c .before .before in
     let l = n .before in
     let s = l .before .before in
     let a = s .args in
     let i = l .loop .i in
     let t = n .loop-test .taken in
-    (some _ _ (s .pre) i t, subst (λ (z : ℤ). (getD (a .extents .now) i 0 - 1) * natAbs z < 2 ^ 63) (sym (elem-read (a .strides .now) i (c .down-on-arg .given))) (way _ _ (s .pre) i t))
+    (some _ _ (s .pre) i t, subst (λ (z : ℤ). (getD (a .extents .now) i 0 - 1) * natAbs z < 2 ^ 63) (sym (elem-read (a .strides .now) i (c .down-along-arg .given))) (way _ _ (s .pre) i t))
 
 -- what a turn adds
-term-here : (c : tie.After-down-on Inv-loop μ-loop) → let l = c .before .before .before .before in
+term-here : (c : tie.After-down-along Inv-loop μ-loop) → let l = c .before .before .before .before in
     let a = l .before .before .args in
-    c .down-on .result ≡ downTerm (getD (a .extents .now) (l .loop .i) 0) (getD (a .strides .now) (l .loop .i) (pos 0))
+    c .down-along .result ≡ downTerm (getD (a .extents .now) (l .loop .i) 0) (getD (a .strides .now) (l .loop .i) (pos 0))
 term-here c =
     let l = c .before .before .before .before in
     let a = l .before .before .args in
-    c .down-on .ensures ∙ ap (downTerm (getD (a .extents .now) (l .loop .i) 0)) (elem-read (a .strides .now) (l .loop .i) (c .before .down-on-arg .given))
+    c .down-along .ensures ∙ ap (downTerm (getD (a .extents .now) (l .loop .i) 0)) (elem-read (a .strides .now) (l .loop .i) (c .before .down-along-arg .given))
 
 add-sum : tie.Need-add-sum Inv-loop μ-loop
 add-sum c =
@@ -80,11 +80,11 @@ down-of-spec =
     Inv-loop
     μ-loop
     loop-holds
-    mul-down-on
-    shared-slice-read-down-on
-    mul-down-on-2
-    shared-slice-copy-out-down-on
-    down-on-requires
+    mul-down-along
+    shared-slice-read-down-along
+    mul-down-along-2
+    shared-slice-copy-out-down-along
+    down-along-requires
     add-sum
     add-i
     loop-less

@@ -4,8 +4,8 @@ use borrow.Author.Needs.{needs}
 use Rattle.walker.proofs.go_behind.Statement.{statement}
 use Rattle.walker.proofs.go_behind.Tie as tie
 
-go-on-requires : tie.Need-go-on-requires
-go-on-requires c κs =
+go-steps-requires : tie.Need-go-steps-requires
+go-steps-requires c κs =
     let x = c .before .before .before in
     let k = x .before .pre in
     may-go (k .0) _ (limit-less (k .0) (k .1 .0) _ (x .if1 .taken)) (k .1 .1)
@@ -14,7 +14,7 @@ returns : tie.Need-returns
 returns c =
     let x = c .before .before .before .before in
     let k = x .before .pre in
-    passed-short (k .0) (k .1 .0) _ (x .if1 .taken) (c .go-on .ensures)
+    passed-short (k .0) (k .1 .0) _ (x .if1 .taken) (c .go-steps .ensures)
 
 mul-ends-axis : tie.Need-mul-ends-axis
 mul-ends-axis c = search needs
@@ -49,23 +49,23 @@ returns-2 c =
     let k = x .before .pre in
     passed-all (k .0) (k .1 .0) _ (x .if1 .left) (c .leave .ensures)
 
-sub-go-on : tie.Need-sub-go-on
-sub-go-on c = let k = found (c .before) .before .pre in left-above (k .0) (k .1 .0)
+sub-go-steps : tie.Need-sub-go-steps
+sub-go-steps c = let k = found (c .before) .before .pre in left-above (k .0) (k .1 .0)
 
-go-on-requires-2 : tie.Need-go-on-requires-2
-go-on-requires-2 c κs =
+go-steps-requires-2 : tie.Need-go-steps-requires-2
+go-steps-requires-2 c κs =
     let k = found (c .before .before .before .before) .before .pre in
     may-go (k .0) _ (last-less (k .0) (k .1 .0)) (k .1 .1)
 
 -- behind the last block of the axis
-abbrev whole : tie.After-go-on2 → tie.Else1
+abbrev whole : tie.After-go-steps2 → tie.Else1
 whole c = found (c .before .before .before .before .before)
 
 advance-requires : tie.Need-advance-requires
 advance-requires c κs =
     let f = c .before .before .before in
     let k = whole f .before .pre in
-    let g = gone-on (k .0) _ (last-less (k .0) (k .1 .0)) (f .go-on2 .ensures) in
+    let g = gone-on (k .0) _ (last-less (k .0) (k .1 .0)) (f .go-steps2 .ensures) in
     (g .roomy, (g .tiled, k .0 .leads .single))
 
 returns-3 : tie.Need-returns-3
@@ -73,13 +73,13 @@ returns-3 c =
     let f = c .before .before .before .before in
     let x = whole f in
     let k = x .before .pre in
-    passed-all (k .0) (k .1 .0) _ (x .if1 .left) (gone-last (k .0) (k .1 .0) (f .go-on2 .ensures) (c .advance .ensures))
+    passed-all (k .0) (k .1 .0) _ (x .if1 .left) (gone-last (k .0) (k .1 .0) (f .go-steps2 .ensures) (c .advance .ensures))
 
 pub go-behind-spec : {M : Type 1} → statement M
 go-behind-spec =
     tie.close
     (tie.spec
-    go-on-requires
+    go-steps-requires
     returns
     mul-ends-axis
     element-copy-out-ends-axis
@@ -88,7 +88,7 @@ go-behind-spec =
     ends-axis-requires
     leave-requires
     returns-2
-    sub-go-on
-    go-on-requires-2
+    sub-go-steps
+    go-steps-requires-2
     advance-requires
     returns-3)

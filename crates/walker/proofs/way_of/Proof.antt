@@ -10,17 +10,17 @@ inner-axes-requires c κs = search needs
 first-cut-requires : tie.Need-first-cut-requires
 first-cut-requires c κs = search needs
 
-mul-one-on : tie.Need-mul-one-on
-mul-one-on c = search needs
+mul-step-along : tie.Need-mul-step-along
+mul-step-along c = search needs
 
-element-copy-out-one-on : tie.Need-element-copy-out-one-on
-element-copy-out-one-on c = search needs
+element-copy-out-step-along : tie.Need-element-copy-out-step-along
+element-copy-out-step-along c = search needs
 
-one-on-requires : tie.Need-one-on-requires
-one-on-requires c κs = tt
+step-along-requires : tie.Need-step-along-requires
+step-along-requires c κs = tt
 
 returns : tie.Need-returns
-returns c = leads-inside (c .before .before .before .before .before .pre) (c .before .before .before .before .inner-axes .ensures) (c .before .before .before .first-cut .ensures) (c .before .before .if1 .taken) (c .one-on .ensures)
+returns c = leads-inside (c .before .before .before .before .before .pre) (c .before .before .before .before .inner-axes .ensures) (c .before .before .before .first-cut .ensures) (c .before .before .if1 .taken) (c .step-along .ensures)
 
 first-tiled-requires : tie.Need-first-tiled-requires
 first-tiled-requires c κs = search needs
@@ -43,9 +43,9 @@ way-of-spec =
     (tie.spec
     inner-axes-requires
     first-cut-requires
-    mul-one-on
-    element-copy-out-one-on
-    one-on-requires
+    mul-step-along
+    element-copy-out-step-along
+    step-along-requires
     returns
     first-tiled-requires
     mul-t14

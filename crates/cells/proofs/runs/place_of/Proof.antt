@@ -15,11 +15,11 @@ use Rattle.cells.proofs.Placing.{first-fits, across-fits, run-fits, alo
 use Rattle.cells.proofs.runs.place_of.Statement.{statement}
 use Rattle.cells.proofs.runs.place_of.Tie as tie
 
-cast-steps-on : tie.Need-cast-steps-on
-cast-steps-on c = search needs
+cast-steps-from : tie.Need-cast-steps-from
+cast-steps-from c = search needs
 
-steps-on-requires : tie.Need-steps-on-requires
-steps-on-requires c κs =
+steps-from-requires : tie.Need-steps-from-requires
+steps-from-requires c κs =
     let s = c .before .before in
     let o = s .args .o in
     let i : ℕ = s .args .i in
@@ -37,7 +37,7 @@ steps-on-requires c κs =
     )
 
 -- the run's first place, read back
-run-is : (c : tie.After-steps-on) → toZ w64 (ofZ w64 (c .steps-on .result)) ≡ runSpot (c .before .before .before .args .o) (c .before .before .before .args .j)
+run-is : (c : tie.After-steps-from) → toZ w64 (ofZ w64 (c .steps-from .result)) ≡ runSpot (c .before .before .before .args .o) (c .before .before .before .args .j)
 run-is c =
     let s = c .before .before .before in
     let o = s .args .o in
@@ -46,12 +46,12 @@ run-is c =
     let g : SFits w64 (o .step1) = search needs in
     let e : toZ w64 (ofZ w64 (o .step1)) ≡ o .step1 = toZ-ofZ g in
     let f : toZ w64 (o .first) ≡ pos (o .first) = toZ-pos w64 (r .first) in
-    let q : c .steps-on .result ≡ toZ w64 (o .first) +ℤ pos j *ℤ toZ w64 (ofZ w64 (o .step1)) = c .steps-on .ensures in
-    let p : c .steps-on .result ≡ runSpot o j = q ∙ (λ k. f k +ℤ pos j *ℤ e k) in
+    let q : c .steps-from .result ≡ toZ w64 (o .first) +ℤ pos j *ℤ toZ w64 (ofZ w64 (o .step1)) = c .steps-from .ensures in
+    let p : c .steps-from .result ≡ runSpot o j = q ∙ (λ k. f k +ℤ pos j *ℤ e k) in
     ap (λ (z : ℤ). toZ w64 (ofZ w64 z)) p ∙ toZ-ofZ (run-fits o (s .args .i) j r)
 
-steps-on-requires-2 : tie.Need-steps-on-requires-2
-steps-on-requires-2 c κs =
+steps-from-requires-2 : tie.Need-steps-from-requires-2
+steps-from-requires-2 c κs =
     let s = c .before .before .before .before in
     let o = s .args .o in
     let i : ℕ = s .args .i in
@@ -62,13 +62,13 @@ steps-on-requires-2 c κs =
       r .along,
       (
         subst (λ (t : ℤ). SFits w64 (pos i *ℤ t)) (sym e) (along-fits o i j r),
-        subst (λ (t : ℤ). SFits w64 (toZ w64 (ofZ w64 (c .before .steps-on .result)) +ℤ pos i *ℤ t)) (sym e)
+        subst (λ (t : ℤ). SFits w64 (toZ w64 (ofZ w64 (c .before .steps-from .result)) +ℤ pos i *ℤ t)) (sym e)
             (subst (λ (z : ℤ). SFits w64 (z +ℤ pos i *ℤ o .step0)) (sym (run-is (c .before))) (spot-fits o i j r)),
       ),
     )
 
 -- the cell's place, read back
-cell-is : (c : tie.After-steps-on2) → toZ w64 (ofZ w64 (c .steps-on2 .result)) ≡ spot (c .before .before .before .before .before .args .o) (c .before .before .before .before .before .args .i) (c .before .before .before .before .before .args .j)
+cell-is : (c : tie.After-steps-from2) → toZ w64 (ofZ w64 (c .steps-from2 .result)) ≡ spot (c .before .before .before .before .before .args .o) (c .before .before .before .before .before .args .i) (c .before .before .before .before .before .args .j)
 cell-is c =
     let s = c .before .before .before .before .before in
     let o = s .args .o in
@@ -77,8 +77,8 @@ cell-is c =
     let r : Reaches o i j = s .pre in
     let g : SFits w64 (o .step0) = search needs in
     let e : toZ w64 (ofZ w64 (o .step0)) ≡ o .step0 = toZ-ofZ g in
-    let q : c .steps-on2 .result ≡ toZ w64 (ofZ w64 (c .before .before .steps-on .result)) +ℤ pos i *ℤ toZ w64 (ofZ w64 (o .step0)) = c .steps-on2 .ensures in
-    let p : c .steps-on2 .result ≡ spot o i j = q ∙ (λ k. run-is (c .before .before) k +ℤ pos i *ℤ e k) in
+    let q : c .steps-from2 .result ≡ toZ w64 (ofZ w64 (c .before .before .steps-from .result)) +ℤ pos i *ℤ toZ w64 (ofZ w64 (o .step0)) = c .steps-from2 .ensures in
+    let p : c .steps-from2 .result ≡ spot o i j = q ∙ (λ k. run-is (c .before .before) k +ℤ pos i *ℤ e k) in
     ap (λ (z : ℤ). toZ w64 (ofZ w64 z)) p ∙ toZ-ofZ (spot-fits o i j r)
 
 cast-result : tie.Need-cast-result
@@ -91,4 +91,4 @@ returns : tie.Need-returns
 returns c = ap natAbs (cell-is c)
 
 pub place-of-spec : {M : Type 1} → statement M
-place-of-spec = tie.close (tie.spec cast-steps-on steps-on-requires steps-on-requires-2 cast-result returns)
+place-of-spec = tie.close (tie.spec cast-steps-from steps-from-requires steps-from-requires-2 cast-result returns)

@@ -34,7 +34,7 @@ entry c = moved c .before .before .before .before .before .before .before
 abbrev In : Type 0
 In = tie.In-loop Inv-loop μ-loop
 
-abbrev turn : tie.After-next-stretch Inv-loop μ-loop → In
+abbrev turn : tie.After-take-stretch Inv-loop μ-loop → In
 turn c = c .before .before .before .before .before .before
 
 runs : (c : In) → let a = entry (c .before) .args in let l = c .before .loop in
@@ -72,33 +72,33 @@ loop-holds c =
     let s = z .before .before .before in
     copies-start (s .pre .0) (s .args .walk) (s .pre .1) (z .if1 .left) (v .widths .ensures) (y .way-of .ensures) (c .tile-starts .ensures) _ _
 
-next-stretch-requires : tie.Need-next-stretch-requires Inv-loop μ-loop
-next-stretch-requires c κs = let i = c .before .before .before .before .before in copies-asks (entry (i .before) .pre .0) (runs i)
+take-stretch-requires : tie.Need-take-stretch-requires Inv-loop μ-loop
+take-stretch-requires c κs = let i = c .before .before .before .before .before in copies-asks (entry (i .before) .pre .0) (runs i)
 
 copy-stretch-requires : tie.Need-copy-stretch-requires Inv-loop μ-loop
 copy-stretch-requires c κs =
     let x = c .before .before .before in
     let i = turn x in
-    stretching (entry (i .before) .pre .0) (runs i) (omega arith) (omega arith) (x .next-stretch .ensures) (moved (i .before) .moves-of .ensures)
+    stretching (entry (i .before) .pre .0) (runs i) (omega arith) (omega arith) (x .take-stretch .ensures) (moved (i .before) .moves-of .ensures)
 
 add-number : tie.Need-add-number Inv-loop μ-loop
 add-number c =
     let x = c .before .before .before .before .before .before .before in
     let i = turn x in
-    record { fits = number-fits (entry (i .before) .pre .0) (runs i) (omega arith) (omega arith) (x .next-stretch .ensures) (moved (i .before) .moves-of .ensures) }
+    record { fits = number-fits (entry (i .before) .pre .0) (runs i) (omega arith) (omega arith) (x .take-stretch .ensures) (moved (i .before) .moves-of .ensures) }
 
 loop-less : tie.Need-loop-less Inv-loop μ-loop
 loop-less c =
     let x = c .before .before .before .before .before .before .before in
     let i = turn x in
-    copies-less (entry (i .before) .pre .0) (runs i) (omega arith) (omega arith) (x .next-stretch .ensures) (moved (i .before) .moves-of .ensures)
+    copies-less (entry (i .before) .pre .0) (runs i) (omega arith) (omega arith) (x .take-stretch .ensures) (moved (i .before) .moves-of .ensures)
 
 loop-again : tie.Need-loop-again Inv-loop μ-loop
 loop-again c =
     let p = c .before .before .before in
     let x = p .before .before .before .before in
     let i = turn x in
-    copies-next (entry (i .before) .pre .0) (runs i) (omega arith) (omega arith) (x .next-stretch .ensures) (moved (i .before) .moves-of .ensures) (p .copy-stretch .ensures)
+    copies-next (entry (i .before) .pre .0) (runs i) (omega arith) (omega arith) (x .take-stretch .ensures) (moved (i .before) .moves-of .ensures) (p .copy-stretch .ensures)
 
 same-length : tie.Need-same-length Inv-loop μ-loop
 same-length c = c .before .loop .inv .long
@@ -118,7 +118,7 @@ copy-blocks-spec =
     moves-of-requires
     tile-starts-requires
     loop-holds
-    next-stretch-requires
+    take-stretch-requires
     copy-stretch-requires
     add-number
     loop-less

@@ -97,8 +97,8 @@ test h =
     let i : ℕ = l .loop .n - 1 in
     rw (enters-by (a .machine) (a .bytes .now) (a .sizes .now) (a .rank) (s .of .result) (s .of .ensures) i, zero-bits (getD (a .strides .now) (a .chosen * 64 + i) (pos 0)) (h .before .if22 .given), h .enters .ensures)
 
-load-with-requires : tie.Need-load-with-requires Inv-loop μ-loop
-load-with-requires c κs = (told (c .before .before .before .before .before .before) .of .ensures .few, omega arith)
+set-block-requires : tie.Need-set-block-requires Inv-loop μ-loop
+set-block-requires c κs = (told (c .before .before .before .before .before .before) .of .ensures .few, omega arith)
 
 widen-requires : tie.Need-widen-requires Inv-loop μ-loop
 widen-requires c κs =
@@ -110,8 +110,8 @@ widen-requires c κs =
     let b : List ℕ = l .loop .blocks in
     let i : ℕ = l .loop .n - 1 in
     let above = shortens-above (a .machine) (a .bytes .now) (a .sizes .now) (a .rank) (chosenBy s) b i (test h ∙ w .before .before .if2 .taken) in
-    let e = ap (λ (x : List ℕ). loadBy (s .of .result) (set x i 1)) (w .load-with .ensures .1) ∙ ap (loadBy (s .of .result)) (set-set b i 1 1) in
-    ((s .of .ensures .few, omega arith), (omega arith, (omega arith, omega (arith, e, w .load-with .ensures .0, c .before .if3 .taken))))
+    let e = ap (λ (x : List ℕ). loadBy (s .of .result) (set x i 1)) (w .set-block .ensures .1) ∙ ap (loadBy (s .of .result)) (set-set b i 1 1) in
+    ((s .of .ensures .few, omega arith), (omega arith, (omega arith, omega (arith, e, w .set-block .ensures .0, c .before .if3 .taken))))
 
 returns-2 : tie.Need-returns-2 Inv-loop μ-loop
 returns-2 c =
@@ -123,9 +123,9 @@ returns-2 c =
     let b : List ℕ = l .loop .blocks in
     let i : ℕ = l .loop .n - 1 in
     let one : List ℕ = set b i 1 in
-    let small : load (a .machine) (a .bytes .now) (a .sizes .now) (a .rank) one ≤ a .machine .live = omega (arith, whole-load s one, w .load-with .ensures .0, c .before .before .if3 .taken) in
+    let small : load (a .machine) (a .bytes .now) (a .sizes .now) (a .rank) one ≤ a .machine .live = omega (arith, whole-load s one, w .set-block .ensures .0, c .before .before .if3 .taken) in
     c .widen .ensures
-    ∙ ap (λ (x : List ℕ). set x i (mostBy (a .machine .live) (s .of .result) x i (getD b i 0))) (w .load-with .ensures .1)
+    ∙ ap (λ (x : List ℕ). set x i (mostBy (a .machine .live) (s .of .result) x i (getD b i 0))) (w .set-block .ensures .1)
     ∙ set-set b i 1 (mostBy (a .machine .live) (s .of .result) one i (getD b i 0))
     ∙ ap (set b i) (sym (most-by (a .machine) (a .bytes .now) (a .sizes .now) (a .rank) (s .of .result) (s .of .ensures) b i 1))
     ∙ sym (fit-last (a .machine) (a .bytes .now) (a .sizes .now) (a .rank) (chosenBy s) b (l .loop .n) (omega arith) (test h ∙ w .before .before .if2 .taken) small) ∙ l .loop .inv .1
@@ -178,7 +178,7 @@ fit-spec =
     mul-if2-2
     element-copy-out-if2
     enters-requires
-    load-with-requires
+    set-block-requires
     widen-requires
     returns-2
     sub-n

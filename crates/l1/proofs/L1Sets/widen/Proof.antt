@@ -33,21 +33,21 @@ sub-mid c = omega arith
 sub-mid-2 : tie.Need-sub-mid-2 Inv-loop μ-loop
 sub-mid-2 c = omega arith
 
-load-with-requires : tie.Need-load-with-requires Inv-loop μ-loop
-load-with-requires c κs = search needs
+set-block-requires : tie.Need-set-block-requires Inv-loop μ-loop
+set-block-requires c κs = search needs
 
 -- the load that was tried, and the other blocks
-tried : (c : tie.After-load-with Inv-loop μ-loop) →
+tried : (c : tie.After-set-block Inv-loop μ-loop) →
     let l = c .before .before .before in
     let a = l .before .args in
-    (c .load-with .result ≡ min (loadBy (a .self) (set (a .blocks .now) (a .i) (l .loop .hi - (l .loop .hi - l .loop .lo) / 2))) top)
-    × ((x : ℕ) → set (c .load-with .last .1 .0) (a .i) x ≡ set (a .blocks .now) (a .i) x)
+    (c .set-block .result ≡ min (loadBy (a .self) (set (a .blocks .now) (a .i) (l .loop .hi - (l .loop .hi - l .loop .lo) / 2))) top)
+    × ((x : ℕ) → set (c .set-block .last .1 .0) (a .i) x ≡ set (a .blocks .now) (a .i) x)
 tried c =
     let l = c .before .before .before in
     let a = l .before .args in
     let mid : ℕ = l .loop .hi - (l .loop .hi - l .loop .lo) / 2 in (
-      c .load-with .ensures .0 ∙ ap (λ (b : List ℕ). min (loadBy (a .self) b) top) (l .loop .inv .5 mid),
-      λ x. ap (λ (b : List ℕ). set b (a .i) x) (c .load-with .ensures .1) ∙ set-set (l .loop .blocks) (a .i) mid x ∙ l .loop .inv .5 x,
+      c .set-block .ensures .0 ∙ ap (λ (b : List ℕ). min (loadBy (a .self) b) top) (l .loop .inv .5 mid),
+      λ x. ap (λ (b : List ℕ). set b (a .i) x) (c .set-block .ensures .1) ∙ set-set (l .loop .blocks) (a .i) mid x ∙ l .loop .inv .5 x,
     )
 
 loop-less : tie.Need-loop-less Inv-loop μ-loop
@@ -104,7 +104,7 @@ widen-spec =
     loop-holds
     sub-mid
     sub-mid-2
-    load-with-requires
+    set-block-requires
     loop-less
     loop-again
     sub-hi

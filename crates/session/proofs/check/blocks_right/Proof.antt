@@ -8,14 +8,14 @@ use Rattle.session.proofs.check.blocks_right.Statement.{statement}
 use Rattle.session.proofs.check.blocks_right.Tie as tie
 
 -- back to the entry
-abbrev start : tie.After-blocks-kept → tie.Start
+abbrev start : tie.After-blocks-kept-into → tie.Start
 start k = k .before .before .before .before .before
 
 -- the fresh costs and blocks, and their places
-laid : (k : tie.After-blocks-kept) → let a = start k .args in BlocksAt (a .numbers) (a .extents .now) (a .sizes .now) (a .plan-extents .now) (a .plan-strides .now) (k .before .before .compute-costs .result) (k .blocks-kept .last .1 .1 .1 .1 .1 .0)
-laid k = record { costs = k .before .before .compute-costs .ensures; blocks = k .blocks-kept .ensures }
+laid : (k : tie.After-blocks-kept-into) → let a = start k .args in BlocksAt (a .numbers) (a .extents .now) (a .sizes .now) (a .plan-extents .now) (a .plan-strides .now) (k .before .before .compute-costs .result) (k .blocks-kept-into .last .1 .1 .1 .1 .1 .0)
+laid k = record { costs = k .before .before .compute-costs .ensures; blocks = k .blocks-kept-into .ensures }
 
-places : (k : tie.After-blocks-kept) → (length (k .before .before .compute-costs .result) ≡ 64) × (length (k .blocks-kept .last .1 .1 .1 .1 .1 .0) ≡ 64)
+places : (k : tie.After-blocks-kept-into) → (length (k .before .before .compute-costs .result) ≡ 64) × (length (k .blocks-kept-into .last .1 .1 .1 .1 .1 .0) ≡ 64)
 places k =
     let s = start k in
     let a = s .args in
@@ -24,8 +24,8 @@ places k =
 compute-costs-requires : tie.Need-compute-costs-requires
 compute-costs-requires c κs = let t = c .before .before .pre in (t .one, (t .few, t .plan))
 
-blocks-kept-requires : tie.Need-blocks-kept-requires
-blocks-kept-requires c κs = search needs
+blocks-kept-into-requires : tie.Need-blocks-kept-into-requires
+blocks-kept-into-requires c κs = search needs
 
 slice-aggregate-same : tie.Need-slice-aggregate-same
 slice-aggregate-same c = search needs
@@ -51,7 +51,7 @@ blocks-right-spec =
     tie.close
     (tie.spec
     compute-costs-requires
-    blocks-kept-requires
+    blocks-kept-into-requires
     slice-aggregate-same
     same-requires
     slice-aggregate-same-2

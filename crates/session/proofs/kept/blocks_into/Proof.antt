@@ -12,8 +12,8 @@ total-at-most-requires c κs = search needs
 returns : tie.Need-returns
 returns c = let t = c .before .before in sym (rw (sym (t .total-at-most .ensures) ∙ c .before .if1 .taken))
 
-block-sizes-requires : tie.Need-block-sizes-requires
-block-sizes-requires c κs =
+block-sizes-into-requires : tie.Need-block-sizes-into-requires
+block-sizes-into-requires c κs =
     let on = c .before in
     let t = on .before in
     let s = t .before .before .before .before in
@@ -23,9 +23,9 @@ returns-2 : tie.Need-returns-2
 returns-2 c =
     let on = c .before .before in
     let t = on .before in
-    c .block-sizes .ensures ∙ sym (rw (sym (t .total-at-most .ensures) ∙ on .if1 .left))
+    c .block-sizes-into .ensures ∙ sym (rw (sym (t .total-at-most .ensures) ∙ on .if1 .left))
 
 pub blocks-into-spec : {M : Type 1} → statement M
 blocks-into-spec =
     tie.close
-    (tie.spec total-at-most-requires returns block-sizes-requires returns-2)
+    (tie.spec total-at-most-requires returns block-sizes-into-requires returns-2)

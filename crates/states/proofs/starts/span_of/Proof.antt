@@ -22,20 +22,20 @@ abbrev μ-loop : tie.MeasureT-loop
 loop-holds : tie.Need-loop-holds Inv-loop μ-loop
 loop-holds c = (omega arith, (zero-add _, zero-add _))
 
-mul-way-on : tie.Need-mul-way-on Inv-loop μ-loop
-mul-way-on c = search needs
+mul-way-along : tie.Need-mul-way-along Inv-loop μ-loop
+mul-way-along c = search needs
 
-shared-slice-read-way-on : tie.Need-shared-slice-read-way-on Inv-loop μ-loop
-shared-slice-read-way-on c = search needs
+shared-slice-read-way-along : tie.Need-shared-slice-read-way-along Inv-loop μ-loop
+shared-slice-read-way-along c = search needs
 
-mul-way-on-2 : tie.Need-mul-way-on-2 Inv-loop μ-loop
-mul-way-on-2 c = search needs
+mul-way-along-2 : tie.Need-mul-way-along-2 Inv-loop μ-loop
+mul-way-along-2 c = search needs
 
-shared-slice-copy-out-way-on : tie.Need-shared-slice-copy-out-way-on Inv-loop μ-loop
-shared-slice-copy-out-way-on c = search needs
+shared-slice-copy-out-way-along : tie.Need-shared-slice-copy-out-way-along Inv-loop μ-loop
+shared-slice-copy-out-way-along c = search needs
 
-way-on-requires : tie.Need-way-on-requires Inv-loop μ-loop
-way-on-requires c κs =
+way-along-requires : tie.Need-way-along-requires Inv-loop μ-loop
+way-along-requires c κs =
     let n = c .before .before in
     let l = n .before in
     let s = l .before .before .before in
@@ -44,31 +44,31 @@ way-on-requires c κs =
     let p = s .pre in
     let t = n .loop-test .taken in (
       omega (arith, inside _ _ _ p i t),
-      subst (λ (z : ℤ). (getD (a .extents .now) i 0 - 1) * natAbs z < 2 ^ 63) (sym (elem-read (a .strides .now) i (c .way-on-arg .given))) (way _ _ _ p i t),
+      subst (λ (z : ℤ). (getD (a .extents .now) i 0 - 1) * natAbs z < 2 ^ 63) (sym (elem-read (a .strides .now) i (c .way-along-arg .given))) (way _ _ _ p i t),
     )
 
-mul-below-on : tie.Need-mul-below-on Inv-loop μ-loop
-mul-below-on c = search needs
+mul-below-along : tie.Need-mul-below-along Inv-loop μ-loop
+mul-below-along c = search needs
 
-shared-slice-read-below-on : tie.Need-shared-slice-read-below-on Inv-loop μ-loop
-shared-slice-read-below-on c = search needs
+shared-slice-read-below-along : tie.Need-shared-slice-read-below-along Inv-loop μ-loop
+shared-slice-read-below-along c = search needs
 
-mul-below-on-2 : tie.Need-mul-below-on-2 Inv-loop μ-loop
-mul-below-on-2 c = search needs
+mul-below-along-2 : tie.Need-mul-below-along-2 Inv-loop μ-loop
+mul-below-along-2 c = search needs
 
-shared-slice-read-below-on-2 : tie.Need-shared-slice-read-below-on-2 Inv-loop μ-loop
-shared-slice-read-below-on-2 c =
+shared-slice-read-below-along-2 : tie.Need-shared-slice-read-below-along-2 Inv-loop μ-loop
+shared-slice-read-below-along-2 c =
     let n = c .before .before .before .before .before in
     counter-there _ _ _ (n .before .before .before .before .pre) (n .before .loop .i) (n .loop-test .taken)
 
-mul-below-on-3 : tie.Need-mul-below-on-3 Inv-loop μ-loop
-mul-below-on-3 c = search needs
+mul-below-along-3 : tie.Need-mul-below-along-3 Inv-loop μ-loop
+mul-below-along-3 c = search needs
 
-shared-slice-copy-out-below-on : tie.Need-shared-slice-copy-out-below-on Inv-loop μ-loop
-shared-slice-copy-out-below-on c = search needs
+shared-slice-copy-out-below-along : tie.Need-shared-slice-copy-out-below-along Inv-loop μ-loop
+shared-slice-copy-out-below-along c = search needs
 
-below-on-requires : tie.Need-below-on-requires Inv-loop μ-loop
-below-on-requires c κs =
+below-along-requires : tie.Need-below-along-requires Inv-loop μ-loop
+below-along-requires c κs =
     let n = c .before .before .before .before .before .before in
     let l = n .before in
     let s = l .before .before .before in
@@ -76,24 +76,24 @@ below-on-requires c κs =
     let i = l .loop .i in
     let p = s .pre in
     let t = n .loop-test .taken in
-    (inside _ _ _ p i t, subst (λ (z : ℤ). (getD (a .extents .now) i 0 - 1) * natAbs z < 2 ^ 63) (sym (elem-read (a .strides .now) i (c .below-on-arg .given))) (way _ _ _ p i t))
+    (inside _ _ _ p i t, subst (λ (z : ℤ). (getD (a .extents .now) i 0 - 1) * natAbs z < 2 ^ 63) (sym (elem-read (a .strides .now) i (c .below-along-arg .given))) (way _ _ _ p i t))
 
 -- what a turn adds
-way-here : (c : tie.After-way-on Inv-loop μ-loop) → let l = c .before .before .before .before in
+way-here : (c : tie.After-way-along Inv-loop μ-loop) → let l = c .before .before .before .before in
     let a = l .before .before .before .args in
-    c .way-on .result ≡ (getD (a .extents .now) (l .loop .i) 0 - 1) * natAbs (getD (a .strides .now) (l .loop .i) (pos 0))
+    c .way-along .result ≡ (getD (a .extents .now) (l .loop .i) 0 - 1) * natAbs (getD (a .strides .now) (l .loop .i) (pos 0))
 way-here c =
     let l = c .before .before .before .before in
     let a = l .before .before .before .args in
-    c .way-on .ensures ∙ ap (λ (z : ℤ). (getD (a .extents .now) (l .loop .i) 0 - 1) * natAbs z) (elem-read (a .strides .now) (l .loop .i) (c .before .way-on-arg .given))
+    c .way-along .ensures ∙ ap (λ (z : ℤ). (getD (a .extents .now) (l .loop .i) 0 - 1) * natAbs z) (elem-read (a .strides .now) (l .loop .i) (c .before .way-along-arg .given))
 
-below-here : (c : tie.After-below-on Inv-loop μ-loop) → let l = c .before .before .before .before .before .before .before .before in
+below-here : (c : tie.After-below-along Inv-loop μ-loop) → let l = c .before .before .before .before .before .before .before .before in
     let a = l .before .before .before .args in
-    c .below-on .result ≡ belowTerm (getD (a .extents .now) (l .loop .i) 0) (getD (a .counters .now) (l .loop .i) 0) (getD (a .strides .now) (l .loop .i) (pos 0))
+    c .below-along .result ≡ belowTerm (getD (a .extents .now) (l .loop .i) 0) (getD (a .counters .now) (l .loop .i) 0) (getD (a .strides .now) (l .loop .i) (pos 0))
 below-here c =
     let l = c .before .before .before .before .before .before .before .before in
     let a = l .before .before .before .args in
-    c .below-on .ensures ∙ ap (belowTerm (getD (a .extents .now) (l .loop .i) 0) (getD (a .counters .now) (l .loop .i) 0)) (elem-read (a .strides .now) (l .loop .i) (c .before .below-on-arg .given))
+    c .below-along .ensures ∙ ap (belowTerm (getD (a .extents .now) (l .loop .i) 0) (getD (a .counters .now) (l .loop .i) 0)) (elem-read (a .strides .now) (l .loop .i) (c .before .below-along-arg .given))
 
 add-reach : tie.Need-add-reach Inv-loop μ-loop
 add-reach c =
@@ -136,18 +136,18 @@ span-of-spec =
     Inv-loop
     μ-loop
     loop-holds
-    mul-way-on
-    shared-slice-read-way-on
-    mul-way-on-2
-    shared-slice-copy-out-way-on
-    way-on-requires
-    mul-below-on
-    shared-slice-read-below-on
-    mul-below-on-2
-    shared-slice-read-below-on-2
-    mul-below-on-3
-    shared-slice-copy-out-below-on
-    below-on-requires
+    mul-way-along
+    shared-slice-read-way-along
+    mul-way-along-2
+    shared-slice-copy-out-way-along
+    way-along-requires
+    mul-below-along
+    shared-slice-read-below-along
+    mul-below-along-2
+    shared-slice-read-below-along-2
+    mul-below-along-3
+    shared-slice-copy-out-below-along
+    below-along-requires
     add-reach
     add-below
     add-i

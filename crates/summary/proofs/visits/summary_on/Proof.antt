@@ -59,7 +59,7 @@ abbrev In : Type 0
 In = tie.In-loop Inv-loop μ-loop
 
 abbrev Stretch : Type 0
-Stretch = tie.After-next-stretch Inv-loop μ-loop
+Stretch = tie.After-take-stretch Inv-loop μ-loop
 
 abbrev turn : Stretch → In
 turn c = c .before .before .before .before .before .before
@@ -81,7 +81,7 @@ stride-is : (c : tie.At-loop Inv-loop μ-loop) → toZ w64 (ofZ w64 (getD (entry
 stride-is c = toZ-ofZ (record { sfits = c .before .before .stride .given })
 
 abbrev firstIn : Stretch → List ℤ
-firstIn c = c .next-stretch .last .1 .1 .1 .1 .1 .1 .1 .1 .0
+firstIn c = c .take-stretch .last .1 .1 .1 .1 .1 .1 .1 .1 .0
 
 from-is : (c : tie.After-from Inv-loop μ-loop) → toZ w64 (ofZ w64 (getD (firstIn (c .before)) 0 (pos 0))) ≡ getD (firstIn (c .before)) 0 (pos 0)
 from-is c = toZ-ofZ (record { sfits = c .from .given })
@@ -127,8 +127,8 @@ loop-holds c =
     let s = z .before .before .before .before in
     rw (toZ-ofZ (s .fits .start)) (summing-start (s .pre) (some z) (widths-are v) (y .way-of .ensures) (c .nothing-met2 .ensures))
 
-next-stretch-requires : tie.Need-next-stretch-requires Inv-loop μ-loop
-next-stretch-requires c κs = summing-asks (runs (c .before .before .before .before .before))
+take-stretch-requires : tie.Need-take-stretch-requires Inv-loop μ-loop
+take-stretch-requires c κs = summing-asks (runs (c .before .before .before .before .before))
 
 array-copy-out-from : tie.Need-array-copy-out-from Inv-loop μ-loop
 array-copy-out-from c = search needs
@@ -138,25 +138,25 @@ with-blocks-requires c κs =
     let x = c .before in
     let i = turn x in
     let d = moved (i .before) .moves-of .ensures in
-    rw (from-is c, by-is (i .before), stride-is (i .before)) (summing-fit (runs i) (x .next-stretch .ensures) d, summing-rows (runs i) (x .next-stretch .ensures) d)
+    rw (from-is c, by-is (i .before), stride-is (i .before)) (summing-fit (runs i) (x .take-stretch .ensures) d, summing-rows (runs i) (x .take-stretch .ensures) d)
 
 add-number : tie.Need-add-number Inv-loop μ-loop
 add-number c =
     let x = c .before .before .before in
     let i = turn x in
-    record { fits = summing-number (runs i) (x .next-stretch .ensures) (moved (i .before) .moves-of .ensures) }
+    record { fits = summing-number (runs i) (x .take-stretch .ensures) (moved (i .before) .moves-of .ensures) }
 
 loop-less : tie.Need-loop-less Inv-loop μ-loop
 loop-less c =
     let x = c .before .before .before in
     let i = turn x in
-    summing-less (runs i) (x .next-stretch .ensures) (moved (i .before) .moves-of .ensures) (omega arith)
+    summing-less (runs i) (x .take-stretch .ensures) (moved (i .before) .moves-of .ensures) (omega arith)
 
 loop-again : tie.Need-loop-again Inv-loop μ-loop
 loop-again c =
     let x = c .before .before .before in
     let i = turn x in
-    summing-next (runs i) (x .next-stretch .ensures) (moved (i .before) .moves-of .ensures)
+    summing-next (runs i) (x .take-stretch .ensures) (moved (i .before) .moves-of .ensures)
     (rw (from-is (c .before .before), by-is (i .before), stride-is (i .before)) at (c .before .with-blocks .ensures))
 
 returns-2 : tie.Need-returns-2 Inv-loop μ-loop
@@ -182,7 +182,7 @@ summary-on-spec =
     array-set-from-o
     nothing-met-requires-2
     loop-holds
-    next-stretch-requires
+    take-stretch-requires
     array-copy-out-from
     with-blocks-requires
     add-number

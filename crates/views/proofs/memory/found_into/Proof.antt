@@ -9,8 +9,8 @@ use Rattle.views.proofs.Answers.{told-as, countable, visit-refused, vis
 use Rattle.views.proofs.memory.found_into.Statement.{statement}
 use Rattle.views.proofs.memory.found_into.Tie as tie
 
-told-at-requires : tie.Need-told-at-requires
-told-at-requires c κs =
+told-into-requires : tie.Need-told-into-requires
+told-into-requires c κs =
     let s = c .before .before .before .before .before .before in
     let a = s .args in
     let k = s .pre .1 in (
@@ -38,7 +38,7 @@ returns c =
     let o = c .before .before .before in
     let s = o .before .before .before .before .before .before .before in
     let a = s .args in
-    visit-refused _ _ (s .pre .1) refl (a .extents .now) (a .sizes .now) (a .strides .now) (a .purpose) (told-as (a .extents .now) (a .sizes .now) (a .strides .now) (a .purpose) (s .pre .0) (take (a .rank) (a .counters .now)) (c .before .told .given .1) (o .told-at .ensures)) _ _
+    visit-refused _ _ (s .pre .1) refl (a .extents .now) (a .sizes .now) (a .strides .now) (a .purpose) (told-as (a .extents .now) (a .sizes .now) (a .strides .now) (a .purpose) (s .pre .0) (take (a .rank) (a .counters .now)) (c .before .told .given .1) (o .told-into .ensures)) _ _
 
 returns-2 : tie.Need-returns-2
 returns-2 c =
@@ -47,13 +47,13 @@ returns-2 c =
     let o = e .before .before in
     let s = o .before .before .before .before .before .before .before in
     let a = s .args in
-    visit-block _ _ (s .pre .1) refl (a .extents .now) (a .sizes .now) (a .strides .now) (a .purpose) (told-as (a .extents .now) (a .sizes .now) (a .strides .now) (a .purpose) (s .pre .0) (take (a .rank) (a .counters .now)) (e .enum-told .given .1) (o .told-at .ensures)) (n .number-of .ensures) (c .block-into .ensures)
+    visit-block _ _ (s .pre .1) refl (a .extents .now) (a .sizes .now) (a .strides .now) (a .purpose) (told-as (a .extents .now) (a .sizes .now) (a .strides .now) (a .purpose) (s .pre .0) (take (a .rank) (a .counters .now)) (e .enum-told .given .1) (o .told-into .ensures)) (n .number-of .ensures) (c .block-into .ensures)
 
 pub found-into-spec : {M : Type 1} → statement M
 found-into-spec =
     tie.close
     (tie.spec
-    told-at-requires
+    told-into-requires
     enum-known-told
     enum-told
     number-of-requires

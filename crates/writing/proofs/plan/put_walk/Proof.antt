@@ -50,7 +50,7 @@ abbrev In : Type 0
 In = tie.In-loop Inv-loop μ-loop
 
 abbrev Stretch : Type 0
-Stretch = tie.After-next-stretch Inv-loop μ-loop
+Stretch = tie.After-take-stretch Inv-loop μ-loop
 
 abbrev turn : Stretch → In
 turn c = c .before .before .before .before .before .before
@@ -109,41 +109,41 @@ loop-holds c =
     let s = z .before .before .before .before in
     (walks-start (s .pre .0) (some z) (v .widths .ensures) (y .way-of .ensures) (c .tile-starts .ensures), begins s)
 
-next-stretch-requires : tie.Need-next-stretch-requires Inv-loop μ-loop
-next-stretch-requires c κs = walks-asks (runs (c .before .before .before .before .before))
+take-stretch-requires : tie.Need-take-stretch-requires Inv-loop μ-loop
+take-stretch-requires c κs = walks-asks (runs (c .before .before .before .before .before))
 
 put-stretch-requires : tie.Need-put-stretch-requires Inv-loop μ-loop
 put-stretch-requires c κs =
     let x = c .before .before in
     let i = turn x in
     let d = moved (i .before) .moves-of .ensures in
-    let s = x .next-stretch .ensures in
+    let s = x .take-stretch .ensures in
     (walks-fit (runs i) s d, (walks-number-fits (runs i) s d, walks-room (runs i) s d (i .before .loop .inv .1)))
 
 add-number : tie.Need-add-number Inv-loop μ-loop
 add-number c =
     let x = c .before .before .before .before .before .before in
     let i = turn x in
-    record { fits = walks-number-fits (runs i) (x .next-stretch .ensures) (moved (i .before) .moves-of .ensures) }
+    record { fits = walks-number-fits (runs i) (x .take-stretch .ensures) (moved (i .before) .moves-of .ensures) }
 
 mul-cells : tie.Need-mul-cells Inv-loop μ-loop
 mul-cells c =
     let x = c .before .before .before .before .before .before .before in
     let i = turn x in
-    let f = walks-cells-fit (runs i) (x .next-stretch .ensures) (moved (i .before) .moves-of .ensures) in
+    let f = walks-cells-fit (runs i) (x .take-stretch .ensures) (moved (i .before) .moves-of .ensures) in
     record { fits = omega (arith, f) }
 
 add-cells : tie.Need-add-cells Inv-loop μ-loop
 add-cells c =
     let x = c .before .before .before .before .before .before .before in
     let i = turn x in
-    record { fits = walks-cells-fit (runs i) (x .next-stretch .ensures) (moved (i .before) .moves-of .ensures) }
+    record { fits = walks-cells-fit (runs i) (x .take-stretch .ensures) (moved (i .before) .moves-of .ensures) }
 
 loop-less : tie.Need-loop-less Inv-loop μ-loop
 loop-less c =
     let x = c .before .before .before .before .before .before .before in
     let i = turn x in
-    walks-less (runs i) (x .next-stretch .ensures) (moved (i .before) .moves-of .ensures) (omega arith)
+    walks-less (runs i) (x .take-stretch .ensures) (moved (i .before) .moves-of .ensures) (omega arith)
 
 loop-again : tie.Need-loop-again Inv-loop μ-loop
 loop-again c =
@@ -151,7 +151,7 @@ loop-again c =
     let x = p .before .before .before in
     let i = turn x in
     let d = moved (i .before) .moves-of .ensures in
-    (walks-next (runs i) (x .next-stretch .ensures) d, walks-put (runs i) (x .next-stretch .ensures) d (i .before .loop .inv .1) (p .put-stretch .ensures))
+    (walks-next (runs i) (x .take-stretch .ensures) d, walks-put (runs i) (x .take-stretch .ensures) d (i .before .loop .inv .1) (p .put-stretch .ensures))
 
 put-end-requires-2 : tie.Need-put-end-requires-2 Inv-loop μ-loop
 put-end-requires-2 c κs =
@@ -187,7 +187,7 @@ put-walk-spec =
     moves-of-requires
     tile-starts-requires
     loop-holds
-    next-stretch-requires
+    take-stretch-requires
     put-stretch-requires
     add-number
     mul-cells

@@ -45,7 +45,7 @@ abbrev start : In → tie.Start Inv-loop μ-loop
 start c = moved c .before .before .before .before .before .before .before
 
 abbrev Stretch : Type 0
-Stretch = tie.After-next-stretch Inv-loop μ-loop
+Stretch = tie.After-take-stretch Inv-loop μ-loop
 
 abbrev turn : Stretch → In
 turn c = c .before .before .before .before .before .before
@@ -99,14 +99,14 @@ loop-holds c =
     let k = z .before .before .before .pre in
     (walks-start (k .0) (some z) (v .widths .ensures) (y .way-of .ensures) (c .tile-starts .ensures), refl, k .1)
 
-next-stretch-requires : tie.Need-next-stretch-requires Inv-loop μ-loop
-next-stretch-requires c κs = let i = c .before .before .before .before .before in walks-asks (runs i)
+take-stretch-requires : tie.Need-take-stretch-requires Inv-loop μ-loop
+take-stretch-requires c κs = let i = c .before .before .before .before .before in walks-asks (runs i)
 
 stretch-len-requires : tie.Need-stretch-len-requires Inv-loop μ-loop
 stretch-len-requires c κs =
     let x = c .before in
     let i = turn x in
-    (walks-fit (runs i) (x .next-stretch .ensures) (moved i .moves-of .ensures), (walks-number-fits (runs i) (x .next-stretch .ensures) (moved i .moves-of .ensures), i .before .loop .inv .2))
+    (walks-fit (runs i) (x .take-stretch .ensures) (moved i .moves-of .ensures), (walks-number-fits (runs i) (x .take-stretch .ensures) (moved i .moves-of .ensures), i .before .loop .inv .2))
 
 enum-known-n : tie.Need-enum-known-n Inv-loop μ-loop
 enum-known-n c = search needs
@@ -118,40 +118,40 @@ returns-2 : tie.Need-returns-2 Inv-loop μ-loop
 returns-2 c =
     let m = c .before .before in
     let i = turn (stride m) in
-    walks-over (runs i) (stride m .next-stretch .ensures) (moved i .moves-of .ensures) (i .before .loop .total) (start i .args .limit) (i .before .loop .inv .1) (m .stretch-len .ensures) (c .enum-told .given .1)
+    walks-over (runs i) (stride m .take-stretch .ensures) (moved i .moves-of .ensures) (i .before .loop .total) (start i .args .limit) (i .before .loop .inv .1) (m .stretch-len .ensures) (c .enum-told .given .1)
 
 add-blocks : tie.Need-add-blocks Inv-loop μ-loop
 add-blocks c =
     let x = stride (c .before .before .before .before) in
     let i = turn x in
-    record { fits = walks-number-fits (runs i) (x .next-stretch .ensures) (moved i .moves-of .ensures) }
+    record { fits = walks-number-fits (runs i) (x .take-stretch .ensures) (moved i .moves-of .ensures) }
 
 mul-cells : tie.Need-mul-cells Inv-loop μ-loop
 mul-cells c =
     let x = stride (c .before .before .before .before .before) in
     let i = turn x in
-    let f = walks-cells-fit (runs i) (x .next-stretch .ensures) (moved i .moves-of .ensures) in
+    let f = walks-cells-fit (runs i) (x .take-stretch .ensures) (moved i .moves-of .ensures) in
     record { fits = omega (arith, f) }
 
 add-cells : tie.Need-add-cells Inv-loop μ-loop
 add-cells c =
     let x = stride (c .before .before .before .before .before) in
     let i = turn x in
-    record { fits = walks-cells-fit (runs i) (x .next-stretch .ensures) (moved i .moves-of .ensures) }
+    record { fits = walks-cells-fit (runs i) (x .take-stretch .ensures) (moved i .moves-of .ensures) }
 
 loop-less : tie.Need-loop-less Inv-loop μ-loop
 loop-less c =
     let x = stride (c .before .before .before .before .before) in
     let i = turn x in
-    walks-less (runs i) (x .next-stretch .ensures) (moved i .moves-of .ensures) (omega arith)
+    walks-less (runs i) (x .take-stretch .ensures) (moved i .moves-of .ensures) (omega arith)
 
 loop-again : tie.Need-loop-again Inv-loop μ-loop
 loop-again c =
     let m = c .before .before .before .before .before in
     let x = stride m in
     let i = turn x in
-    let k = walks-within (runs i) (x .next-stretch .ensures) (moved i .moves-of .ensures) (i .before .loop .total) (start i .args .limit) (i .before .loop .inv .1) (m .stretch-len .ensures) _ (c .before .before .before .n .given .1) in
-    (walks-next (runs i) (x .next-stretch .ensures) (moved i .moves-of .ensures), k .0, k .1)
+    let k = walks-within (runs i) (x .take-stretch .ensures) (moved i .moves-of .ensures) (i .before .loop .total) (start i .args .limit) (i .before .loop .inv .1) (m .stretch-len .ensures) _ (c .before .before .before .n .given .1) in
+    (walks-next (runs i) (x .take-stretch .ensures) (moved i .moves-of .ensures), k .0, k .1)
 
 end-within-requires-2 : tie.Need-end-within-requires-2 Inv-loop μ-loop
 end-within-requires-2 c κs = c .before .loop .inv .2
@@ -175,7 +175,7 @@ walk-len-spec =
     moves-of-requires
     tile-starts-requires
     loop-holds
-    next-stretch-requires
+    take-stretch-requires
     stretch-len-requires
     enum-known-n
     enum-told

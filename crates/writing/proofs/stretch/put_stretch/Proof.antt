@@ -57,8 +57,8 @@ put-block-requires c κs =
 add-j : tie.Need-add-j Inv-loop μ-loop
 add-j c = record { fits = let i = turn c in let h = start i .pre .1 .0 in let t = i .loop-test .taken in omega (arith, h, t) }
 
-move-on-requires : tie.Need-move-on-requires Inv-loop μ-loop
-move-on-requires c κs =
+move-by-requires : tie.Need-move-by-requires Inv-loop μ-loop
+move-by-requires c κs =
     let i = turn (c .before .before) in
     may-on (start i .pre .0) (i .before .loop .inv .0) (i .loop-test .taken) (c .before .if1 .taken)
 
@@ -71,7 +71,7 @@ loop-again c =
     let i = turn w in
     let k = i .before .loop .inv in
     let f = start i .pre .0 in
-    (before-next f (k .0) (i .loop-test .taken) (c .move-on .ensures), row-put f (k .0) (i .loop-test .taken) _ (start i .args .number) (k .1) (w .before .before .put-block .ensures))
+    (before-next f (k .0) (i .loop-test .taken) (c .move-by .ensures), row-put f (k .0) (i .loop-test .taken) _ (start i .args .number) (k .1) (w .before .before .put-block .ensures))
 
 loop-less-2 : tie.Need-loop-less-2 Inv-loop μ-loop
 loop-less-2 c = let t = turn (c .before) .loop-test .taken in omega (arith, t)
@@ -105,7 +105,7 @@ put-stretch-spec =
     slice-aggregate-put-block
     put-block-requires
     add-j
-    move-on-requires
+    move-by-requires
     loop-less
     loop-again
     loop-less-2

@@ -83,8 +83,8 @@ add-total c = search needs
 add-j : tie.Need-add-j Inv-loop μ-loop
 add-j c = record { fits = let i = turn c in let h = i .before .before .pre .1 .0 in let t = i .loop-test .taken in omega (arith, h, t) }
 
-move-on-requires : tie.Need-move-on-requires Inv-loop μ-loop
-move-on-requires c κs =
+move-by-requires : tie.Need-move-by-requires Inv-loop μ-loop
+move-by-requires c κs =
     let i = turn (c .before .before) in
     may-on (fit i) (i .before .loop .inv .0) (i .loop-test .taken) (c .before .if2 .taken)
 
@@ -96,7 +96,7 @@ loop-again c =
     let w = c .before .before .before in
     let i = turn w in
     let s = sums w in
-    (before-next (fit i) (i .before .loop .inv .0) (i .loop-test .taken) (c .move-on .ensures), s .0, s .1)
+    (before-next (fit i) (i .before .loop .inv .0) (i .loop-test .taken) (c .move-by .ensures), s .0, s .1)
 
 loop-less-2 : tie.Need-loop-less-2 Inv-loop μ-loop
 loop-less-2 c = let t = turn (c .before) .loop-test .taken in omega (arith, t)
@@ -131,7 +131,7 @@ stretch-len-spec =
     returns
     add-total
     add-j
-    move-on-requires
+    move-by-requires
     loop-less
     loop-again
     loop-less-2
