@@ -10,8 +10,8 @@ use lib.Arith.{digits-div}
 use lib.ListN.{getD}
 use lib.Dec.{ltb}
 use borrow.Author.Tests.{ltb-true, lt-ltb, le-ltb, ne-eqb}
-use Rattle.advance.specs.declared.Aim.{Aim}
-use Rattle.advance.specs.Axis.{startOf, insideAim, tileAim, aimOf, ahead, back}
+use Rattle.advance.specs.declared.Goal.{Goal}
+use Rattle.advance.specs.Axis.{startOf, insideGoal, tileGoal, goalOf, ahead, back}
 use Rattle.advance.specs.Blocks.{lengthOf}
 
 -- of a choice by a test, what holds in both cases, where each may use what the test says
@@ -58,7 +58,7 @@ start-tile w at h =
 -- ---- where an axis goes
 
 -- below its extent, with the start of the tile that it is then in
-pub record Lands (extent w : ℕ) (a : Aim) : Type 0 where
+pub record Lands (extent w : ℕ) (a : Goal) : Type 0 where
   pub below : a .to < extent
   pub start : a .start ≡ startOf w (a .to)
 
@@ -66,8 +66,8 @@ module _ (extent w at : ℕ) (pos : 0 < w) (h : at < extent) where
   back-lands : Lands extent w (back (startOf w at))
   back-lands = record { below = lt-of-le-of-lt (div-mul-le-self at w) h; start = sym (start-start w at pos) }
 
-  inside-lands : Lands extent w (insideAim extent w at)
-  unfolding insideAim
+  inside-lands : Lands extent w (insideGoal extent w at)
+  unfolding insideGoal
   inside-lands =
       by-test (Lands extent w) (ltb (at - startOf w at) (w - 1)) (cond (ltb at (extent - 1)) (ahead (at + 1) (startOf w at)) (back (startOf w at))) (back (startOf w at))
       (λ u. by-test (Lands extent w) (ltb at (extent - 1)) (ahead (at + 1) (startOf w at)) (back (startOf w at))
@@ -75,17 +75,17 @@ module _ (extent w at : ℕ) (pos : 0 < w) (h : at < extent) where
       (λ v. back-lands))
       (λ u. back-lands)
 
-  tile-lands : Lands extent w (tileAim extent w at)
-  unfolding tileAim
+  tile-lands : Lands extent w (tileGoal extent w at)
+  unfolding tileGoal
   tile-lands =
       by-test (Lands extent w) (ltb w (extent - startOf w at)) (ahead (startOf w at + w) (startOf w at + w)) (back 0)
       (λ u. record { below = omega (arith, ltb-true w (extent - startOf w at) u); start = sym (start-tile w at pos) })
       (λ u. record { below = omega arith; start = sym (start-zero w) })
 
-  pub aim-lands : (inside : Bool) → Lands extent w (aimOf inside extent w at)
-  unfolding aimOf
-  aim-lands true = inside-lands
-  aim-lands false = tile-lands
+  pub goal-lands : (inside : Bool) → Lands extent w (goalOf inside extent w at)
+  unfolding goalOf
+  goal-lands true = inside-lands
+  goal-lands false = tile-lands
 
 -- ---- the length of a block
 
@@ -101,32 +101,32 @@ module _ (rank : ℕ) (e w c : List ℕ) (nz : rank ≡ 0 → ⊥) where
 -- ---- the aims, by the tests that led there; s is the tile's start as it is kept
 
 module _ (extent w s at : ℕ) (is : s ≡ startOf w at) where
-  pub inside-ahead : at - s < w - 1 → at < extent - 1 → ahead (at + 1) s ≡ insideAim extent w at
-  unfolding insideAim
+  pub inside-ahead : at - s < w - 1 → at < extent - 1 → ahead (at + 1) s ≡ insideGoal extent w at
+  unfolding insideGoal
   inside-ahead p q =
       let p′ : at - startOf w at < w - 1 = subst (λ (n : ℕ). at - n < w - 1) is p in
       ap (ahead (at + 1)) is ∙ sym (simp (lt-ltb _ _ p′, lt-ltb _ _ q))
 
-  pub inside-last : at - s < w - 1 → extent - 1 ≤ at → back s ≡ insideAim extent w at
-  unfolding insideAim
+  pub inside-last : at - s < w - 1 → extent - 1 ≤ at → back s ≡ insideGoal extent w at
+  unfolding insideGoal
   inside-last p q =
       let p′ : at - startOf w at < w - 1 = subst (λ (n : ℕ). at - n < w - 1) is p in
       ap back is ∙ sym (simp (lt-ltb _ _ p′, le-ltb _ _ q))
 
-  pub inside-back : w - 1 ≤ at - s → back s ≡ insideAim extent w at
-  unfolding insideAim
+  pub inside-back : w - 1 ≤ at - s → back s ≡ insideGoal extent w at
+  unfolding insideGoal
   inside-back p =
       let p′ : w - 1 ≤ at - startOf w at = subst (λ (n : ℕ). w - 1 ≤ at - n) is p in
       ap back is ∙ sym (simp (le-ltb _ _ p′))
 
-  pub tile-ahead : w < extent - s → ahead (s + w) (s + w) ≡ tileAim extent w at
-  unfolding tileAim
+  pub tile-ahead : w < extent - s → ahead (s + w) (s + w) ≡ tileGoal extent w at
+  unfolding tileGoal
   tile-ahead p =
       let p′ : w < extent - startOf w at = subst (λ (n : ℕ). w < extent - n) is p in
       ap (λ (n : ℕ). ahead (n + w) (n + w)) is ∙ sym (simp (lt-ltb _ _ p′))
 
-  pub tile-back : extent - s ≤ w → back 0 ≡ tileAim extent w at
-  unfolding tileAim
+  pub tile-back : extent - s ≤ w → back 0 ≡ tileGoal extent w at
+  unfolding tileGoal
   tile-back p =
       let p′ : extent - startOf w at ≤ w = subst (λ (n : ℕ). extent - n ≤ w) is p in
       sym (simp (le-ltb _ _ p′))

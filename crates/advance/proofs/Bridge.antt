@@ -19,7 +19,7 @@ use Rattle.laws.specs.Walk.States.{Inside, Wide}
 use Rattle.laws.specs.Walk.Cuts.{length-zeros}
 use Rattle.laws.specs.Base.Arrays.{length-padded, take-counted}
 use Rattle.advance.specs.Filled.{set-self}
-use Rattle.advance.specs.Axis.{startOf, ahead, back, insideAim, tileAim, aimOf}
+use Rattle.advance.specs.Axis.{startOf, ahead, back, insideGoal, tileGoal, goalOf}
 use Rattle.advance.specs.Carry.{Carried, carryOf, nextOf}
 
 -- ---- a list out of an array, and over an array
@@ -93,9 +93,9 @@ div-le : (k w : ℕ) → k / w * w ≤ k
 div-le k w = let h = div-add-mod' k w in omega (arith, h)
 
 inside-step : (e w k : ℕ) → 0 < w → k < e
-    → ((nextIn (k / w * w + lenAt e w (k / w * w)) k ≡ some (suc k)) × (insideAim e w k ≡ ahead (k + 1) (startOf w k)))
-    ⊎ ((nextIn (k / w * w + lenAt e w (k / w * w)) k ≡ none) × (insideAim e w k ≡ back (k / w * w)))
-unfolding insideAim
+    → ((nextIn (k / w * w + lenAt e w (k / w * w)) k ≡ some (suc k)) × (insideGoal e w k ≡ ahead (k + 1) (startOf w k)))
+    ⊎ ((nextIn (k / w * w + lenAt e w (k / w * w)) k ≡ none) × (insideGoal e w k ≡ back (k / w * w)))
+unfolding insideGoal
 inside-step e w k hw hk = go (ltb (k - s) (w - 1)) refl (ltb k (e - 1)) refl
   where
     s : ℕ
@@ -114,7 +114,7 @@ inside-step e w k hw hk = go (ltb (k - s) (w - 1)) refl (ltb k (e - 1)) refl
 inner-carry : (e ws : List ℕ) (n i : ℕ) (c : List ℕ) → Wide (axesAt e ws i n) → Inside (axesAt e ws i n) (from c i n) → i + n ≤ length c
     → carryOf true e ws n i c
     ≡ laid c i (tileOf (axesAt e ws i n) (from c i n)) (nextInner (axesAt e ws i n) (tileOf (axesAt e ws i n) (from c i n)) (from c i n))
-unfolding carryOf aimOf
+unfolding carryOf goalOf
 inner-carry e ws zero i c wd h l = refl
 inner-carry e ws (suc n) i c wd h l = go (inside-step x w k (wd .0) (h .0)) (inner-carry e ws n (suc i) (set c i s) (wd .1))
   where
@@ -153,8 +153,8 @@ inner-carry e ws (suc n) i c wd h l = go (inside-step x w k (wd .0) (h .0)) (inn
     behind none = refl
     behind (some u) = refl
 
-    go : ((nextIn (s + lenAt x w s) k ≡ some (suc k)) × (insideAim x w k ≡ ahead (k + 1) s)) ⊎ ((nextIn (s + lenAt x w s) k ≡ none) × (insideAim x w k ≡ back s)) → Hyp
-        → cond (insideAim x w k .more) (record { more = true; counters = set c i (insideAim x w k .to) }) (carryOf true e ws n (suc i) (set c i (insideAim x w k .to)))
+    go : ((nextIn (s + lenAt x w s) k ≡ some (suc k)) × (insideGoal x w k ≡ ahead (k + 1) s)) ⊎ ((nextIn (s + lenAt x w s) k ≡ none) × (insideGoal x w k ≡ back s)) → Hyp
+        → cond (insideGoal x w k .more) (record { more = true; counters = set c i (insideGoal x w k .to) }) (carryOf true e ws n (suc i) (set c i (insideGoal x w k .to)))
         ≡ laid c i (s ∷ tileOf axs v) (orElse (orElse none (λ v′. s ∷ v′) (nextInner axs (tileOf axs v) v)) (λ k′. k′ ∷ v) (nextIn (s + lenAt x w s) k))
     go (inl p) ih =
         rw (p .0, p .1) (ap {B = Carried} (λ (u : List ℕ). record { more = true; counters = u }) (ap (set c i) (add-one k) ∙ sym (overlay-set c i (suc k) n l)))
@@ -163,8 +163,8 @@ inner-carry e ws (suc n) i c wd h l = go (inside-step x w k (wd .0) (h .0)) (inn
 -- ---- from tile to tile
 
 tile-step : (e w s : ℕ) → startOf w s ≡ s
-    → ((nextStart e w s ≡ some (s + w)) × (tileAim e w s ≡ ahead (s + w) (s + w))) ⊎ ((nextStart e w s ≡ none) × (tileAim e w s ≡ back 0))
-unfolding tileAim
+    → ((nextStart e w s ≡ some (s + w)) × (tileGoal e w s ≡ ahead (s + w) (s + w))) ⊎ ((nextStart e w s ≡ none) × (tileGoal e w s ≡ back 0))
+unfolding tileGoal
 tile-step e w s q = rw q (go (ltb w (e - s)) refl)
   where
     go : (a : Bool) → ltb w (e - s) ≡ a
@@ -175,7 +175,7 @@ tile-step e w s q = rw q (go (ltb w (e - s)) refl)
 -- every axis stands where its tile starts
 tile-carry : (e ws : List ℕ) (n i : ℕ) (c : List ℕ) → tileOf (axesAt e ws i n) (from c i n) ≡ from c i n → i + n ≤ length c
     → carryOf false e ws n i c ≡ laid c i (zeros (axesAt e ws i n)) (nextTile (axesAt e ws i n) (from c i n))
-unfolding carryOf aimOf
+unfolding carryOf goalOf
 tile-carry e ws zero i c on l = refl
 tile-carry e ws (suc n) i c on l =
     let here : startOf w k ≡ k = cc in
@@ -212,8 +212,8 @@ tile-carry e ws (suc n) i c on l =
     behind none = refl
     behind (some u) = refl
 
-    go : ((nextStart x w k ≡ some (k + w)) × (tileAim x w k ≡ ahead (k + w) (k + w))) ⊎ ((nextStart x w k ≡ none) × (tileAim x w k ≡ back 0)) → Hyp
-        → cond (tileAim x w k .more) (record { more = true; counters = set c i (tileAim x w k .to) }) (carryOf false e ws n (suc i) (set c i (tileAim x w k .to)))
+    go : ((nextStart x w k ≡ some (k + w)) × (tileGoal x w k ≡ ahead (k + w) (k + w))) ⊎ ((nextStart x w k ≡ none) × (tileGoal x w k ≡ back 0)) → Hyp
+        → cond (tileGoal x w k .more) (record { more = true; counters = set c i (tileGoal x w k .to) }) (carryOf false e ws n (suc i) (set c i (tileGoal x w k .to)))
         ≡ laid c i (0 ∷ zeros axs) (orElse (orElse none (λ t. 0 ∷ t) (nextTile axs v)) (λ s. s ∷ v) (nextStart x w k))
     go (inl p) ih = rw (p .0, p .1) (ap {B = Carried} (λ (u : List ℕ). record { more = true; counters = u }) (sym (overlay-set c i (k + w) n l)))
     go (inr p) ih = rw (p .0, p .1) (rest ih ∙ behind (nextTile axs v))

@@ -10,12 +10,12 @@ use lib.IntN.{ℤ, pos}
 use lib.ListN.{length, getD, set, length-set}
 use lib.Seq.{getD-set-same, getD-set-other, set-getD}
 use borrow.Author.Tests.{le-ltb}
-use Rattle.advance.specs.declared.Aim.{Aim}
-use Rattle.advance.specs.Axis.{startOf, back, insideAim, aimOf}
+use Rattle.advance.specs.declared.Goal.{Goal}
+use Rattle.advance.specs.Axis.{startOf, back, insideGoal, goalOf}
 use Rattle.advance.specs.Moves.{shifted, movedAt, Shifts}
 use Rattle.advance.specs.Carry.{Carried, carryOf, startAt, nextOf, Roomy, Tiled, Single, CarriedTo, WentAhead, AdvancedTo}
 use Rattle.advance.specs.Filled.{by-lt, filled-above}
-use Rattle.advance.proofs.Axis.{start-one, Lands, aim-lands}
+use Rattle.advance.proofs.Axis.{start-one, Lands, goal-lands}
 use Rattle.advance.proofs.Dot.{roomy-shifts, roomy-moved, start-stays}
 
 -- a counter and its tile's start are set together
@@ -39,8 +39,8 @@ tiled-set rank w c t lc a p i v s h e =
     here j q = subst (λ (k : ℕ). getD (set t i s) k 0 ≡ startOf (getD w k 0) (getD (set c i v) k 0)) q at
 
 module _ (inside : Bool) (first last rank operands : ℕ) (e w : List ℕ) (s : List ℤ) (c₀ : List ℕ) (o₀ : List ℤ) where
-  abbrev aimAt : ℕ → List ℕ → Aim
-  aimAt i c = aimOf inside (getD e i 0) (getD w i 0) (getD c i 0)
+  abbrev goalAt : ℕ → List ℕ → Goal
+  goalAt i c = goalOf inside (getD e i 0) (getD w i 0) (getD c i 0)
 
   -- before a turn: the offsets have room, the starts are as they were, and the carry that is left gives what the whole one does
   pub record Before (i : ℕ) (t c : List ℕ) (o : List ℤ) : Type 0 where
@@ -72,12 +72,12 @@ module _ (inside : Bool) (first last rank operands : ℕ) (e w : List ℕ) (s : 
       turn : i < rank
       turn = omega arith
 
-      lands : Lands (getD e i 0) (getD w i 0) (aimAt i c)
-      lands = aim-lands (getD e i 0) (getD w i 0) (getD c i 0) (p .tiled .wide i turn) (p .roomy .within i turn) inside
+      lands : Lands (getD e i 0) (getD w i 0) (goalAt i c)
+      lands = goal-lands (getD e i 0) (getD w i 0) (getD c i 0) (p .tiled .wide i turn) (p .roomy .within i turn) inside
 
-      module _ (a : Aim) (is-aim : a ≡ aimAt i c) where
+      module _ (a : Goal) (is-goal : a ≡ goalAt i c) where
         lands-at : Lands (getD e i 0) (getD w i 0) a
-        lands-at = subst (Lands (getD e i 0) (getD w i 0)) (sym is-aim) lands
+        lands-at = subst (Lands (getD e i 0) (getD w i 0)) (sym is-goal) lands
 
         -- what `shift` asks
         pub shifts-at : Shifts operands i (getD c i 0) (a .to) s o
@@ -93,7 +93,7 @@ module _ (inside : Bool) (first last rank operands : ℕ) (e w : List ℕ) (s : 
         carry-more : (b : Bool) → a .more ≡ b
             → cond b (record { more = true; counters = set c i (a .to) }) (carryOf inside e w (last - (i + 1)) (suc i) (set c i (a .to))) ≡ carryOf inside e w (last - i) i c
         unfolding carryOf
-        carry-more b h = rw (left, sym is-aim, h)
+        carry-more b h = rw (left, sym is-goal, h)
 
         tiled-at : Tiled rank w (set c i (a .to)) (set t i (a .start))
         tiled-at = tiled-set rank w c t (p .roomy .counted) (p .roomy .axes) (p .tiled) i (a .to) (a .start) turn (lands-at .start)
@@ -136,10 +136,10 @@ module _ (inside : Bool) (first last rank operands : ℕ) (e w : List ℕ) (s : 
 -- ---- one axis alone
 
 module _ {axis rank operands : ℕ} {e w : List ℕ} {s : List ℤ} {t c : List ℕ} {o : List ℤ} (r : Roomy rank operands e s c o) (d : Tiled rank w c t) (h : axis < rank)
-    {a : Aim} (is-aim : a ≡ insideAim (getD e axis 0) (getD w axis 0) (getD c axis 0)) where
-  aims : a ≡ aimOf true (getD e axis 0) (getD w axis 0) (getD c axis 0)
-  unfolding aimOf
-  aims = is-aim
+    {a : Goal} (is-goal : a ≡ insideGoal (getD e axis 0) (getD w axis 0) (getD c axis 0)) where
+  aims : a ≡ goalOf true (getD e axis 0) (getD w axis 0) (getD c axis 0)
+  unfolding goalOf
+  aims = is-goal
 
   -- what `shift` asks
   pub shifts-ahead : Shifts operands axis (getD c axis 0) (a .to) s o
@@ -167,12 +167,12 @@ single-more n rank w s h e =
       one = λ i p q. by-lt i n (λ l. subst (λ (j : ℕ). getD w j 0 ≡ 1) (let g : n - 1 ≡ i = omega arith in g) e) (λ l. s .one i l q);
     }
 
-still-aim : (extent at : ℕ) → aimOf true extent 1 at ≡ back at
-unfolding aimOf insideAim
-still-aim extent at = rw (start-one at, le-ltb (at - at) (1 - 1) (omega arith))
+still-goal : (extent at : ℕ) → goalOf true extent 1 at ≡ back at
+unfolding goalOf insideGoal
+still-goal extent at = rw (start-one at, le-ltb (at - at) (1 - 1) (omega arith))
 
 -- a carry passes over axes that aim at where they are
-pub passed : (inside : Bool) (e w : List ℕ) (m n i : ℕ) (c : List ℕ) → ((j : ℕ) → i ≤ j → j < i + m → aimOf inside (getD e j 0) (getD w j 0) (getD c j 0) ≡ back (getD c j 0))
+pub passed : (inside : Bool) (e w : List ℕ) (m n i : ℕ) (c : List ℕ) → ((j : ℕ) → i ≤ j → j < i + m → goalOf inside (getD e j 0) (getD w j 0) (getD c j 0) ≡ back (getD c j 0))
     → carryOf inside e w (m + n) i c ≡ carryOf inside e w n (i + m) c
 unfolding carryOf
 passed inside e w zero n i c h = let a : 0 + n ≡ n = omega arith in let b : i ≡ i + 0 = omega arith in ap₂ (λ (x y : ℕ). carryOf inside e w x y c) a b
@@ -186,7 +186,7 @@ module _ (e w : List ℕ) where
   -- inside a tile, over axes whose blocks are 1
   pub passed-single : (m n i : ℕ) (c : List ℕ) → ((j : ℕ) → i ≤ j → j < i + m → getD w j 0 ≡ 1) → carryOf true e w (m + n) i c ≡ carryOf true e w n (i + m) c
   passed-single m n i c h =
-      passed true e w m n i c (λ j p q. ap (λ (v : ℕ). aimOf true (getD e j 0) v (getD c j 0)) (h j p q) ∙ still-aim (getD e j 0) (getD c j 0))
+      passed true e w m n i c (λ j p q. ap (λ (v : ℕ). goalOf true (getD e j 0) v (getD c j 0)) (h j p q) ∙ still-goal (getD e j 0) (getD c j 0))
 
   pub inner-only : (m n i : ℕ) (c : List ℕ) → ((j : ℕ) → i + m ≤ j → j < i + m + n → getD w j 0 ≡ 1) → carryOf true e w m i c ≡ carryOf true e w (m + n) i c
   unfolding carryOf
@@ -195,7 +195,7 @@ module _ (e w : List ℕ) where
       sym (ap (λ (k : ℕ). carryOf true e w k i c) z ∙ passed-single n 0 i c (λ j p q. h j (omega arith) (omega arith)))
   inner-only (suc m) n i c h =
       let z : suc m + n ≡ suc (m + n) = omega arith in
-      let a : Aim = aimOf true (getD e i 0) (getD w i 0) (getD c i 0) in
+      let a : Goal = goalOf true (getD e i 0) (getD w i 0) (getD c i 0) in
       rw z (ap (λ (r : Carried). cond (a .more) (record { more = true; counters = set c i (a .to) }) r)
       (inner-only m n (suc i) (set c i (a .to)) (λ j p q. h j (omega arith) (omega arith))))
 

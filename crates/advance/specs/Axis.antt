@@ -6,7 +6,7 @@ use Prim.Native.Nat.{ℕ, _+_, _-_, _*_, _/_}
 use lib.Dec.{ltb, leb, eqb}
 use lib.ListN.{getD, replicate}
 use Rattle.strided.specs.Walk.{effective}
-use Rattle.advance.specs.declared.Aim.{Aim}
+use Rattle.advance.specs.declared.Goal.{Goal}
 use Rattle.advance.specs.Filled.{filledTo}
 
 -- from rank 9 only axis 0 is cut
@@ -32,20 +32,20 @@ abbrev pub startsTo : List ℕ → List ℕ → ℕ → List ℕ
 startsTo w c n = filledTo (replicate 64 0) (tileAt w c) n
 
 -- the counter goes ahead to a place, or back to one
-abbrev pub ahead : ℕ → ℕ → Aim
+abbrev pub ahead : ℕ → ℕ → Goal
 ahead n s = record { more = true; to = n; start = s }
 
-abbrev pub back : ℕ → Aim
+abbrev pub back : ℕ → Goal
 back s = record { more = false; to = s; start = s }
 
 -- inside a tile: one ahead, or back to the tile's start
-unfoldable pub insideAim : ℕ → ℕ → ℕ → Aim
-insideAim extent w at =
+unfoldable pub insideGoal : ℕ → ℕ → ℕ → Goal
+insideGoal extent w at =
     cond (ltb (at - startOf w at) (w - 1)) (cond (ltb at (extent - 1)) (ahead (at + 1) (startOf w at)) (back (startOf w at))) (back (startOf w at))
 
 -- from tile to tile: a block ahead, or back to 0
-unfoldable pub tileAim : ℕ → ℕ → ℕ → Aim
-tileAim extent w at = cond (ltb w (extent - startOf w at)) (ahead (startOf w at + w) (startOf w at + w)) (back 0)
+unfoldable pub tileGoal : ℕ → ℕ → ℕ → Goal
+tileGoal extent w at = cond (ltb w (extent - startOf w at)) (ahead (startOf w at + w) (startOf w at + w)) (back 0)
 
-unfoldable pub aimOf : Bool → ℕ → ℕ → ℕ → Aim
-aimOf inside extent w at = cond inside (insideAim extent w at) (tileAim extent w at)
+unfoldable pub goalOf : Bool → ℕ → ℕ → ℕ → Goal
+goalOf inside extent w at = cond inside (insideGoal extent w at) (tileGoal extent w at)

@@ -8,8 +8,8 @@ use lib.IntN.{ℤ, pos, natAbs, _+ℤ_, _-ℤ_, _*ℤ_}
 use lib.ListN.{length, getD, set}
 use mir.Syntax.{w64}
 use mir.Val.{SFits}
-use Rattle.advance.specs.declared.Aim.{Aim}
-use Rattle.advance.specs.Axis.{startOf, aimOf}
+use Rattle.advance.specs.declared.Goal.{Goal}
+use Rattle.advance.specs.Axis.{startOf, goalOf}
 
 pub record Carried : Type 0 where
   pub more : Bool
@@ -19,7 +19,7 @@ pub record Carried : Type 0 where
 unfoldable pub carryOf : Bool → List ℕ → List ℕ → ℕ → ℕ → List ℕ → Carried
 carryOf inside e w zero i c = record { more = false; counters = c }
 carryOf inside e w (suc n) i c =
-    let a : Aim = aimOf inside (getD e i 0) (getD w i 0) (getD c i 0) in
+    let a : Goal = goalOf inside (getD e i 0) (getD w i 0) (getD c i 0) in
     cond (a .more) (record { more = true; counters = set c i (a .to) }) (carryOf inside e w n (suc i) (set c i (a .to)))
 
 -- the next block: a step inside the tile, or else the next tile

@@ -5,7 +5,7 @@ ghost use Prim.Native.Nat.{ℕ, _<_, _≤_};
 ghost use lib.ListN.{getD, replicate};
 ghost use Rattle.strided.specs.Walk.{effective};
 ghost use Rattle.advance.specs.Moves.{Moves, afterMove, Shifts, shifted};
-ghost use Rattle.advance.specs.Axis.{widthOf, startOf, insideAim, tileAim, aimOf, widthsTo, startsTo};
+ghost use Rattle.advance.specs.Axis.{widthOf, startOf, insideGoal, tileGoal, goalOf, widthsTo, startsTo};
 ghost use Rattle.advance.specs.Carry.{Roomy, Tiled, Single, CarriedTo, WentAhead, AdvancedTo};
 ghost use Rattle.advance.specs.Blocks.{lengthOf, firstsOf};
 
@@ -129,27 +129,27 @@ pub fn tile_starts<'a>(rank: usize, w: &'a [u64; 64], c: &'a [u64; 64]) -> [u64;
 }
 
 // Where an axis goes next, ahead or back, and where the tile starts that it is then in.
-pub struct Aim {
+pub struct Goal {
     pub more: bool,
     pub to: u64,
     pub start: u64,
 }
 
 // Inside a tile: one ahead, or back to the tile's start.
-fn inside_aim(extent: u64, width: u64, start: u64, at: u64) -> Aim
+fn inside_goal(extent: u64, width: u64, start: u64, at: u64) -> Goal
     requires { ⌜ (0 < width) × (at < extent) × (start ≡ startOf width at) ⌝ }
-    ensures { λ r. ⌜ r ≡ insideAim extent width at ⌝ }
+    ensures { λ r. ⌜ r ≡ insideGoal extent width at ⌝ }
 {
     if at - start < width - 1 {
         if at < extent - 1 {
-            return Aim {
+            return Goal {
                 more: true,
                 to: at + 1,
                 start: start,
             };
         }
     }
-    Aim {
+    Goal {
         more: false,
         to: start,
         start: start,
@@ -157,33 +157,33 @@ fn inside_aim(extent: u64, width: u64, start: u64, at: u64) -> Aim
 }
 
 // From tile to tile: a block ahead, or back to 0.
-fn tile_aim(extent: u64, width: u64, start: u64, at: u64) -> Aim
+fn tile_goal(extent: u64, width: u64, start: u64, at: u64) -> Goal
     requires { ⌜ (at < extent) × (start ≡ startOf width at) ⌝ }
-    ensures { λ r. ⌜ r ≡ tileAim extent width at ⌝ }
+    ensures { λ r. ⌜ r ≡ tileGoal extent width at ⌝ }
 {
     if width < extent - start {
         let next = start + width;
-        return Aim {
+        return Goal {
             more: true,
             to: next,
             start: next,
         };
     }
-    Aim {
+    Goal {
         more: false,
         to: 0,
         start: 0,
     }
 }
 
-fn aim_of(inside: bool, extent: u64, width: u64, start: u64, at: u64) -> Aim
+fn goal_of(inside: bool, extent: u64, width: u64, start: u64, at: u64) -> Goal
     requires { ⌜ (0 < width) × (at < extent) × (start ≡ startOf width at) ⌝ }
-    ensures { λ r. ⌜ r ≡ aimOf inside extent width at ⌝ }
+    ensures { λ r. ⌜ r ≡ goalOf inside extent width at ⌝ }
 {
     if inside {
-        return inside_aim(extent, width, start, at);
+        return inside_goal(extent, width, start, at);
     }
-    tile_aim(extent, width, start, at)
+    tile_goal(extent, width, start, at)
 }
 
 // The axes that a carry inside a tile has to look at: those from there on have blocks of 1, so they do not move inside a tile. From rank 9
@@ -226,7 +226,7 @@ pub fn carry(
     let mut i = first;
     while i < last {
         let at = c[i];
-        let a = aim_of(inside, e[i], w[i], t[i], at);
+        let a = goal_of(inside, e[i], w[i], t[i], at);
         let to = a.to;
         shift(operands, i, at, to, s, &mut *o);
         c[i] = to;
@@ -260,7 +260,7 @@ pub fn go_ahead<'a>(
         r (now (t .exit)) (now (c .exit)) (now (o .exit)) ⌝ }
 {
     let at = c[axis];
-    let a = inside_aim(e[axis], w[axis], t[axis], at);
+    let a = inside_goal(e[axis], w[axis], t[axis], at);
     let more = a.more;
     if more {
         let to = a.to;

@@ -3,11 +3,11 @@
 ghost use mathlib.Core.Path.{_≡_};
 ghost use Prim.Native.Nat.{_<_, _≤_};
 ghost use lib.ListN.{getD};
-ghost use Rattle.advance.specs.Axis.{startOf, insideAim, tileAim, aimOf};
+ghost use Rattle.advance.specs.Axis.{startOf, insideGoal, tileGoal, goalOf};
 ghost use Rattle.advance.specs.Carry.{Roomy};
 ghost use Rattle.advance.specs.Blocks.{lengthOf};
 ghost use Rattle.walk.specs.Onward.{widthsOf, innerOf, CarriesOn, AdvancesOn};
-use advance::Aim;
+use advance::Goal;
 use advance::shift;
 use advance::width_of;
 
@@ -26,21 +26,21 @@ pub fn start_at(width: u64, at: u64) -> u64
 }
 
 // Inside a tile: one ahead, or back to the tile's start.
-fn inside_at(extent: u64, width: u64, at: u64) -> Aim
+fn inside_at(extent: u64, width: u64, at: u64) -> Goal
     requires { ⌜ (0 < width) × (at < extent) ⌝ }
-    ensures { λ r. ⌜ r ≡ insideAim extent width at ⌝ }
+    ensures { λ r. ⌜ r ≡ insideGoal extent width at ⌝ }
 {
     let start = start_at(width, at);
     if at - start < width - 1 {
         if at < extent - 1 {
-            return Aim {
+            return Goal {
                 more: true,
                 to: at + 1,
                 start: start,
             };
         }
     }
-    Aim {
+    Goal {
         more: false,
         to: start,
         start: start,
@@ -48,20 +48,20 @@ fn inside_at(extent: u64, width: u64, at: u64) -> Aim
 }
 
 // From tile to tile: a block ahead, or back to 0.
-fn tile_at(extent: u64, width: u64, at: u64) -> Aim
+fn tile_at(extent: u64, width: u64, at: u64) -> Goal
     requires { ⌜ (0 < width) × (at < extent) ⌝ }
-    ensures { λ r. ⌜ r ≡ tileAim extent width at ⌝ }
+    ensures { λ r. ⌜ r ≡ tileGoal extent width at ⌝ }
 {
     let start = start_at(width, at);
     if width < extent - start {
         let next = start + width;
-        return Aim {
+        return Goal {
             more: true,
             to: next,
             start: next,
         };
     }
-    Aim {
+    Goal {
         more: false,
         to: 0,
         start: 0,
@@ -69,9 +69,9 @@ fn tile_at(extent: u64, width: u64, at: u64) -> Aim
 }
 
 // Where an axis goes next.
-fn aim_at(inside: bool, extent: u64, width: u64, at: u64) -> Aim
+fn goal_at(inside: bool, extent: u64, width: u64, at: u64) -> Goal
     requires { ⌜ (0 < width) × (at < extent) ⌝ }
-    ensures { λ r. ⌜ r ≡ aimOf inside extent width at ⌝ }
+    ensures { λ r. ⌜ r ≡ goalOf inside extent width at ⌝ }
 {
     if inside {
         return inside_at(extent, width, at);
@@ -102,7 +102,7 @@ fn carry_on(
     while i < last {
         let at = c[i];
         let width = width_of(rank, i, e[i], b[i]);
-        let a = aim_at(inside, e[i], width, at);
+        let a = goal_at(inside, e[i], width, at);
         let to = a.to;
         shift(operands, i, at, to, s, &mut *o);
         c[i] = to;

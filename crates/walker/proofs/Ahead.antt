@@ -7,7 +7,7 @@ use native.Mathlib.Nat.{div-add-mod', mod-lt, div-mul-le-self, div-eq-of-lt, suc
 use native.Mathlib.Omega.{arith}
 use lib.Dec.{ltb}
 use borrow.Author.Tests.{lt-ltb, le-ltb, ltb-true, eq-eqb, ne-eqb}
-use Rattle.advance.specs.Axis.{startOf, ahead, back, insideAim, tileAim}
+use Rattle.advance.specs.Axis.{startOf, ahead, back, insideGoal, tileGoal}
 use Rattle.advance.specs.Filled.{by-lt}
 use Rattle.advance.proofs.Axis.{start-on, start-tiles}
 use Rattle.walker.specs.declared.Way.{Way}
@@ -27,8 +27,8 @@ less-of j n h = omega arith
 before-last : (extent at j : ℕ) → suc j < extent - at → at + j < extent - 1
 before-last extent at j h = omega arith
 
-pub inside-next : (extent w at j : ℕ) → 0 < w → suc j < min (w - (at - startOf w at)) (extent - at) → insideAim extent w (at + j) ≡ ahead (at + suc j) (startOf w at)
-unfolding insideAim
+pub inside-next : (extent w at j : ℕ) → 0 < w → suc j < min (w - (at - startOf w at)) (extent - at) → insideGoal extent w (at + j) ≡ ahead (at + suc j) (startOf w at)
+unfolding insideGoal
 inside-next extent w at j p h =
     let f = first-of (suc j) (w - (at - startOf w at)) (extent - at) h in
     let s = start-on w at j p (less-of j (w - (at - startOf w at)) (f .0)) in
@@ -41,8 +41,8 @@ inside-next extent w at j p h =
 pub tiles-fit : (extent w at j : ℕ) → 0 < w → 0 < j → j < max 1 ((extent - at) / w) → suc j * w ≤ extent - at
 tiles-fit extent w at j p z h = le-div-iff-mul-le p .0 (omega (arith, h, z))
 
-pub tile-next : (extent w at j : ℕ) → 0 < w → at ≡ startOf w at → suc j < max 1 ((extent - at) / w) → tileAim extent w (at + j * w) ≡ ahead (at + suc j * w) (at + suc j * w)
-unfolding tileAim
+pub tile-next : (extent w at j : ℕ) → 0 < w → at ≡ startOf w at → suc j < max 1 ((extent - at) / w) → tileGoal extent w (at + j * w) ≡ ahead (at + suc j * w) (at + suc j * w)
+unfolding tileGoal
 tile-next extent w at j p e h =
     let f = tiles-fit extent w at (suc j) p (omega arith) h in
     let a : suc j * w ≡ j * w + w = suc-mul j w in
@@ -67,8 +67,8 @@ tile-done w s at n l f e = omega arith
 axis-done : (extent at n : ℕ) → at + n < extent - 1 → n + 1 ≡ extent - at → ⊥
 axis-done extent at n f e = omega arith
 
-pub last-inside : (extent w at n : ℕ) → 0 < w → at < extent → n + 1 ≡ min (w - (at - startOf w at)) (extent - at) → insideAim extent w (at + n) ≡ back (startOf w at)
-unfolding insideAim
+pub last-inside : (extent w at n : ℕ) → 0 < w → at < extent → n + 1 ≡ min (w - (at - startOf w at)) (extent - at) → insideGoal extent w (at + n) ≡ back (startOf w at)
+unfolding insideGoal
 last-inside extent w at n p a h =
     let s = start-on w at n p (min-below n (w - (at - startOf w at)) (extent - at) h) in
     rw s (go (ltb (at + n - startOf w at) (w - 1)) refl (ltb (at + n) (extent - 1)) refl)
@@ -82,8 +82,8 @@ last-inside extent w at n p a h =
     go true e false f = refl
     go false e y f = refl
 
-pub last-tile : (extent w at : ℕ) → at ≡ startOf w at → extent - at ≤ w → tileAim extent w at ≡ back 0
-unfolding tileAim
+pub last-tile : (extent w at : ℕ) → at ≡ startOf w at → extent - at ≤ w → tileGoal extent w at ≡ back 0
+unfolding tileGoal
 last-tile extent w at s h = rw (sym s, le-ltb w (extent - at) h)
 
 -- ---- the blocks ahead

@@ -11,7 +11,7 @@ use lib.IntN.{ℤ, pos}
 use lib.ListN.{length, getD, set}
 use lib.Seq.{getD-set-same, getD-set-other, set-set, set-getD}
 use borrow.Author.Tests.{le-ltb, ltb-false, eq-eqb, ne-eqb}
-use Rattle.advance.specs.Axis.{startOf, ahead, back, insideAim, tileAim, aimOf}
+use Rattle.advance.specs.Axis.{startOf, ahead, back, insideGoal, tileGoal, goalOf}
 use Rattle.advance.specs.Blocks.{lengthOf}
 use Rattle.advance.specs.Filled.{by-lt, filled-above}
 use Rattle.advance.specs.Moves.{shifted, movedAt, Shifts}
@@ -25,14 +25,14 @@ use Rattle.walker.proofs.Ahead.{inside-next, tiles-fit, tile-next, left
 
 -- ---- axes that stay where they are
 
-whole-aim : (extent w at : ℕ) → extent ≤ w → at < extent → at ≡ 0 → aimOf false extent w at ≡ back at
-unfolding aimOf tileAim
-whole-aim extent w at h l z =
+whole-goal : (extent w at : ℕ) → extent ≤ w → at < extent → at ≡ 0 → goalOf false extent w at ≡ back at
+unfolding goalOf tileGoal
+whole-goal extent w at h l z =
     rw (start-whole w at (omega (arith, h, l)), le-ltb w (extent - 0) (omega (arith, h))) (ap back (sym z))
 
 module _ (inside : Bool) (e w : List ℕ) where
   -- the first axis that moves goes ahead
-  goes : (n i : ℕ) (c : List ℕ) (v u : ℕ) → 0 < n → aimOf inside (getD e i 0) (getD w i 0) (getD c i 0) ≡ ahead v u
+  goes : (n i : ℕ) (c : List ℕ) (v u : ℕ) → 0 < n → goalOf inside (getD e i 0) (getD w i 0) (getD c i 0) ≡ ahead v u
       → carryOf inside e w n i c ≡ record { more = true; counters = set c i v }
   unfolding carryOf
   goes zero i c v u h a = absurd (let z : ⊥ = omega arith in z)
@@ -119,17 +119,17 @@ module _ {y : Way} {rank operands : ℕ} {e w : List ℕ} {s : List ℤ} {t c : 
             let x : j * y .by ≡ j * Z = ap (λ (v : ℕ). j * v) (l .tile-by i h) in
             ap (λ (n : ℕ). A + n) x ∙ sym (ap (λ (n : ℕ). startOf Z (A + n)) x ∙ start-tiles Z A j wide (stands h i))
 
-    aim-at : (j : ℕ) → suc j < leftOf y e w c → (b : Bool) → y .inside ≡ b
-        → aimOf b E Z (A + j * y .by) ≡ ahead (A + suc j * y .by) (cond b (startOf Z A) (A + suc j * y .by))
-    unfolding aimOf
-    aim-at j g true i =
+    goal-at : (j : ℕ) → suc j < leftOf y e w c → (b : Bool) → y .inside ≡ b
+        → goalOf b E Z (A + j * y .by) ≡ ahead (A + suc j * y .by) (cond b (startOf Z A) (A + suc j * y .by))
+    unfolding goalOf
+    goal-at j g true i =
         let z = left-inside y E Z A h i in
-        ap (λ (x : ℕ). insideAim E Z (A + x)) (inside-by i j) ∙ inside-next E Z A j wide (subst (λ (n : ℕ). suc j < n) z g)
+        ap (λ (x : ℕ). insideGoal E Z (A + x)) (inside-by i j) ∙ inside-next E Z A j wide (subst (λ (n : ℕ). suc j < n) z g)
         ∙ ap (λ (x : ℕ). ahead (A + x) (startOf Z A)) (sym (inside-by i (suc j)))
-    aim-at j g false i =
+    goal-at j g false i =
         let z = left-tile y E Z A h i in
         let x = l .tile-by i h in
-        ap (λ (v : ℕ). tileAim E Z (A + j * v)) x ∙ tile-next E Z A j wide (stands h i) (subst (λ (n : ℕ). suc j < n) z g)
+        ap (λ (v : ℕ). tileGoal E Z (A + j * v)) x ∙ tile-next E Z A j wide (stands h i) (subst (λ (n : ℕ). suc j < n) z g)
         ∙ ap (λ (v : ℕ). ahead (A + suc j * v) (A + suc j * v)) (sym x)
 
     other : (j i : ℕ) → (i ≡ a → ⊥) → getD (onward y c j) i 0 ≡ getD c i 0
@@ -174,7 +174,7 @@ module _ {y : Way} {rank operands : ℕ} {e w : List ℕ} {s : List ℤ} {t c : 
         let ne : (n ≡ a → ⊥) = omega (arith, u) in
         let v = other j n ne in
         let lt : n < rank = omega (arith, k, n-lt) in
-        whole-aim (getD e n 0) (getD w n 0) (getD d n 0) (l .tile-whole i h n n-lt) (subst (λ (b : ℕ). b < getD e n 0) (sym v) (r .within n lt)) (v ∙ at-zero i n n-lt))
+        whole-goal (getD e n 0) (getD w n 0) (getD d n 0) (l .tile-whole i h n n-lt) (subst (λ (b : ℕ). b < getD e n 0) (sym v) (r .within n lt)) (v ∙ at-zero i n n-lt))
         ∙ ap (λ (n : ℕ). carryOf false e w (rank - a) n d) zero-a
 
     -- THE NEXT BLOCK is one on
@@ -190,7 +190,7 @@ module _ {y : Way} {rank operands : ℕ} {e w : List ℕ} {s : List ℤ} {t c : 
 
       carried : (b : Bool) → y .inside ≡ b → carryOf b e w (rank - a) a d ≡ goal
       carried b i =
-          let f : aimOf b E Z (getD d a 0) ≡ ahead v (cond b (startOf Z A) v) = ap (aimOf b E Z) (getD-set-same c a (A + j * y .by) 0 long) ∙ aim-at j g b i in
+          let f : goalOf b E Z (getD d a 0) ≡ ahead v (cond b (startOf Z A) v) = ap (goalOf b E Z) (getD-set-same c a (A + j * y .by) 0 long) ∙ goal-at j g b i in
           let k = l .there h in
           goes b e w (rank - a) a d v (cond b (startOf Z A) v) (omega (arith, k)) f
           ∙ ap (λ (x : List ℕ). record { more = true; counters = x }) (set-set c a (A + j * y .by) v)

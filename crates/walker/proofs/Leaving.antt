@@ -10,7 +10,7 @@ use native.Mathlib.Omega.{arith}
 use lib.IntN.{ℤ, pos}
 use lib.ListN.{getD, set}
 use lib.Seq.{getD-set-same, set-set, set-getD}
-use Rattle.advance.specs.Axis.{startOf, back, insideAim, tileAim, aimOf}
+use Rattle.advance.specs.Axis.{startOf, back, insideGoal, tileGoal, goalOf}
 use Rattle.advance.specs.Filled.{filled-above}
 use Rattle.advance.specs.Moves.{Shifts, shifted, movedAt}
 use Rattle.advance.specs.Carry.{Carried, carryOf, nextOf, Roomy, Tiled, MovedTo, CarriedTo, WentAhead}
@@ -27,7 +27,7 @@ abbrev homeOf : Way → ℕ → ℕ → ℕ
 homeOf y w at = cond (y .inside) (startOf w at) 0
 
 -- an axis that goes back, and those behind it
-turn-back : (b : Bool) (e w : List ℕ) (m i : ℕ) (d : List ℕ) (v : ℕ) → 0 < m → aimOf b (getD e i 0) (getD w i 0) (getD d i 0) ≡ back v
+turn-back : (b : Bool) (e w : List ℕ) (m i : ℕ) (d : List ℕ) (v : ℕ) → 0 < m → goalOf b (getD e i 0) (getD w i 0) (getD d i 0) ≡ back v
     → carryOf b e w m i d ≡ carryOf b e w (m - 1) (i + 1) (set d i v)
 unfolding carryOf
 turn-back b e w zero i d v p a = absurd (let z : ⊥ = omega arith in z)
@@ -98,25 +98,25 @@ module _ {y : Way} {rank operands : ℕ} {e w : List ℕ} {s : List ℤ} {t c : 
   home-tiled = tiled-set rank w c t (r .counted) (r .axes) q a home home (l .there h) home-start
 
   module _ (g : AtEnd y E Z A) where
-    aim-last : (b : Bool) → y .inside ≡ b → aimOf b E Z (getD d a 0) ≡ back (cond b (startOf Z A) 0)
-    unfolding aimOf
-    aim-last true i =
+    goal-last : (b : Bool) → y .inside ≡ b → goalOf b E Z (getD d a 0) ≡ back (cond b (startOf Z A) 0)
+    unfolding goalOf
+    goal-last true i =
         let k = left-inside y E Z A h i in
         let p = some-left m in
         let f : n + 1 ≡ min (Z - (A - startOf Z A)) (E - A) = (let z : n + 1 ≡ leftOf y e w c = omega (arith, p) in z) ∙ k in
-        ap (insideAim E Z) (getD-set-same c a (A + n * y .by) 0 (long m) ∙ ap (λ (x : ℕ). A + x) (inside-by m h i n))
+        ap (insideGoal E Z) (getD-set-same c a (A + n * y .by) 0 (long m) ∙ ap (λ (x : ℕ). A + x) (inside-by m h i n))
         ∙ last-inside E Z A n (left-asks m h .0) (left-asks m h .1) f
-    aim-last false i =
+    goal-last false i =
         let x : n * y .by ≡ n * Z = ap (λ (v : ℕ). n * v) (l .tile-by i h) in
         let z = start-tiles Z A n (left-asks m h .0) (stands m h i) in
-        ap (tileAim E Z) (getD-set-same c a (A + n * y .by) 0 (long m) ∙ ap (λ (v : ℕ). A + v) x)
+        ap (tileGoal E Z) (getD-set-same c a (A + n * y .by) 0 (long m) ∙ ap (λ (v : ℕ). A + v) x)
         ∙ last-tile E Z (A + n * Z) (sym z) (subst (λ (v : ℕ). E - (A + v) ≤ Z) x (g i))
 
     back-home : (b : Bool) → y .inside ≡ b → carryOf b e w (rank - a) a d ≡ carryOf b e w (rank - (a + 1)) (a + 1) (set c a (cond b (startOf Z A) 0))
     back-home b i =
         let k = l .there h in
         let x : rank - a - 1 ≡ rank - (a + 1) = omega arith in
-        turn-back b e w (rank - a) a d (cond b (startOf Z A) 0) (omega (arith, k)) (aim-last b i)
+        turn-back b e w (rank - a) a d (cond b (startOf Z A) 0) (omega (arith, k)) (goal-last b i)
         ∙ ap₂ (λ (m : ℕ) (f : List ℕ). carryOf b e w m (a + 1) f) x (set-set c a (A + n * y .by) (cond b (startOf Z A) 0))
 
     -- the block behind the last

@@ -22,38 +22,38 @@ mul-at c = record { fits = omega (arith, c .before .loop .inv .0, c .before .loo
 element-copy-out-at : tie.Need-element-copy-out-at Inv-loop μ-loop
 element-copy-out-at c = omega (arith, c .before .loop .inv .0, c .before .loop .inv .1 .roomy .axes)
 
-mul-aim-of : tie.Need-mul-aim-of Inv-loop μ-loop
-mul-aim-of c = record { fits = omega (arith, c .before .before .loop .inv .0, c .before .before .loop .inv .1 .roomy .axes) }
+mul-goal-of : tie.Need-mul-goal-of Inv-loop μ-loop
+mul-goal-of c = record { fits = omega (arith, c .before .before .loop .inv .0, c .before .before .loop .inv .1 .roomy .axes) }
 
-element-copy-out-aim-of : tie.Need-element-copy-out-aim-of Inv-loop μ-loop
-element-copy-out-aim-of c = omega (arith, c .before .before .loop .inv .0, c .before .before .loop .inv .1 .roomy .axes)
+element-copy-out-goal-of : tie.Need-element-copy-out-goal-of Inv-loop μ-loop
+element-copy-out-goal-of c = omega (arith, c .before .before .loop .inv .0, c .before .before .loop .inv .1 .roomy .axes)
 
-mul-aim-of-2 : tie.Need-mul-aim-of-2 Inv-loop μ-loop
-mul-aim-of-2 c = record { fits = omega (arith, c .before .before .before .loop .inv .0, c .before .before .before .loop .inv .1 .roomy .axes) }
+mul-goal-of-2 : tie.Need-mul-goal-of-2 Inv-loop μ-loop
+mul-goal-of-2 c = record { fits = omega (arith, c .before .before .before .loop .inv .0, c .before .before .before .loop .inv .1 .roomy .axes) }
 
-element-copy-out-aim-of-2 : tie.Need-element-copy-out-aim-of-2 Inv-loop μ-loop
-element-copy-out-aim-of-2 c = omega (arith, c .before .before .before .loop .inv .0, c .before .before .before .loop .inv .1 .roomy .axes)
+element-copy-out-goal-of-2 : tie.Need-element-copy-out-goal-of-2 Inv-loop μ-loop
+element-copy-out-goal-of-2 c = omega (arith, c .before .before .before .loop .inv .0, c .before .before .before .loop .inv .1 .roomy .axes)
 
-mul-aim-of-3 : tie.Need-mul-aim-of-3 Inv-loop μ-loop
-mul-aim-of-3 c = record { fits = omega (arith, c .before .before .before .before .loop .inv .0, c .before .before .before .before .loop .inv .1 .roomy .axes) }
+mul-goal-of-3 : tie.Need-mul-goal-of-3 Inv-loop μ-loop
+mul-goal-of-3 c = record { fits = omega (arith, c .before .before .before .before .loop .inv .0, c .before .before .before .before .loop .inv .1 .roomy .axes) }
 
-element-copy-out-aim-of-3 : tie.Need-element-copy-out-aim-of-3 Inv-loop μ-loop
-element-copy-out-aim-of-3 c = omega (arith, c .before .before .before .before .loop .inv .0, c .before .before .before .before .loop .inv .1 .roomy .axes)
+element-copy-out-goal-of-3 : tie.Need-element-copy-out-goal-of-3 Inv-loop μ-loop
+element-copy-out-goal-of-3 c = omega (arith, c .before .before .before .before .loop .inv .0, c .before .before .before .before .loop .inv .1 .roomy .axes)
 
-aim-of-requires : tie.Need-aim-of-requires Inv-loop μ-loop
-aim-of-requires c κs =
+goal-of-requires : tie.Need-goal-of-requires Inv-loop μ-loop
+goal-of-requires c κs =
     let l = c .before .before .before .before .before .loop in
     let t : l .i < c .before .before .before .before .before .before .args .rank = omega (arith, c .before .before .before .before .loop-test .taken, l .inv .0) in
     (l .inv .1 .tiled .wide _ t, l .inv .1 .roomy .within _ t, l .inv .1 .tiled .start _ t)
 
 shift-requires : tie.Need-shift-requires Inv-loop μ-loop
-shift-requires c κs = shifts-at _ _ _ _ _ _ _ _ _ _ _ _ _ _ (c .before .before .before .before .before .before .before .loop .inv .1) (c .before .before .before .before .before .before .before .loop .inv .0) (c .before .before .before .before .before .before .loop-test .taken) _ (c .before .aim-of .ensures)
+shift-requires c κs = shifts-at _ _ _ _ _ _ _ _ _ _ _ _ _ _ (c .before .before .before .before .before .before .before .loop .inv .1) (c .before .before .before .before .before .before .before .loop .inv .0) (c .before .before .before .before .before .before .loop-test .taken) _ (c .before .goal-of .ensures)
 
 -- where the axis has moved: this turn, and where its target was found
 abbrev turn : tie.After-shift Inv-loop μ-loop → tie.In-loop Inv-loop μ-loop
 turn c = c .before .before .before .before .before .before .before
 
-abbrev aimed : tie.After-shift Inv-loop μ-loop → tie.After-aim-of Inv-loop μ-loop
+abbrev aimed : tie.After-shift Inv-loop μ-loop → tie.After-goal-of Inv-loop μ-loop
 aimed c = c .before .before
 
 mul-c : tie.Need-mul-c Inv-loop μ-loop
@@ -72,7 +72,7 @@ returns : tie.Need-returns Inv-loop μ-loop
 returns c =
     let f = c .before in
     let i = turn f .before .loop .inv in
-    stops-at _ _ _ _ _ _ _ _ _ _ _ _ _ _ (i .1) (i .0) (turn f .loop-test .taken) _ (aimed f .aim-of .ensures) _ (f .shift .ensures) (c .if1 .taken)
+    stops-at _ _ _ _ _ _ _ _ _ _ _ _ _ _ (i .1) (i .0) (turn f .loop-test .taken) _ (aimed f .goal-of .ensures) _ (f .shift .ensures) (c .if1 .taken)
 
 add-i : tie.Need-add-i Inv-loop μ-loop
 add-i c = let i = turn (c .before) .before .loop .inv in record { fits = omega (arith, i .0, i .1 .roomy .axes) }
@@ -84,7 +84,7 @@ loop-again : tie.Need-loop-again Inv-loop μ-loop
 loop-again c =
     let f = c .before in
     let i = turn f .before .loop .inv in
-    (i .0, goes-on-at _ _ _ _ _ _ _ _ _ _ _ _ _ _ (i .1) (i .0) (turn f .loop-test .taken) _ (aimed f .aim-of .ensures) _ (f .shift .ensures) (c .if1 .left))
+    (i .0, goes-on-at _ _ _ _ _ _ _ _ _ _ _ _ _ _ (i .1) (i .0) (turn f .loop-test .taken) _ (aimed f .goal-of .ensures) _ (f .shift .ensures) (c .if1 .left))
 
 returns-2 : tie.Need-returns-2 Inv-loop μ-loop
 returns-2 c = ends _ _ _ _ _ _ _ _ _ _ _ _ _ _ (c .before .loop .inv .1) (c .loop-test .left)
@@ -98,13 +98,13 @@ carry-spec =
     loop-holds
     mul-at
     element-copy-out-at
-    mul-aim-of
-    element-copy-out-aim-of
-    mul-aim-of-2
-    element-copy-out-aim-of-2
-    mul-aim-of-3
-    element-copy-out-aim-of-3
-    aim-of-requires
+    mul-goal-of
+    element-copy-out-goal-of
+    mul-goal-of-2
+    element-copy-out-goal-of-2
+    mul-goal-of-3
+    element-copy-out-goal-of-3
+    goal-of-requires
     shift-requires
     mul-c
     element-write-c

@@ -10,33 +10,33 @@ mul-at c = let k = c .pre in record { fits = omega (arith, k .1 .1, k .0 .axes) 
 element-copy-out-at : tie.Need-element-copy-out-at
 element-copy-out-at c = let k = c .pre in omega (arith, k .1 .1, k .0 .axes)
 
-mul-inside-aim : tie.Need-mul-inside-aim
-mul-inside-aim c = let k = c .before .pre in record { fits = omega (arith, k .1 .1, k .0 .axes) }
+mul-inside-goal : tie.Need-mul-inside-goal
+mul-inside-goal c = let k = c .before .pre in record { fits = omega (arith, k .1 .1, k .0 .axes) }
 
-element-copy-out-inside-aim : tie.Need-element-copy-out-inside-aim
-element-copy-out-inside-aim c = let k = c .before .pre in omega (arith, k .1 .1, k .0 .axes)
+element-copy-out-inside-goal : tie.Need-element-copy-out-inside-goal
+element-copy-out-inside-goal c = let k = c .before .pre in omega (arith, k .1 .1, k .0 .axes)
 
-mul-inside-aim-2 : tie.Need-mul-inside-aim-2
-mul-inside-aim-2 c = let k = c .before .before .pre in record { fits = omega (arith, k .1 .1, k .0 .axes) }
+mul-inside-goal-2 : tie.Need-mul-inside-goal-2
+mul-inside-goal-2 c = let k = c .before .before .pre in record { fits = omega (arith, k .1 .1, k .0 .axes) }
 
-element-copy-out-inside-aim-2 : tie.Need-element-copy-out-inside-aim-2
-element-copy-out-inside-aim-2 c = let k = c .before .before .pre in omega (arith, k .1 .1, k .0 .axes)
+element-copy-out-inside-goal-2 : tie.Need-element-copy-out-inside-goal-2
+element-copy-out-inside-goal-2 c = let k = c .before .before .pre in omega (arith, k .1 .1, k .0 .axes)
 
-mul-inside-aim-3 : tie.Need-mul-inside-aim-3
-mul-inside-aim-3 c = let k = c .before .before .before .pre in record { fits = omega (arith, k .1 .1, k .0 .axes) }
+mul-inside-goal-3 : tie.Need-mul-inside-goal-3
+mul-inside-goal-3 c = let k = c .before .before .before .pre in record { fits = omega (arith, k .1 .1, k .0 .axes) }
 
-element-copy-out-inside-aim-3 : tie.Need-element-copy-out-inside-aim-3
-element-copy-out-inside-aim-3 c = let k = c .before .before .before .pre in omega (arith, k .1 .1, k .0 .axes)
+element-copy-out-inside-goal-3 : tie.Need-element-copy-out-inside-goal-3
+element-copy-out-inside-goal-3 c = let k = c .before .before .before .pre in omega (arith, k .1 .1, k .0 .axes)
 
-inside-aim-requires : tie.Need-inside-aim-requires
-inside-aim-requires c κs =
+inside-goal-requires : tie.Need-inside-goal-requires
+inside-goal-requires c κs =
     let k = c .before .before .before .before .pre in
     (k .1 .0 .wide _ (k .1 .1), k .0 .within _ (k .1 .1), k .1 .0 .start _ (k .1 .1))
 
 shift-requires : tie.Need-shift-requires
 shift-requires c κs =
     let k = c .before .before .before .before .before .before .before .pre in
-    shifts-ahead (k .0) (k .1 .0) (k .1 .1) (c .before .before .inside-aim .ensures)
+    shifts-ahead (k .0) (k .1 .0) (k .1 .1) (c .before .before .inside-goal .ensures)
 
 mul-c : tie.Need-mul-c
 mul-c c = let k = c .before .before .before .before .before .before .before .before .pre in record { fits = omega (arith, k .1 .1, k .0 .axes) }
@@ -53,7 +53,7 @@ element-write-t c = let k = c .before .before .before .before .before .before .b
 returns : tie.Need-returns
 returns c =
     let k = c .before .before .before .before .before .before .before .before .pre in
-    went-ahead (k .0) (k .1 .0) (k .1 .1) (c .before .before .before .inside-aim .ensures) (c .shift .ensures) (c .before .before .if1 .taken)
+    went-ahead (k .0) (k .1 .0) (k .1 .1) (c .before .before .before .inside-goal .ensures) (c .shift .ensures) (c .before .before .if1 .taken)
 
 returns-2 : tie.Need-returns-2
 returns-2 c = stayed
@@ -64,13 +64,13 @@ go-ahead-spec =
     (tie.spec
     mul-at
     element-copy-out-at
-    mul-inside-aim
-    element-copy-out-inside-aim
-    mul-inside-aim-2
-    element-copy-out-inside-aim-2
-    mul-inside-aim-3
-    element-copy-out-inside-aim-3
-    inside-aim-requires
+    mul-inside-goal
+    element-copy-out-inside-goal
+    mul-inside-goal-2
+    element-copy-out-inside-goal-2
+    mul-inside-goal-3
+    element-copy-out-inside-goal-3
+    inside-goal-requires
     shift-requires
     mul-c
     element-write-c

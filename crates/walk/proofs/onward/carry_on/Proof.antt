@@ -4,7 +4,7 @@ use mathlib.Core.Path.{_≡_, sym, ap, _∙_, subst}
 use Prim.Native.Nat.{ℕ, _≤_, _<_, _-_}
 use native.Mathlib.Omega.{arith}
 use lib.ListN.{getD}
-use Rattle.advance.specs.Axis.{aimOf}
+use Rattle.advance.specs.Axis.{goalOf}
 use Rattle.advance.proofs.Turns.{Before, begins, ends, shifts-at, stops-at, goes-on-at}
 use Rattle.walk.specs.Onward.{widthsOf}
 use Rattle.walk.proofs.Widths.{width-read, tiled-any}
@@ -45,11 +45,11 @@ element-copy-out-width-of-2 c = let i = c .before .before .before .loop .inv in 
 width-of-requires : tie.Need-width-of-requires Inv-loop μ-loop
 width-of-requires c κs = tt
 
-mul-aim-at : tie.Need-mul-aim-at Inv-loop μ-loop
-mul-aim-at c = let i = c .before .before .before .before .before .loop .inv in record { fits = omega (arith, i .0, i .1 .1 .roomy .axes) }
+mul-goal-at : tie.Need-mul-goal-at Inv-loop μ-loop
+mul-goal-at c = let i = c .before .before .before .before .before .loop .inv in record { fits = omega (arith, i .0, i .1 .1 .roomy .axes) }
 
-element-copy-out-aim-at : tie.Need-element-copy-out-aim-at Inv-loop μ-loop
-element-copy-out-aim-at c = let i = c .before .before .before .before .before .loop .inv in omega (arith, i .0, i .1 .1 .roomy .axes)
+element-copy-out-goal-at : tie.Need-element-copy-out-goal-at Inv-loop μ-loop
+element-copy-out-goal-at c = let i = c .before .before .before .before .before .loop .inv in omega (arith, i .0, i .1 .1 .roomy .axes)
 
 -- the block size is that of the array
 sized : (c : tie.After-width-of Inv-loop μ-loop) → let l = c .before .before .before .before .before in let a = l .before .args in c .width-of .result ≡ getD (widthsOf (a .rank) (a .e .now) (a .b .now)) (l .loop .i) 0
@@ -58,8 +58,8 @@ sized c =
     let a = l .before .args in
     width-read (a .rank) (l .loop .inv .1 .1 .roomy .axes) (a .e .now) (a .b .now) (l .loop .i) (omega (arith, c .before .before .before .before .loop-test .taken, l .loop .inv .0)) (c .width-of .ensures)
 
-aim-at-requires : tie.Need-aim-at-requires Inv-loop μ-loop
-aim-at-requires c κs =
+goal-at-requires : tie.Need-goal-at-requires Inv-loop μ-loop
+goal-at-requires c κs =
     let w = c .before in
     let l = w .before .before .before .before in
     let i = l .before .loop .inv in
@@ -67,14 +67,14 @@ aim-at-requires c κs =
     (subst (λ (n : ℕ). 0 < n) (sym (sized w)) (i .1 .1 .tiled .wide _ h), i .1 .1 .roomy .within _ h)
 
 -- this turn, and what its axis aims at
-abbrev turn : tie.After-aim-at Inv-loop μ-loop → tie.In-loop Inv-loop μ-loop
+abbrev turn : tie.After-goal-at Inv-loop μ-loop → tie.In-loop Inv-loop μ-loop
 turn c = c .before .before .before .before .before .before
 
-aimed : (c : tie.After-aim-at Inv-loop μ-loop) → let l = turn c .before in let a = l .before .args in c .aim-at .result ≡ aimOf (a .inside) (getD (a .e .now) (l .loop .i) 0) (getD (widthsOf (a .rank) (a .e .now) (a .b .now)) (l .loop .i) 0) (getD (l .loop .c) (l .loop .i) 0)
+aimed : (c : tie.After-goal-at Inv-loop μ-loop) → let l = turn c .before in let a = l .before .args in c .goal-at .result ≡ goalOf (a .inside) (getD (a .e .now) (l .loop .i) 0) (getD (widthsOf (a .rank) (a .e .now) (a .b .now)) (l .loop .i) 0) (getD (l .loop .c) (l .loop .i) 0)
 aimed c =
     let l = turn c .before in
     let a = l .before .args in
-    c .aim-at .ensures ∙ ap (λ (n : ℕ). aimOf (a .inside) (getD (a .e .now) (l .loop .i) 0) n (getD (l .loop .c) (l .loop .i) 0)) (sized (c .before .before))
+    c .goal-at .ensures ∙ ap (λ (n : ℕ). goalOf (a .inside) (getD (a .e .now) (l .loop .i) 0) n (getD (l .loop .c) (l .loop .i) 0)) (sized (c .before .before))
 
 shift-requires : tie.Need-shift-requires Inv-loop μ-loop
 shift-requires c κs =
@@ -125,9 +125,9 @@ carry-on-spec =
     mul-width-of-2
     element-copy-out-width-of-2
     width-of-requires
-    mul-aim-at
-    element-copy-out-aim-at
-    aim-at-requires
+    mul-goal-at
+    element-copy-out-goal-at
+    goal-at-requires
     shift-requires
     mul-c
     element-write-c
