@@ -33,14 +33,14 @@ fn least_in_row(tail: Tail, row: &[u8; 64]) -> u8
 }
 
 // The least rank that any operand has in the tail.
-fn least_rank(tail: Tail, ranks: &[[u8; 64]; 8]) -> u8
+fn least_rank(tail: Tail, table: &[[u8; 64]; 8]) -> u8
     requires { ⌜ Nonempty tail ⌝ }
-    ensures { λ r. ⌜ r ≡ leastRank (now (ranks .entry)) (tail .operands) (tail .offset) (axes tail) ⌝ }
+    ensures { λ r. ⌜ r ≡ leastRank (now (table .entry)) (tail .operands) (tail .offset) (axes tail) ⌝ }
 {
-    let mut m = least_in_row(tail, &ranks[0]);
+    let mut m = least_in_row(tail, &table[0]);
     let mut k = 1;
     while k < tail.operands {
-        let x = least_in_row(tail, &ranks[k]);
+        let x = least_in_row(tail, &table[k]);
         if x < m {
             m = x;
         }
@@ -50,15 +50,15 @@ fn least_rank(tail: Tail, ranks: &[[u8; 64]; 8]) -> u8
 }
 
 // Whether every operand's first rank is the least rank of the tail.
-fn keeps_first(tail: Tail, ranks: &[[u8; 64]; 8]) -> bool
+fn keeps_first(tail: Tail, table: &[[u8; 64]; 8]) -> bool
     requires { ⌜ Nonempty tail ⌝ }
-    ensures { λ r. ⌜ r ≡ keepsFirst (now (ranks .entry)) (tail .operands) (tail .offset) (axes tail) ⌝ }
+    ensures { λ r. ⌜ r ≡ keepsFirst (now (table .entry)) (tail .operands) (tail .offset) (axes tail) ⌝ }
 {
-    let m = least_rank(tail, ranks);
+    let m = least_rank(tail, table);
     let first = tail.offset;
     let mut k = 0;
     while k < tail.operands {
-        if ranks[k][first] != m {
+        if table[k][first] != m {
             return false;
         }
         k += 1;
@@ -121,12 +121,12 @@ pub fn compute_blocks_at<'a>(
     blocks: &mut [u64; 64],
     bytes: &'a [u32; 512],
     costs: &'a [u64; 64],
-    ranks: [[u8; 64]; 8],
+    table: [[u8; 64]; 8],
 )
     requires { ⌜ Allowed machine ⌝ }
     requires { ⌜ ((0 < tail .operands) × Within tail) × ScoresFit (tail .rank) (now costs) (now blocks) ⌝ }
     ensures { λ _. ⌜ now (blocks .exit)
-        ≡ cutting machine (now (bytes .entry)) (tail .operands) (now (costs .entry)) ranks (tail .offset) (axes tail) (now (blocks .entry)) ⌝ }
+        ≡ cutting machine (now (bytes .entry)) (tail .operands) (now (costs .entry)) table (tail .offset) (axes tail) (now (blocks .entry)) ⌝ }
 {
     if tail.offset == tail.rank {
         return;
@@ -134,14 +134,14 @@ pub fn compute_blocks_at<'a>(
     if memory_region(machine, tail, blocks, bytes) <= machine.cache {
         return;
     }
-    if keeps_first(tail, &ranks) {
+    if keeps_first(tail, &table) {
         let offset = tail.offset + 1;
         let rest = Tail {
             operands: tail.operands,
             offset,
             rank: tail.rank,
         };
-        compute_blocks_at(machine, rest, blocks, bytes, costs, ranks);
+        compute_blocks_at(machine, rest, blocks, bytes, costs, table);
         return;
     }
     if machine.cache < wide(least_byte(tail, bytes)) {

@@ -92,13 +92,13 @@ fn put_row<'a>(
 }
 
 // The length of `count` blocks, from place `at` on.
-fn put_lengths(count: usize, at: usize, size: u64, lengths: &mut [u64])
+fn put_lengths(count: usize, at: usize, len: u64, lengths: &mut [u64])
     requires { ⌜ at + count ≤ length (now lengths) ⌝ }
-    ensures { λ _. ⌜ now (lengths .exit) ≡ paste (now (lengths .entry)) at (replicate count size) count ⌝ }
+    ensures { λ _. ⌜ now (lengths .exit) ≡ paste (now (lengths .entry)) at (replicate count len) count ⌝ }
 {
     let mut j: usize = 0;
     while j < count {
-        lengths[at + j] = size;
+        lengths[at + j] = len;
         j += 1;
     }
 }
@@ -122,9 +122,9 @@ fn put_rows<'a>(
     }
 }
 
-// Writes the next blocks, at most `room`, from a state that runs, stretch by stretch. It checks nothing.
+// Writes the next blocks, at most `most`, from a state that runs, stretch by stretch. It checks nothing.
 fn put_blocks<'a>(
-    room: usize,
+    most: usize,
     rank: usize,
     operands: usize,
     e: &'a [u64; 64],
@@ -136,8 +136,8 @@ fn put_blocks<'a>(
     offsets: &mut [i64],
 ) -> Several
     requires { ⌜ Taken (planOf rank operands (now e) (now b) (now s)) (walkOf false counters start) ⌝ }
-    requires { ⌜ HasRoom room operands (now lengths) (now offsets) ⌝ }
-    ensures { λ r. ⌜ Wrote room (planOf rank operands (now (e .entry)) (now (b .entry)) (now (s .entry))) (walkOf false counters start)
+    requires { ⌜ HasRoom most operands (now lengths) (now offsets) ⌝ }
+    ensures { λ r. ⌜ Wrote most (planOf rank operands (now (e .entry)) (now (b .entry)) (now (s .entry))) (walkOf false counters start)
         (now (lengths .entry)) (now (offsets .entry)) r (now (lengths .exit)) (now (offsets .exit)) ⌝ }
 {
     let w = widths(rank, e, b);
@@ -147,9 +147,9 @@ fn put_blocks<'a>(
     let mut o = start;
     let mut t = tile_starts(rank, &w, &c);
     let mut n: usize = 0;
-    while n < room {
+    while n < most {
         let x = stretch_here(y, e, &w, &t, &c);
-        let limit = (room - n) as u64;
+        let limit = (most - n) as u64;
         let count = least(limit, x.left) as usize;
         put_lengths(count, n, x.length, &mut *lengths);
         put_rows(count, operands, n, &d, &o, &mut *offsets);

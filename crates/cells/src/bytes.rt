@@ -5,36 +5,36 @@ ghost use Prim.Native.Nat.{_+_, _≤_};
 ghost use lib.ListN.{length};
 ghost use Rattle.cells.specs.Copy.{moved};
 
-// The n bytes of the source from s on, at d in the destination.
-pub fn move_bytes(destination: &mut [u8], d: usize, source: &[u8], s: usize, n: usize)
+// The n bytes of the source from `from` on, at `to` in the destination.
+pub fn move_bytes(destination: &mut [u8], to: usize, source: &[u8], from: usize, n: usize)
     requires { ⌜ n ≤ 16384 ⌝ }
-    requires { ⌜ d + n ≤ length (now destination) ⌝ }
-    requires { ⌜ s + n ≤ length (now source) ⌝ }
-    ensures { λ _. ⌜ now (destination .exit) ≡ moved (now (destination .entry)) d (now (source .entry)) s n ⌝ }
+    requires { ⌜ to + n ≤ length (now destination) ⌝ }
+    requires { ⌜ from + n ≤ length (now source) ⌝ }
+    ensures { λ _. ⌜ now (destination .exit) ≡ moved (now (destination .entry)) to (now (source .entry)) from n ⌝ }
 {
     let mut piece = [0u8; 16384];
     let mut k = 0;
     while k < n {
-        piece[k] = source[s + k];
+        piece[k] = source[from + k];
         k = k + 1;
     }
     let mut j = 0;
     while j < n {
-        destination[d + j] = piece[j];
+        destination[to + j] = piece[j];
         j = j + 1;
     }
 }
 
 // The same for any number of bytes, piece by piece.
-pub fn move_pieces(destination: &mut [u8], d: usize, source: &[u8], s: usize, n: usize)
-    requires { ⌜ d + n ≤ length (now destination) ⌝ }
-    requires { ⌜ s + n ≤ length (now source) ⌝ }
-    ensures { λ _. ⌜ now (destination .exit) ≡ moved (now (destination .entry)) d (now (source .entry)) s n ⌝ }
+pub fn move_pieces(destination: &mut [u8], to: usize, source: &[u8], from: usize, n: usize)
+    requires { ⌜ to + n ≤ length (now destination) ⌝ }
+    requires { ⌜ from + n ≤ length (now source) ⌝ }
+    ensures { λ _. ⌜ now (destination .exit) ≡ moved (now (destination .entry)) to (now (source .entry)) from n ⌝ }
 {
     let mut i = 0;
     while 16384 < n - i {
-        move_bytes(destination, d + i, source, s + i, 16384);
+        move_bytes(destination, to + i, source, from + i, 16384);
         i = i + 16384;
     }
-    move_bytes(destination, d + i, source, s + i, n - i);
+    move_bytes(destination, to + i, source, from + i, n - i);
 }

@@ -13,11 +13,11 @@ use super::bytes::move_pieces;
 use super::runs::place_of;
 
 // Whether two steps are both of so many bytes.
-pub fn both_step(bytes: usize, a: i64, b: i64) -> bool
-    requires { ⌜ bytes < 2 ^ 63 ⌝ }
-    ensures { λ r. ⌜ (r ≡ true → (a ≡ pos bytes) × (b ≡ pos bytes)) ⌝ }
+pub fn both_step(step: usize, a: i64, b: i64) -> bool
+    requires { ⌜ step < 2 ^ 63 ⌝ }
+    ensures { λ r. ⌜ (r ≡ true → (a ≡ pos step) × (b ≡ pos step)) ⌝ }
 {
-    let n = bytes as i64;
+    let n = step as i64;
     if a == n { b == n } else { false }
 }
 
@@ -76,27 +76,27 @@ pub fn copy_packed(
 }
 
 // Whether two steps are both of so many bytes downwards.
-pub fn both_down(bytes: usize, a: i64, b: i64) -> bool
-    requires { ⌜ bytes < 2 ^ 63 ⌝ }
-    ensures { λ r. ⌜ (r ≡ true → (a ≡ negℤ (pos bytes)) × (b ≡ negℤ (pos bytes))) ⌝ }
+pub fn both_down(step: usize, a: i64, b: i64) -> bool
+    requires { ⌜ step < 2 ^ 63 ⌝ }
+    ensures { λ r. ⌜ (r ≡ true → (a ≡ negℤ (pos step)) × (b ≡ negℤ (pos step))) ⌝ }
 {
-    let n = bytes as i64;
+    let n = step as i64;
     let down = 0 - n;
     if a == down { b == down } else { false }
 }
 
 // A side whose runs go down, taken from the last cell of each run on.
-fn upwards(o: Side, n0: u64, width: usize) -> Side
+fn upwards(side: Side, n0: u64, width: usize) -> Side
     requires { ⌜ (0 < n0) × (width < 2 ^ 63) ⌝ }
-    requires { ⌜ Reaches o (n0 - 1) 0 ⌝ }
-    ensures { λ r. ⌜ r ≡ turned n0 width o ⌝ }
+    requires { ⌜ Reaches side (n0 - 1) 0 ⌝ }
+    ensures { λ r. ⌜ r ≡ turned n0 width side ⌝ }
 {
-    let first = place_of(o, n0 - 1, 0);
+    let first = place_of(side, n0 - 1, 0);
     let step0 = width as i64;
     Side {
         first: first,
         step0: step0,
-        step1: o.step1,
+        step1: side.step1,
     }
 }
 

@@ -23,12 +23,12 @@ fn steps_from(z: i64, step: i64, k: u64) -> i64
 }
 
 // The place of cell i of run j.
-pub fn place_of(o: Side, i: u64, j: u64) -> usize
-    requires { ⌜ Reaches o i j ⌝ }
-    ensures { λ r. ⌜ r ≡ place o i j ⌝ }
+pub fn place_of(side: Side, i: u64, j: u64) -> usize
+    requires { ⌜ Reaches side i j ⌝ }
+    ensures { λ r. ⌜ r ≡ place side i j ⌝ }
 {
-    let run = steps_from(o.first as i64, o.step1, j);
-    let cell = steps_from(run, o.step0, i);
+    let run = steps_from(side.first as i64, side.step1, j);
+    let cell = steps_from(run, side.step0, i);
     cell as usize
 }
 

@@ -25,14 +25,14 @@ pub enum Head {
     Bad,
 }
 
-// The place behind the bytes t.
-fn behind_all<'a>(s: &'a [u8], at: usize, t: &'a [u8]) -> Place
-    ensures { λ r. ⌜ BehindAll (now (t .entry)) (now (s .entry)) at r ⌝ }
+// The place behind the bytes of a word.
+fn behind_all<'a>(s: &'a [u8], at: usize, word: &'a [u8]) -> Place
+    ensures { λ r. ⌜ BehindAll (now (word .entry)) (now (s .entry)) at r ⌝ }
 {
     let mut p = at;
     let mut i: usize = 0;
-    while i < t.len() {
-        match behind(s, p, t[i]) {
+    while i < word.len() {
+        match behind(s, p, word[i]) {
             Place::To(next) => {
                 p = next;
             }

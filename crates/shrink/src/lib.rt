@@ -95,23 +95,23 @@ fn lessen<'a>(
     }
 }
 
-// Every score above s in the tail is taken down to s or below, in one step. What becomes of each block is written into `out`.
+// Every score above `level` in the tail is taken down to it or below, in one step. What becomes of each block is written into `out`.
 fn clip_into<'a>(
     tail: Tail,
     blocks: &'a [u64; 64],
     costs: &'a [u64; 64],
-    s: u64,
+    level: u64,
     out: &mut [u64; 64],
 )
     requires { ⌜ Within tail × ScoresFit (tail .rank) (now costs) (now blocks) ⌝ }
-    ensures { λ _. ⌜ now (out .exit) ≡ clippedOver s (now (costs .entry)) (tail .offset) (axes tail) (now (blocks .entry)) (now (out .entry)) ⌝ }
+    ensures { λ _. ⌜ now (out .exit) ≡ clippedOver level (now (costs .entry)) (tail .offset) (axes tail) (now (blocks .entry)) (now (out .entry)) ⌝ }
 {
     let mut i = tail.offset;
     while i < tail.rank {
         let x = blocks[i];
         let c = costs[i];
-        if s < less_one(x) * c {
-            out[i] = s / c + 1;
+        if level < less_one(x) * c {
+            out[i] = level / c + 1;
         } else {
             out[i] = x;
         }

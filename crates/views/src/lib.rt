@@ -136,15 +136,15 @@ fn block_visit<'a>(
     strides: &'a [i64],
     purpose: Purpose,
     plan: Plan,
-    s: Stepped,
+    stepped: Stepped,
 ) -> Visited
     requires layout { ⌜ layoutRefused (now extents) (now sizes) (now strides) purpose ≡ none ⌝ }
-    requires block { ⌜ s .answer ≡ Block ⌝ }
-    requires state { ⌜ Countable (plan .rank) (plan .extents) (plan .blocks) (s .counters) ⌝ }
-    ensures { λ r. ⌜ r ≡ seen (now (extents .entry)) (now (sizes .entry)) (now (strides .entry)) purpose plan s ⌝ }
+    requires block { ⌜ stepped .answer ≡ Block ⌝ }
+    requires state { ⌜ Countable (plan .rank) (plan .extents) (plan .blocks) (stepped .counters) ⌝ }
+    ensures { λ r. ⌜ r ≡ seen (now (extents .entry)) (now (sizes .entry)) (now (strides .entry)) purpose plan stepped ⌝ }
 {
     let rank = plan.rank;
-    let counters = s.counters;
+    let counters = stepped.counters;
     let mut count = [0usize; 1];
     let mut index = [0u64; 64];
     let told = original_of(
@@ -161,18 +161,18 @@ fn block_visit<'a>(
         Answer::Served => {
             let number = number_of(rank, &plan.extents, &plan.blocks, &counters);
             let places = count[0];
-            let block_offsets = s.offsets;
-            let block_strides = s.strides;
+            let block_offsets = stepped.offsets;
+            let block_strides = stepped.strides;
             let visit = Visit {
                 number: number,
                 counters: counters,
-                length: s.length,
+                length: stepped.length,
                 offsets: block_offsets,
                 strides: block_strides,
                 count: places,
                 first: index,
             };
-            let walk = s.walk;
+            let walk = stepped.walk;
             Visited {
                 answer: Outcome::Block,
                 visit: visit,

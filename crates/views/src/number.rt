@@ -1,11 +1,11 @@
 // The number of a block, told from a walk's counters: one pass over the axes, the outermost first.
 ghost use mathlib.Core.Path.{_≡_};
-ghost use Prim.Native.Nat.{min};
 ghost use lib.ListN.{take};
 ghost use Rattle.strided.specs.Walk.{cutAxes};
 ghost use Rattle.views.specs.Number.{blockNumber};
 ghost use Rattle.views.specs.Tally.{tallied, numbered, Room, First, Countable};
 use advance::width_of;
+use layout::sizes::least;
 use walk::onward::start_at;
 
 // Of the axes from some axis on: how many indices the tiles before have, how many this tile has, and the place among these.
@@ -15,22 +15,16 @@ pub struct Tally {
     pub place: u64,
 }
 
-fn least(a: u64, b: u64) -> u64
-    ensures { λ r. ⌜ r ≡ min a b ⌝ }
-{
-    if a < b { a } else { b }
-}
-
 // The same with one axis more, inside those.
-fn tally_axis(extent: u64, width: u64, at: u64, t: Tally) -> Tally
-    requires { ⌜ Room extent width at t ⌝ }
-    ensures { λ r. ⌜ r ≡ tallied extent width at t ⌝ }
+fn tally_axis(extent: u64, width: u64, at: u64, tally: Tally) -> Tally
+    requires { ⌜ Room extent width at tally ⌝ }
+    ensures { λ r. ⌜ r ≡ tallied extent width at tally ⌝ }
 {
     let start = start_at(width, at);
     let len = least(width, extent - start);
-    let before = extent * t.before + start * t.size;
-    let size = len * t.size;
-    let place = len * t.place + (at - start);
+    let before = extent * tally.before + start * tally.size;
+    let size = len * tally.size;
+    let place = len * tally.place + (at - start);
     Tally {
         before: before,
         size: size,
@@ -39,12 +33,12 @@ fn tally_axis(extent: u64, width: u64, at: u64, t: Tally) -> Tally
 }
 
 // Axis 0 counts by whole tiles.
-fn number_first(extent: u64, width: u64, at: u64, t: Tally) -> u64
-    requires { ⌜ First extent width at t ⌝ }
-    ensures { λ r. ⌜ r ≡ numbered extent width at t ⌝ }
+fn number_first(extent: u64, width: u64, at: u64, tally: Tally) -> u64
+    requires { ⌜ First extent width at tally ⌝ }
+    ensures { λ r. ⌜ r ≡ numbered extent width at tally ⌝ }
 {
     let tiles = (extent - 1) / width + 1;
-    tiles * t.before + at / width * t.size + t.place
+    tiles * tally.before + at / width * tally.size + tally.place
 }
 
 // How many blocks come before the one at the counters `c`, on the extents and block sizes of a plan.

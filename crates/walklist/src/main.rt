@@ -24,12 +24,12 @@ enum Input {
 }
 
 // Reads a descriptor to its end, or until the bytes lent are full.
-fn read_input(fd: i32, bytes: &mut [u8]) -> Input
-    ensures { λ r. ⌜ Received (length (now (bytes .entry))) r ⌝ }
+fn read_input(fd: i32, text: &mut [u8]) -> Input
+    ensures { λ r. ⌜ Received (length (now (text .entry))) r ⌝ }
 {
     let mut n: usize = 0;
-    while n < bytes.len() {
-        let got = libc::read(fd, &mut bytes[n..]);
+    while n < text.len() {
+        let got = libc::read(fd, &mut text[n..]);
         if got < 0 {
             return Input::Failed;
         }
@@ -41,12 +41,12 @@ fn read_input(fd: i32, bytes: &mut [u8]) -> Input
     Input::Bytes(n)
 }
 
-// What is printed for a text, in bytes of zeros. It answers how many bytes.
-fn list_text(bytes: &[u8], out: &mut [u8]) -> usize
+// What is printed for a text, in bytes of zeros. It answers how many.
+fn list_text(text: &[u8], out: &mut [u8]) -> usize
     requires { ⌜ now out ≡ replicate 65536 0 ⌝ }
-    ensures { λ r. ⌜ Printing (now (bytes .entry)) r (now (out .exit)) ⌝ }
+    ensures { λ r. ⌜ Printing (now (text .entry)) r (now (out .exit)) ⌝ }
 {
-    let answer = text::walklist(bytes, out);
+    let answer = text::walklist(text, out);
     if answer < 0 {
         return put_refusal(out, 0, magnitude(answer));
     }
@@ -69,19 +69,19 @@ fn write_lines<'a>(text: &'a [u8], lines: &'a [u8])
 }
 
 // Prints what is printed for a text.
-fn print_text(bytes: &[u8], out: &mut [u8])
+fn print_text(text: &[u8], out: &mut [u8])
     requires { ⌜ now out ≡ replicate 65536 0 ⌝ }
 {
-    let n = list_text(bytes, out);
-    write_lines(bytes, &out[..n]);
+    let n = list_text(text, out);
+    write_lines(text, &out[..n]);
 }
 
 // Prints what is printed for the text that a descriptor holds.
 fn print_input(fd: i32) {
-    let mut bytes = [0u8; TEXT];
+    let mut text = [0u8; TEXT];
     let mut out = [0u8; ROOM];
-    match read_input(fd, &mut bytes) {
-        Input::Bytes(n) => print_text(&bytes[..n], &mut out),
+    match read_input(fd, &mut text) {
+        Input::Bytes(n) => print_text(&text[..n], &mut out),
         Input::Failed => complain(b"walklist: cannot read the layout\n"),
     }
 }

@@ -153,19 +153,19 @@ pub fn put_axis(
 }
 
 // "B,number,length,one offset per operand"
-pub fn block_len(number: u64, size: u64, offsets: &[i64]) -> usize
+pub fn block_len(number: u64, len: u64, offsets: &[i64]) -> usize
     requires { ⌜ length (now offsets) ≤ 8 ⌝ }
-    ensures { λ r. ⌜ (r ≡ length (blockLine number size (now (offsets .entry)))) × (r ≤ longest) ⌝ }
+    ensures { λ r. ⌜ (r ≡ length (blockLine number len (now (offsets .entry)))) × (r ≤ longest) ⌝ }
 {
-    let numbers = [number, size];
+    let numbers = [number, len];
     line_len(&numbers, offsets)
 }
 
-pub fn put_block(out: &mut [u8], at: usize, number: u64, size: u64, offsets: &[i64]) -> usize
-    requires { ⌜ at + length (blockLine number size (now offsets)) ≤ length (now out) ⌝ }
-    ensures { λ r. ⌜ Wrote (now (out .entry)) at (blockLine number size (now (offsets .entry))) (now (out .exit)) r ⌝ }
+pub fn put_block(out: &mut [u8], at: usize, number: u64, len: u64, offsets: &[i64]) -> usize
+    requires { ⌜ at + length (blockLine number len (now offsets)) ≤ length (now out) ⌝ }
+    ensures { λ r. ⌜ Wrote (now (out .entry)) at (blockLine number len (now (offsets .entry))) (now (out .exit)) r ⌝ }
 {
-    let numbers = [number, size];
+    let numbers = [number, len];
     put_line(out, at, 66, &numbers, offsets)
 }
 

@@ -18,10 +18,10 @@ abbrev firstIs : List (List ℕ) → ℕ → ℕ → ℕ → Bool
 firstIs ranks offset m j = eqb (rankAt ranks j offset) m
 
 abbrev Inv-loop : tie.InvT-loop
-Inv-loop tail ranks m first k₀ k = (k ≤ tail .operands) × (every (firstIs ranks (tail .offset) m) 0 k ≡ true)
+Inv-loop tail table m first k₀ k = (k ≤ tail .operands) × (every (firstIs table (tail .offset) m) 0 k ≡ true)
 
 abbrev μ-loop : tie.MeasureT-loop
-μ-loop tail ranks m first k₀ k = tail .operands - k
+μ-loop tail table m first k₀ k = tail .operands - k
 
 least-rank-requires : tie.Need-least-rank-requires Inv-loop μ-loop
 least-rank-requires c κs = omega arith
@@ -43,8 +43,8 @@ unfolding keepsFirst
 returns c = let a = c .before .before .before .before .before .before .args in
     let l = c .before .before .before .before .loop in
     let q = c .before .before .before .before .before .least-rank in
-    sym (ap (λ (m : ℕ). every (firstIs (a .ranks .now) (a .tail .offset) m) 0 (a .tail .operands)) (sym (q .ensures))
-    ∙ every-fails-at (firstIs (a .ranks .now) (a .tail .offset) (q .result)) 0 (l .k) (a .tail .operands) (omega arith) (omega arith) (ne-eqb _ _ (c .if2 .taken)))
+    sym (ap (λ (m : ℕ). every (firstIs (a .table .now) (a .tail .offset) m) 0 (a .tail .operands)) (sym (q .ensures))
+    ∙ every-fails-at (firstIs (a .table .now) (a .tail .offset) (q .result)) 0 (l .k) (a .tail .operands) (omega arith) (omega arith) (ne-eqb _ _ (c .if2 .taken)))
 
 add-k : tie.Need-add-k Inv-loop μ-loop
 add-k c = omega arith
@@ -56,7 +56,7 @@ loop-again : tie.Need-loop-again Inv-loop μ-loop
 loop-again c = let a = c .before .before .before .before .before .before .args in
     let l = c .before .before .before .before .loop in
     let m : ℕ = c .before .before .before .before .before .least-rank .result in
-    (omega arith, every-more (firstIs (a .ranks .now) (a .tail .offset) m) (l .k) (eq-eqb _ _ (c .if2 .left)) ∙ l .inv .1)
+    (omega arith, every-more (firstIs (a .table .now) (a .tail .offset) m) (l .k) (eq-eqb _ _ (c .if2 .left)) ∙ l .inv .1)
 
 returns-2 : tie.Need-returns-2 Inv-loop μ-loop
 unfolding keepsFirst
@@ -64,8 +64,8 @@ returns-2 c = let a = c .before .before .before .before .args in
     let l = c .before .before .loop in
     let q = c .before .before .before .least-rank in
     let e : l .k ≡ a .tail .operands = omega arith in
-    sym (ap (λ (m : ℕ). every (firstIs (a .ranks .now) (a .tail .offset) m) 0 (a .tail .operands)) (sym (q .ensures))
-    ∙ ap (every (firstIs (a .ranks .now) (a .tail .offset) (q .result)) 0) (sym e) ∙ l .inv .1)
+    sym (ap (λ (m : ℕ). every (firstIs (a .table .now) (a .tail .offset) m) 0 (a .tail .operands)) (sym (q .ensures))
+    ∙ ap (every (firstIs (a .table .now) (a .tail .offset) (q .result)) 0) (sym e) ∙ l .inv .1)
 
 pub keeps-first-spec : {M : Type 1} → statement M
 keeps-first-spec =

@@ -16,10 +16,10 @@ abbrev leastOf : List (List ℕ) → ℕ → ℕ → ℕ → ℕ
 leastOf ranks offset rank j = least (rankAt ranks j) offset (rank - offset)
 
 abbrev Inv-loop : tie.InvT-loop
-Inv-loop tail ranks m₀ k₀ m k = (0 < k) × (k ≤ tail .operands) × (m ≡ least (leastOf ranks (tail .offset) (tail .rank)) 0 k)
+Inv-loop tail table m₀ k₀ m k = (0 < k) × (k ≤ tail .operands) × (m ≡ least (leastOf table (tail .offset) (tail .rank)) 0 k)
 
 abbrev μ-loop : tie.MeasureT-loop
-μ-loop tail ranks m₀ k₀ m k = tail .operands - k
+μ-loop tail table m₀ k₀ m k = tail .operands - k
 
 index-1-least-in-row : tie.Need-index-1-least-in-row Inv-loop μ-loop
 index-1-least-in-row c = omega arith
@@ -48,7 +48,7 @@ loop-less c = omega arith
 loop-again : tie.Need-loop-again Inv-loop μ-loop
 loop-again c = let a = c .before .before .before .before .before .before .before .before .args in
     let l = c .before .before .before .before .before .loop in
-    let st = least-more (leastOf (a .ranks .now) (a .tail .offset) (a .tail .rank)) (l .k) (l .inv .0) in
+    let st = least-more (leastOf (a .table .now) (a .tail .offset) (a .tail .rank)) (l .k) (l .inv .0) in
     ⊎-elim (λ w. omega (arith, c .before .least-in-row2 .ensures)) (λ w. omega (arith, c .before .least-in-row2 .ensures)) (c .if2 .came)
 
 returns : tie.Need-returns Inv-loop μ-loop
@@ -56,7 +56,7 @@ unfolding leastRank
 returns c = let a = c .before .before .before .before .before .args in
     let l = c .before .before .loop in
     let e : l .k ≡ a .tail .operands = omega arith in
-    l .inv .2 ∙ ap (least (leastOf (a .ranks .now) (a .tail .offset) (a .tail .rank)) 0) e
+    l .inv .2 ∙ ap (least (leastOf (a .table .now) (a .tail .offset) (a .tail .rank)) 0) e
 
 pub least-rank-spec : {M : Type 1} → statement M
 least-rank-spec =

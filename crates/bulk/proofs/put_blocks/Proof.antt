@@ -13,11 +13,11 @@ use Rattle.bulk.proofs.put_blocks.Statement.{statement}
 use Rattle.bulk.proofs.put_blocks.Tie as tie
 
 abbrev Inv-loop : tie.InvT-loop
-Inv-loop room rank operands e b s lengths₀ offsets₀ w y d c₀ o₀ t₀ n₀ lengths offsets c o t n =
-    (n ≤ room) × Turned (planOf rank operands e b s) (walkOf false c₀ o₀) y w lengths₀ offsets₀ n t c o lengths offsets
+Inv-loop most rank operands e b s lengths₀ offsets₀ w y d c₀ o₀ t₀ n₀ lengths offsets c o t n =
+    (n ≤ most) × Turned (planOf rank operands e b s) (walkOf false c₀ o₀) y w lengths₀ offsets₀ n t c o lengths offsets
 
 abbrev μ-loop : tie.MeasureT-loop
-μ-loop room rank operands e b s lengths₀ offsets₀ w y d c₀ o₀ t₀ n₀ lengths offsets c o t n = room - n
+μ-loop most rank operands e b s lengths₀ offsets₀ w y d c₀ o₀ t₀ n₀ lengths offsets c o t n = most - n
 
 -- from the loop back to the entry of the function
 abbrev ready : tie.At-loop Inv-loop μ-loop → tie.After-moves-of Inv-loop μ-loop
@@ -109,7 +109,7 @@ add-n c =
     let x = some c in
     let i = turn x in
     let f = count-fits (i .before .loop .inv .1) (start i .pre .1) (i .loop-test .taken) (x .before .stretch-here .ensures .0) (x .least .ensures) in
-    let r = start i .fits .room .fits in
+    let r = start i .fits .most .fits in
     record { fits = omega (arith, f, r) }
 
 hop-requires : tie.Need-hop-requires Inv-loop μ-loop

@@ -11,13 +11,13 @@ use Rattle.bulk.proofs.put_lengths.Statement.{statement}
 use Rattle.bulk.proofs.put_lengths.Tie as tie
 
 abbrev Inv-loop : tie.InvT-loop
-Inv-loop count at size lengths₀ j₀ lengths j = (j ≤ count) × (length lengths ≡ length lengths₀) × (lengths ≡ paste lengths₀ at (replicate count size) j)
+Inv-loop count at len lengths₀ j₀ lengths j = (j ≤ count) × (length lengths ≡ length lengths₀) × (lengths ≡ paste lengths₀ at (replicate count len) j)
 
 abbrev μ-loop : tie.MeasureT-loop
-μ-loop count at size lengths₀ j₀ lengths j = count - j
+μ-loop count at len lengths₀ j₀ lengths j = count - j
 
 loop-holds : tie.Need-loop-holds Inv-loop μ-loop
-loop-holds c = (omega arith, refl, paste-zero (c .args .lengths .now) (c .args .at) (replicate (c .args .count) (c .args .size)))
+loop-holds c = (omega arith, refl, paste-zero (c .args .lengths .now) (c .args .at) (replicate (c .args .count) (c .args .len)))
 
 add-lengths : tie.Need-add-lengths Inv-loop μ-loop
 add-lengths c = search needs
@@ -39,17 +39,17 @@ loop-again c =
     let a = c .before .before .args in
     let l = c .before .loop in
     let h : l .j < a .count = c .loop-test .taken in
-    let n = length-replicate {A = ℕ} (a .count) (a .size) in (
+    let n = length-replicate {A = ℕ} (a .count) (a .len) in (
       omega arith,
       length-set (l .lengths) _ _ ∙ l .inv .1,
-      paste-next (l .lengths) (a .lengths .now) (a .at) (replicate (a .count) (a .size)) (l .j) 0 (l .inv .2) (sym (getD-replicate (a .count) (l .j) (a .size) 0 h)) (omega arith) (omega (arith, n)),
+      paste-next (l .lengths) (a .lengths .now) (a .at) (replicate (a .count) (a .len)) (l .j) 0 (l .inv .2) (sym (getD-replicate (a .count) (l .j) (a .len) 0 h)) (omega arith) (omega (arith, n)),
     )
 
 same-length : tie.Need-same-length Inv-loop μ-loop
 same-length c = c .before .loop .inv .1
 
 returns : tie.Need-returns Inv-loop μ-loop
-returns c = let l = c .before .loop in l .inv .2 ∙ ap (paste (c .before .before .args .lengths .now) (c .before .before .args .at) (replicate (c .before .before .args .count) (c .before .before .args .size))) (le-antisymm (l .inv .0) (c .loop-test .left))
+returns c = let l = c .before .loop in l .inv .2 ∙ ap (paste (c .before .before .args .lengths .now) (c .before .before .args .at) (replicate (c .before .before .args .count) (c .before .before .args .len))) (le-antisymm (l .inv .0) (c .loop-test .left))
 
 pub put-lengths-spec : {M : Type 1} → statement M
 put-lengths-spec =

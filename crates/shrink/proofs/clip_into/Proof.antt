@@ -1,5 +1,5 @@
--- `shrink::clip_into` meets its contract. The invariant: the axes before i are clipped. A score above s has a cost above 0, so that the code
--- may divide by it. Assumes nothing.
+-- `shrink::clip_into` meets its contract. The invariant: the axes before i are clipped. A score above `level` has a cost above 0, so that the
+-- code may divide by it. Assumes nothing.
 use native.Mathlib.Omega.{arith}
 use mathlib.Core.Path.{_≡_, sym, ap, _∙_}
 use mathlib.Core.Logic.{⊎-elim}
@@ -14,10 +14,10 @@ use Rattle.shrink.proofs.clip_into.Statement.{statement}
 use Rattle.shrink.proofs.clip_into.Tie as tie
 
 abbrev Inv-loop : tie.InvT-loop
-Inv-loop tail blocks costs s out₀ i₀ out i = (tail .offset ≤ i) × (i ≤ tail .rank) × (out ≡ clippedOver s costs (tail .offset) (i - tail .offset) blocks out₀)
+Inv-loop tail blocks costs level out₀ i₀ out i = (tail .offset ≤ i) × (i ≤ tail .rank) × (out ≡ clippedOver level costs (tail .offset) (i - tail .offset) blocks out₀)
 
 abbrev μ-loop : tie.MeasureT-loop
-μ-loop tail blocks costs s out₀ i₀ out i = tail .rank - i
+μ-loop tail blocks costs level out₀ i₀ out i = tail .rank - i
 
 loop-holds : tie.Need-loop-holds Inv-loop μ-loop
 loop-holds c = (omega arith, omega arith, sym (over-start _ _ _ _ _))
@@ -58,7 +58,7 @@ add-out : tie.Need-add-out Inv-loop μ-loop
 add-out c =
     let l = c .before .before .before .before .before .before in
     let a = l .before .args in
-    omega (arith, the-score (c .before), l .before .pre .1 (l .loop .i) (omega arith), div-le-self (a .s) (getD (a .costs .now) (l .loop .i) 0))
+    omega (arith, the-score (c .before), l .before .pre .1 (l .loop .i) (omega arith), div-le-self (a .level) (getD (a .costs .now) (l .loop .i) 0))
 
 mul-out : tie.Need-mul-out Inv-loop μ-loop
 mul-out c = omega arith
@@ -85,17 +85,17 @@ loop-again c =
     let i : ℕ = l .loop .i in
     let sc : ℕ = score (a .blocks .now) (a .costs .now) i in
     let e = the-score (c .before) in
-    let st = over-step (a .s) (a .costs .now) (a .tail .offset) i (a .blocks .now) (a .out .now) (l .loop .inv .0) in
+    let st = over-step (a .level) (a .costs .now) (a .tail .offset) i (a .blocks .now) (a .out .now) (l .loop .inv .0) in
     ⊎-elim
-    (λ w. let above : a .s < sc = omega (arith, e, w .0 .taken) in (omega arith, omega arith, rw (w .1, l .loop .inv .2, st, lt-ltb (a .s) sc above)))
-    (λ w. let within : sc ≤ a .s = omega (arith, e, w .0 .left) in (omega arith, omega arith, rw (w .1, l .loop .inv .2, st, le-ltb (a .s) sc within)))
+    (λ w. let above : a .level < sc = omega (arith, e, w .0 .taken) in (omega arith, omega arith, rw (w .1, l .loop .inv .2, st, lt-ltb (a .level) sc above)))
+    (λ w. let within : sc ≤ a .level = omega (arith, e, w .0 .left) in (omega arith, omega arith, rw (w .1, l .loop .inv .2, st, le-ltb (a .level) sc within)))
     (c .if2 .came)
 
 returns : tie.Need-returns Inv-loop μ-loop
 returns c = let a = c .before .before .before .args in
     let l = c .before .before .loop in
     let e : l .i ≡ a .tail .rank = omega arith in
-    l .inv .2 ∙ ap (λ (i : ℕ). clippedOver (a .s) (a .costs .now) (a .tail .offset) (i - a .tail .offset) (a .blocks .now) (a .out .now)) e
+    l .inv .2 ∙ ap (λ (i : ℕ). clippedOver (a .level) (a .costs .now) (a .tail .offset) (i - a .tail .offset) (a .blocks .now) (a .out .now)) e
 
 pub clip-into-spec : {M : Type 1} → statement M
 clip-into-spec =

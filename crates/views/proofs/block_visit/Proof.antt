@@ -14,7 +14,7 @@ slice-aggregate-original-of : tie.Need-slice-aggregate-original-of
 slice-aggregate-original-of c =
     let s = c .before .before .before .before in
     let k = s .pre .1 .1 in
-    taken-long (s .args .t5 .rank) (s .args .s .counters) (k .counters-all) (k .few)
+    taken-long (s .args .t5 .rank) (s .args .stepped .counters) (k .counters-all) (k .few)
 
 original-of-requires : tie.Need-original-of-requires
 original-of-requires c κs =
@@ -43,8 +43,8 @@ returns c =
     let s = o .before .before .before .before .before .before .before in
     let a = s .args in
     c .not-visited .ensures
-    ∙ value-refused (a .extents .now) (a .sizes .now) (a .strides .now) (a .purpose) (a .t5) (a .s) (s .pre .1 .0)
-    (told-as (a .extents .now) (a .sizes .now) (a .strides .now) (a .purpose) (s .pre .0) (take (a .t5 .rank) (a .s .counters)) (c .before .before .told .given .1) (o .original-of .ensures))
+    ∙ value-refused (a .extents .now) (a .sizes .now) (a .strides .now) (a .purpose) (a .t5) (a .stepped) (s .pre .1 .0)
+    (told-as (a .extents .now) (a .sizes .now) (a .strides .now) (a .purpose) (s .pre .0) (take (a .t5 .rank) (a .stepped .counters)) (c .before .before .told .given .1) (o .original-of .ensures))
 
 returns-2 : tie.Need-returns-2
 returns-2 c =
@@ -53,8 +53,8 @@ returns-2 c =
     let o = e .before .before in
     let s = o .before .before .before .before .before .before .before in
     let a = s .args in
-    value-block (a .extents .now) (a .sizes .now) (a .strides .now) (a .purpose) (a .t5) (a .s) (s .pre .1 .0)
-    (told-as (a .extents .now) (a .sizes .now) (a .strides .now) (a .purpose) (s .pre .0) (take (a .t5 .rank) (a .s .counters)) (e .enum-told .given .1) (o .original-of .ensures))
+    value-block (a .extents .now) (a .sizes .now) (a .strides .now) (a .purpose) (a .t5) (a .stepped) (s .pre .1 .0)
+    (told-as (a .extents .now) (a .sizes .now) (a .strides .now) (a .purpose) (s .pre .0) (take (a .t5 .rank) (a .stepped .counters)) (e .enum-told .given .1) (o .original-of .ensures))
     (n .number-of .ensures)
 
 pub block-visit-spec : {M : Type 1} → statement M

@@ -27,10 +27,10 @@ back c = toZ-ofZ (record { sfits = c .walklist .ok })
 
 -- the listing, in bytes that were 0
 listing : (c : tie.After-walklist) → let a = c .before .before .before .before .args in
-    Lists (a .bytes .now) (replicate 65536 0) (record { answer = c .walklist .result; room = c .walklist .last .1 .0 })
+    Lists (a .text .now) (replicate 65536 0) (record { answer = c .walklist .result; room = c .walklist .last .1 .0 })
 listing c =
     let s = c .before .before .before .before in
-    subst (λ (old : List ℕ). Lists (s .args .bytes .now) old (record { answer = c .walklist .result; room = c .walklist .last .1 .0 })) (s .pre) (c .walklist .ensures)
+    subst (λ (old : List ℕ). Lists (s .args .text .now) old (record { answer = c .walklist .result; room = c .walklist .last .1 .0 })) (s .pre) (c .walklist .ensures)
 
 -- as many bytes as before
 long : (c : tie.After-walklist) → length (c .walklist .last .1 .0) ≡ 65536

@@ -21,8 +21,8 @@ there c =
     let r = c .before .before .before .before .read-input in
     omega (arith, r .ensures .within (c .before .n .given .0 .0) (c .before .n .given .1), r .kept .1 .0)
 
-array-share-prefix-bytes : tie.Need-array-share-prefix-bytes
-array-share-prefix-bytes c = there c
+array-share-prefix-text : tie.Need-array-share-prefix-text
+array-share-prefix-text c = there c
 
 slice-aggregate-print-text : tie.Need-slice-aggregate-print-text
 slice-aggregate-print-text c = omega (arith, there (c .before), length-take (c .before .before .n .given .0 .0) (c .before .before .before .before .before .read-input .last .1 .0))
@@ -55,7 +55,7 @@ print-input-spec =
     slice-aggregate-read-input
     read-input-requires
     enum-known-n
-    array-share-prefix-bytes
+    array-share-prefix-text
     slice-aggregate-print-text
     slice-aggregate-print-text-2
     print-text-requires

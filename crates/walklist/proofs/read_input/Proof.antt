@@ -19,10 +19,10 @@ use Rattle.walklist.proofs.read_input.Statement.{statement}
 use Rattle.walklist.proofs.read_input.Tie as tie
 
 abbrev Inv-loop : tie.InvT-loop
-Inv-loop fd bytes₀ n₀ bytes n = (n ≤ length bytes) × (length bytes ≡ length bytes₀)
+Inv-loop fd text₀ n₀ text n = (n ≤ length text) × (length text ≡ length text₀)
 
 abbrev μ-loop : tie.MeasureT-loop
-μ-loop fd bytes₀ n₀ bytes n = length bytes - n
+μ-loop fd text₀ n₀ text n = length text - n
 
 -- a read that has not failed and is not at the end: some bytes, no more than there were places
 record Took (size : ℕ) (z : ℤ) : Type 0 where
@@ -36,23 +36,23 @@ took size (pos (suc k)) m t ne = record { sign = tt; some = omega arith; within 
 took size (negsuc k) m t ne = absurd (true≢false t)
 
 got : (c : tie.Else2 Inv-loop μ-loop) → let l = c .before .before .before .before .before .before .before .loop in
-    Took (length (l .bytes) - l .n) (toZ w64 (ofZ w64 (c .before .before .before .before .read .result)))
+    Took (length (l .text) - l .n) (toZ w64 (ofZ w64 (c .before .before .before .before .read .result)))
 got c =
     let l = c .before .before .before .before .before .before .before .loop in
     let r = c .before .before .before .before .read in
     let back : toZ w64 (ofZ w64 (r .result)) ≡ r .result = toZ-ofZ (record { sfits = r .ok }) in
-    let room = length-take (length (l .bytes) - l .n) (drop (l .n) (l .bytes)) in
-    let left = length-drop (l .n) (l .bytes) in
-    let e : length (take (length (l .bytes) - l .n) (drop (l .n) (l .bytes))) ≡ length (l .bytes) - l .n = omega arith in
-    subst (Took (length (l .bytes) - l .n)) (sym back)
-    (took (length (l .bytes) - l .n) (r .result) (subst (λ (k : ℕ). Moved k (r .result)) e (r .ensures)) (rw back at (c .before .if1 .left)) (c .if2 .left))
+    let room = length-take (length (l .text) - l .n) (drop (l .n) (l .text)) in
+    let left = length-drop (l .n) (l .text) in
+    let e : length (take (length (l .text) - l .n) (drop (l .n) (l .text))) ≡ length (l .text) - l .n = omega arith in
+    subst (Took (length (l .text) - l .n)) (sym back)
+    (took (length (l .text) - l .n) (r .result) (subst (λ (k : ℕ). Moved k (r .result)) e (r .ensures)) (rw back at (c .before .if1 .left)) (c .if2 .left))
 
 -- a read changes no length
 same : (c : tie.Else2 Inv-loop μ-loop) → let l = c .before .before .before .before .before .before .before .loop in
-    length (putMid (l .n) (length (l .bytes) - l .n) (l .bytes) (c .before .before .before .before .read .last .1 .0)) ≡ length (l .bytes)
+    length (putMid (l .n) (length (l .text) - l .n) (l .text) (c .before .before .before .before .read .last .1 .0)) ≡ length (l .text)
 same c =
     let l = c .before .before .before .before .before .before .before .loop in
-    same-len-mid (l .n) (length (l .bytes) - l .n) (l .bytes) (c .before .before .before .before .read .last .1 .0) (c .before .before .before .before .read .kept .1 .0)
+    same-len-mid (l .n) (length (l .text) - l .n) (l .text) (c .before .before .before .before .read .last .1 .0) (c .before .before .before .before .read .kept .1 .0)
 
 loop-holds : tie.Need-loop-holds Inv-loop μ-loop
 loop-holds c = search needs

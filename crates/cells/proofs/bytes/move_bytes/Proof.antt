@@ -14,16 +14,16 @@ use Rattle.cells.proofs.bytes.move_bytes.Reads as reads
 use Rattle.cells.proofs.bytes.move_bytes.Lts as lts
 
 abbrev Inv-loop : tie.InvT-loop
-Inv-loop destination d source s n piece₀ k₀ piece k = (k ≤ n) × (length piece ≡ 16384) × Held piece source s k
+Inv-loop destination to source from n piece₀ k₀ piece k = (k ≤ n) × (length piece ≡ 16384) × Held piece source from k
 
 abbrev μ-loop : tie.MeasureT-loop
-μ-loop destination d source s n piece₀ k₀ piece k = n - k
+μ-loop destination to source from n piece₀ k₀ piece k = n - k
 
 abbrev Inv-loop2 : tie.InvT-loop2
-Inv-loop2 destination₀ d source s n piece k j₀ destination j = (j ≤ n) × (length destination ≡ length destination₀) × (destination ≡ moved destination₀ d source s j)
+Inv-loop2 destination₀ to source from n piece k j₀ destination j = (j ≤ n) × (length destination ≡ length destination₀) × (destination ≡ moved destination₀ to source from j)
 
 abbrev μ-loop2 : tie.MeasureT-loop2
-μ-loop2 destination₀ d source s n piece k j₀ destination j = n - j
+μ-loop2 destination₀ to source from n piece k j₀ destination j = n - j
 
 loop-holds : tie.Need-loop-holds Inv-loop μ-loop Inv-loop2 μ-loop2
 loop-holds c = (omega arith, search needs, held-none _ _ _)
@@ -50,8 +50,8 @@ loop-again c =
     let source : List ℕ = l .before .args .source .now in
     let h : k < length (l .loop .piece) = omega arith in (
       omega arith,
-      length-set (l .loop .piece) k (getD source (l .before .args .s + k) 0) ∙ l .loop .inv .1,
-      held-more (l .loop .piece) source (l .before .args .s) k h (l .loop .inv .2),
+      length-set (l .loop .piece) k (getD source (l .before .args .from + k) 0) ∙ l .loop .inv .1,
+      held-more (l .loop .piece) source (l .before .args .from) k h (l .loop .inv .2),
     )
 
 loop2-holds : tie.Need-loop2-holds Inv-loop μ-loop Inv-loop2 μ-loop2
@@ -80,12 +80,12 @@ loop2-again c =
     let a = f .before .args in
     let x : ℕ = getD (f .loop .piece) j 0 in
     let h : j < f .loop .k = omega arith in
-    let e : x ≡ getD (a .source .now) (a .s + j) 0 = held-at (f .loop .piece) (a .source .now) (a .s) (f .loop .k) j (f .loop .inv .2) h in (
+    let e : x ≡ getD (a .source .now) (a .from + j) 0 = held-at (f .loop .piece) (a .source .now) (a .from) (f .loop .k) j (f .loop .inv .2) h in (
       omega arith,
-      length-set (l .loop2 .destination) (a .d + j) x ∙ l .loop2 .inv .1,
-      ap (λ (xs : List ℕ). set xs (a .d + j) x) (l .loop2 .inv .2)
-          ∙ ap (λ (y : ℕ). set (moved (a .destination .now) (a .d) (a .source .now) (a .s) j) (a .d + j) y) e
-          ∙ moved-more (a .destination .now) (a .d) (a .source .now) (a .s) j,
+      length-set (l .loop2 .destination) (a .to + j) x ∙ l .loop2 .inv .1,
+      ap (λ (xs : List ℕ). set xs (a .to + j) x) (l .loop2 .inv .2)
+          ∙ ap (λ (y : ℕ). set (moved (a .destination .now) (a .to) (a .source .now) (a .from) j) (a .to + j) y) e
+          ∙ moved-more (a .destination .now) (a .to) (a .source .now) (a .from) j,
     )
 
 same-length : tie.Need-same-length Inv-loop μ-loop Inv-loop2 μ-loop2
@@ -96,7 +96,7 @@ returns c =
     let l = c .before in
     let a = l .before .before .before .args in
     let e : l .loop2 .j ≡ a .n = omega arith in
-    l .loop2 .inv .2 ∙ ap (moved (a .destination .now) (a .d) (a .source .now) (a .s)) e
+    l .loop2 .inv .2 ∙ ap (moved (a .destination .now) (a .to) (a .source .now) (a .from)) e
 
 pub move-bytes-spec : {M : Type 1} → statement M
 move-bytes-spec =

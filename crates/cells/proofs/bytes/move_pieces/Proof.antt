@@ -14,10 +14,10 @@ use Rattle.cells.proofs.bytes.move_pieces.Lts as lts
 use Rattle.cells.proofs.bytes.move_bytes.Reads as move-bytes-reads
 
 abbrev Inv-loop : tie.InvT-loop
-Inv-loop destination₀ d source s n i₀ destination i = (i ≤ n) × (length destination ≡ length destination₀) × (destination ≡ moved destination₀ d source s i)
+Inv-loop destination₀ to source from n i₀ destination i = (i ≤ n) × (length destination ≡ length destination₀) × (destination ≡ moved destination₀ to source from i)
 
 abbrev μ-loop : tie.MeasureT-loop
-μ-loop destination₀ d source s n i₀ destination i = n - i
+μ-loop destination₀ to source from n i₀ destination i = n - i
 
 loop-holds : tie.Need-loop-holds Inv-loop μ-loop
 loop-holds c = (omega arith, refl, moved-none _ _ _ _)
@@ -46,12 +46,12 @@ loop-again c =
     let l = c .before .before .before .before .before in
     let a = l .before .before .before .args in
     let i : ℕ = l .loop .i in
-    let e : m .last .0 ≡ moved (l .loop .destination) (a .d + i) (a .source .now) (a .s + i) 16384 = m .ensures in (
+    let e : m .last .0 ≡ moved (l .loop .destination) (a .to + i) (a .source .now) (a .from + i) 16384 = m .ensures in (
       omega arith,
-      ap length e ∙ moved-length (l .loop .destination) (a .d + i) (a .source .now) (a .s + i) 16384 ∙ l .loop .inv .1,
+      ap length e ∙ moved-length (l .loop .destination) (a .to + i) (a .source .now) (a .from + i) 16384 ∙ l .loop .inv .1,
       e
-          ∙ ap (λ (xs : List ℕ). moved xs (a .d + i) (a .source .now) (a .s + i) 16384) (l .loop .inv .2)
-          ∙ moved-add (a .destination .now) (a .d) (a .source .now) (a .s) i 16384,
+          ∙ ap (λ (xs : List ℕ). moved xs (a .to + i) (a .source .now) (a .from + i) 16384) (l .loop .inv .2)
+          ∙ moved-add (a .destination .now) (a .to) (a .source .now) (a .from) i 16384,
     )
 
 add-move-bytes-3 : tie.Need-add-move-bytes-3 Inv-loop μ-loop
@@ -72,8 +72,8 @@ same-length c =
     let l = c .before .before .before .before .before in
     let a = l .before .before .before .args in
     let i : ℕ = l .loop .i in
-    let e : m .last .0 ≡ moved (l .loop .destination) (a .d + i) (a .source .now) (a .s + i) (a .n - i) = m .ensures in
-    ap length e ∙ moved-length (l .loop .destination) (a .d + i) (a .source .now) (a .s + i) (a .n - i) ∙ l .loop .inv .1
+    let e : m .last .0 ≡ moved (l .loop .destination) (a .to + i) (a .source .now) (a .from + i) (a .n - i) = m .ensures in
+    ap length e ∙ moved-length (l .loop .destination) (a .to + i) (a .source .now) (a .from + i) (a .n - i) ∙ l .loop .inv .1
 
 returns : tie.Need-returns Inv-loop μ-loop
 returns c =
@@ -81,12 +81,12 @@ returns c =
     let l = c .before .before .before .before .before in
     let a = l .before .before .before .args in
     let i : ℕ = l .loop .i in
-    let e : m .last .0 ≡ moved (l .loop .destination) (a .d + i) (a .source .now) (a .s + i) (a .n - i) = m .ensures in
+    let e : m .last .0 ≡ moved (l .loop .destination) (a .to + i) (a .source .now) (a .from + i) (a .n - i) = m .ensures in
     let q : i + (a .n - i) ≡ a .n = omega arith in
     e
-    ∙ ap (λ (xs : List ℕ). moved xs (a .d + i) (a .source .now) (a .s + i) (a .n - i)) (l .loop .inv .2)
-    ∙ moved-add (a .destination .now) (a .d) (a .source .now) (a .s) i (a .n - i)
-    ∙ ap (moved (a .destination .now) (a .d) (a .source .now) (a .s)) q
+    ∙ ap (λ (xs : List ℕ). moved xs (a .to + i) (a .source .now) (a .from + i) (a .n - i)) (l .loop .inv .2)
+    ∙ moved-add (a .destination .now) (a .to) (a .source .now) (a .from) i (a .n - i)
+    ∙ ap (moved (a .destination .now) (a .to) (a .source .now) (a .from)) q
 
 pub move-pieces-spec : {M : Type 1} → statement M
 move-pieces-spec =

@@ -29,12 +29,12 @@ cast-n : tie.Need-cast-n
 cast-n c = search needs
 
 sub-down : tie.Need-sub-down
-sub-down c = subst (SFits w64) (sym (down (c .args .bytes) (c .pre))) (down-fits (c .args .bytes) (c .pre))
+sub-down c = subst (SFits w64) (sym (down (c .args .step) (c .pre))) (down-fits (c .args .step) (c .pre))
 
 returns : tie.Need-returns
 returns c =
     let s = c .before in
-    λ h. (same (s .args .a) (s .args .bytes) (s .fits .a) (s .pre) (c .if1 .taken), same (s .args .b) (s .args .bytes) (s .fits .b) (s .pre) (eqb-true _ _ h))
+    λ h. (same (s .args .a) (s .args .step) (s .fits .a) (s .pre) (c .if1 .taken), same (s .args .b) (s .args .step) (s .fits .b) (s .pre) (eqb-true _ _ h))
 
 returns-2 : tie.Need-returns-2
 returns-2 c = λ h. absurd (false≢true h)

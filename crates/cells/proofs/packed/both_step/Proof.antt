@@ -22,7 +22,7 @@ cast-n c = search needs
 returns : tie.Need-returns
 returns c =
     let s = c .before in
-    λ h. (same (s .args .a) (s .args .bytes) (s .fits .a) (s .pre) (c .if1 .taken), same (s .args .b) (s .args .bytes) (s .fits .b) (s .pre) (eqb-true _ _ h))
+    λ h. (same (s .args .a) (s .args .step) (s .fits .a) (s .pre) (c .if1 .taken), same (s .args .b) (s .args .step) (s .fits .b) (s .pre) (eqb-true _ _ h))
 
 returns-2 : tie.Need-returns-2
 returns-2 c = λ h. absurd (false≢true h)

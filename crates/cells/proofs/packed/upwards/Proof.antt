@@ -22,7 +22,7 @@ cast-step0 c = search needs
 returns : tie.Need-returns
 returns c =
     let s = c .before .before in
-    let o = s .args .o in
+    let o = s .args .side in
     let g : SFits w64 (o .step1) = search needs in
     let p : c .before .place-of .result ≡ place o (s .args .n0 - 1) 0 = c .before .place-of .ensures in
     let w : toZ w64 (s .args .width) ≡ pos (s .args .width) = toZ-pos w64 (s .pre .0 .1) in

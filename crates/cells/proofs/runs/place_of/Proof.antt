@@ -21,7 +21,7 @@ cast-steps-from c = search needs
 steps-from-requires : tie.Need-steps-from-requires
 steps-from-requires c κs =
     let s = c .before .before in
-    let o = s .args .o in
+    let o = s .args .side in
     let i : ℕ = s .args .i in
     let j : ℕ = s .args .j in
     let r : Reaches o i j = s .pre in
@@ -37,10 +37,10 @@ steps-from-requires c κs =
     )
 
 -- the run's first place, read back
-run-is : (c : tie.After-steps-from) → toZ w64 (ofZ w64 (c .steps-from .result)) ≡ runSpot (c .before .before .before .args .o) (c .before .before .before .args .j)
+run-is : (c : tie.After-steps-from) → toZ w64 (ofZ w64 (c .steps-from .result)) ≡ runSpot (c .before .before .before .args .side) (c .before .before .before .args .j)
 run-is c =
     let s = c .before .before .before in
-    let o = s .args .o in
+    let o = s .args .side in
     let j : ℕ = s .args .j in
     let r : Reaches o (s .args .i) j = s .pre in
     let g : SFits w64 (o .step1) = search needs in
@@ -53,7 +53,7 @@ run-is c =
 steps-from-requires-2 : tie.Need-steps-from-requires-2
 steps-from-requires-2 c κs =
     let s = c .before .before .before .before in
-    let o = s .args .o in
+    let o = s .args .side in
     let i : ℕ = s .args .i in
     let j : ℕ = s .args .j in
     let r : Reaches o i j = s .pre in
@@ -68,10 +68,10 @@ steps-from-requires-2 c κs =
     )
 
 -- the cell's place, read back
-cell-is : (c : tie.After-steps-from2) → toZ w64 (ofZ w64 (c .steps-from2 .result)) ≡ spot (c .before .before .before .before .before .args .o) (c .before .before .before .before .before .args .i) (c .before .before .before .before .before .args .j)
+cell-is : (c : tie.After-steps-from2) → toZ w64 (ofZ w64 (c .steps-from2 .result)) ≡ spot (c .before .before .before .before .before .args .side) (c .before .before .before .before .before .args .i) (c .before .before .before .before .before .args .j)
 cell-is c =
     let s = c .before .before .before .before .before in
-    let o = s .args .o in
+    let o = s .args .side in
     let i : ℕ = s .args .i in
     let j : ℕ = s .args .j in
     let r : Reaches o i j = s .pre in
@@ -84,7 +84,7 @@ cell-is c =
 cast-result : tie.Need-cast-result
 cast-result c =
     let s = c .before .before .before .before .before in
-    let r : Reaches (s .args .o) (s .args .i) (s .args .j) = s .pre in
+    let r : Reaches (s .args .side) (s .args .i) (s .args .j) = s .pre in
     subst (λ (z : ℤ). T (nonNeg z) × Fits w64 (natAbs z)) (sym (cell-is c)) (r .from, record { fits = let h = r .to in omega (arith, h) })
 
 returns : tie.Need-returns

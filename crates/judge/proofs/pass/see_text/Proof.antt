@@ -8,10 +8,10 @@ use Rattle.judge.proofs.pass.see_text.Statement.{statement}
 use Rattle.judge.proofs.pass.see_text.Tie as tie
 
 abbrev Inv-loop : tie.InvT-loop
-Inv-loop es s index₀ p₀ out₀ index p out = Checking es s index p out
+Inv-loop extents s index₀ p₀ out₀ index p out = Checking extents s index p out
 
 abbrev μ-loop : tie.MeasureT-loop
-μ-loop es s index₀ p₀ out₀ index p out = length s - p
+μ-loop extents s index₀ p₀ out₀ index p out = length s - p
 
 loop-holds : tie.Need-loop-holds Inv-loop μ-loop
 loop-holds c = let s = c .before .before .before in checking-start _ _ _ (s .pre .1)

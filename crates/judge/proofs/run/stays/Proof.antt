@@ -16,10 +16,10 @@ use Rattle.judge.proofs.run.stays.Statement.{statement}
 use Rattle.judge.proofs.run.stays.Tie as tie
 
 abbrev Inv-loop : tie.InvT-loop
-Inv-loop es index axis len i₀ i = (i ≤ length es) × (every (staysAt es index axis len) 0 i ≡ true)
+Inv-loop extents index axis len i₀ i = (i ≤ length extents) × (every (staysAt extents index axis len) 0 i ≡ true)
 
 abbrev μ-loop : tie.MeasureT-loop
-μ-loop es index axis len i₀ i = length es - i
+μ-loop extents index axis len i₀ i = length extents - i
 
 loop-holds : tie.Need-loop-holds Inv-loop μ-loop
 loop-holds c = (omega arith, every-none _)
@@ -44,11 +44,11 @@ below-requires c κs = search needs
 
 -- what `below` answered of axis i
 answer : (c : tie.After-below Inv-loop μ-loop)
-    → let l = c .before .before .before .before .before in let a = l .before .before .before .args in c .below .result ≡ staysAt (a .es .now) (a .index .now) (a .axis) (a .len) (l .loop .i)
+    → let l = c .before .before .before .before .before in let a = l .before .before .before .args in c .below .result ≡ staysAt (a .extents .now) (a .index .now) (a .axis) (a .len) (l .loop .i)
 answer c =
     let l = c .before .before .before .before .before in
     let a = l .before .before .before .args in
-    c .below .ensures ∙ ap (λ (n : ℕ). leb (getD (a .index .now) (l .loop .i) 0 + n) (getD (a .es .now) (l .loop .i) 0)) (c .before .before .before .span .ensures)
+    c .below .ensures ∙ ap (λ (n : ℕ). leb (getD (a .index .now) (l .loop .i) 0 + n) (getD (a .extents .now) (l .loop .i) 0)) (c .before .before .before .span .ensures)
 
 add-i : tie.Need-add-i Inv-loop μ-loop
 add-i c = search needs
@@ -61,7 +61,7 @@ loop-again c =
     let l = c .before .before .before .before .before .before in
     let a = l .before .before .before .args in
     let t = c .before .before .before .before .before .loop-test .taken in
-    (omega arith, every-next (staysAt (a .es .now) (a .index .now) (a .axis) (a .len)) (l .loop .i) (l .loop .inv .1) (sym (answer (c .before)) ∙ c .if1 .taken))
+    (omega arith, every-next (staysAt (a .extents .now) (a .index .now) (a .axis) (a .len)) (l .loop .i) (l .loop .inv .1) (sym (answer (c .before)) ∙ c .if1 .taken))
 
 returns : tie.Need-returns Inv-loop μ-loop
 unfolding stays
@@ -69,13 +69,13 @@ returns c =
     let l = c .before .before .before .before .before .before in
     let a = l .before .before .before .args in
     let t = c .before .before .before .before .before .loop-test .taken in
-    sym (every-fails-at (staysAt (a .es .now) (a .index .now) (a .axis) (a .len)) (length (a .es .now)) (l .loop .i) t (sym (answer (c .before)) ∙ c .if1 .left))
+    sym (every-fails-at (staysAt (a .extents .now) (a .index .now) (a .axis) (a .len)) (length (a .extents .now)) (l .loop .i) t (sym (answer (c .before)) ∙ c .if1 .left))
 
 returns-2 : tie.Need-returns-2 Inv-loop μ-loop
 unfolding stays
 returns-2 c =
     let a = c .before .before .before .before .args in
-    sym (ap (every (staysAt (a .es .now) (a .index .now) (a .axis) (a .len)) 0) (le-antisymm (c .loop-test .left) (c .before .loop .inv .0)) ∙ c .before .loop .inv .1)
+    sym (ap (every (staysAt (a .extents .now) (a .index .now) (a .axis) (a .len)) 0) (le-antisymm (c .loop-test .left) (c .before .loop .inv .0)) ∙ c .before .loop .inv .1)
 
 pub stays-spec : {M : Type 1} → statement M
 stays-spec =

@@ -8,10 +8,10 @@ use Rattle.reading.proofs.head.behind_all.Statement.{statement}
 use Rattle.reading.proofs.head.behind_all.Tie as tie
 
 abbrev Inv-loop : tie.InvT-loop
-Inv-loop s at t p₀ i₀ p i = Passing t s at p i
+Inv-loop s at word p₀ i₀ p i = Passing word s at p i
 
 abbrev μ-loop : tie.MeasureT-loop
-μ-loop s at t p₀ i₀ p i = length t - i
+μ-loop s at word p₀ i₀ p i = length word - i
 
 loop-holds : tie.Need-loop-holds Inv-loop μ-loop
 loop-holds c = search needs

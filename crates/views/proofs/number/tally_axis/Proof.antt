@@ -29,25 +29,25 @@ mul-before-2 : tie.Need-mul-before-2
 mul-before-2 c =
     let p = c .before .before .before in
     let s = p .before in
-    record { fits = subst (λ (n : ℕ). n * s .args .t .size < 2 ^ 64) (sym (p .start-at .ensures)) (omega (arith, s .pre .before)) }
+    record { fits = subst (λ (n : ℕ). n * s .args .tally .size < 2 ^ 64) (sym (p .start-at .ensures)) (omega (arith, s .pre .before)) }
 
 add-before : tie.Need-add-before
 add-before c =
     let p = c .before .before .before in
     let s = p .before in
-    record { fits = subst (λ (n : ℕ). s .args .extent * s .args .t .before + n * s .args .t .size < 2 ^ 64) (sym (p .start-at .ensures)) (s .pre .before) }
+    record { fits = subst (λ (n : ℕ). s .args .extent * s .args .tally .before + n * s .args .tally .size < 2 ^ 64) (sym (p .start-at .ensures)) (s .pre .before) }
 
 mul-size : tie.Need-mul-size
 mul-size c =
     let l = c .before .before .before in
     let s = l .before .before in
-    record { fits = subst (λ (n : ℕ). n * s .args .t .size < 2 ^ 64) (sym (sized l)) (s .pre .size) }
+    record { fits = subst (λ (n : ℕ). n * s .args .tally .size < 2 ^ 64) (sym (sized l)) (s .pre .size) }
 
 mul-place : tie.Need-mul-place
 mul-place c =
     let l = c .before .before .before .before in
     let s = l .before .before in
-    record { fits = subst (λ (n : ℕ). n * s .args .t .place < 2 ^ 64) (sym (sized l)) (omega (arith, s .pre .place)) }
+    record { fits = subst (λ (n : ℕ). n * s .args .tally .place < 2 ^ 64) (sym (sized l)) (omega (arith, s .pre .place)) }
 
 sub-place : tie.Need-sub-place
 sub-place c =
@@ -63,8 +63,8 @@ add-place c =
     let a = s .args in
     record {
       fits =
-          subst (λ (n : ℕ). n * a .t .place + (a .at - p .start-at .result) < 2 ^ 64) (sym (sized l))
-          (subst (λ (n : ℕ). lenAt (a .extent) (a .width) (a .at / a .width * a .width) * a .t .place + (a .at - n) < 2 ^ 64) (sym (p .start-at .ensures)) (s .pre .place));
+          subst (λ (n : ℕ). n * a .tally .place + (a .at - p .start-at .result) < 2 ^ 64) (sym (sized l))
+          (subst (λ (n : ℕ). lenAt (a .extent) (a .width) (a .at / a .width * a .width) * a .tally .place + (a .at - n) < 2 ^ 64) (sym (p .start-at .ensures)) (s .pre .place));
     }
 
 returns : tie.Need-returns
@@ -73,7 +73,7 @@ returns c =
     let l = c .before .before .before .before in
     let p = l .before in
     let a = p .before .args in
-    λ i. record { before = a .extent * a .t .before + p .start-at .ensures i * a .t .size; size = sized l i * a .t .size; place = sized l i * a .t .place + (a .at - p .start-at .ensures i) }
+    λ i. record { before = a .extent * a .tally .before + p .start-at .ensures i * a .tally .size; size = sized l i * a .tally .size; place = sized l i * a .tally .place + (a .at - p .start-at .ensures i) }
 
 pub tally-axis-spec : {M : Type 1} → statement M
 tally-axis-spec =
