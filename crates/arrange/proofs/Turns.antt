@@ -1,18 +1,25 @@
 -- A turn of each loop that puts elements into an order, on lists. Assumes nothing.
-use mathlib.Core.Path.{_≡_, sym, ap, ap₂, _∙_}
-use mathlib.Core.List.{List, _++_, append-nil}
-use Prim.Native.Nat.{ℕ, _+_, _*_, _≤_, _<_}
+use mathlib.Core.Path.{_≡_, refl, sym, ap, ap₂, _∙_}
+use mathlib.Core.List.{List, [], _∷_, _++_, append-nil}
+use Prim.Native.Nat.{ℕ, zero, suc, _+_, _*_, _≤_, _<_}
 use native.Mathlib.Numerals.{add-one}
 use native.Mathlib.Omega.{arith}
 use lib.IntN.{ℤ, pos}
-use lib.ListN.{length, getD, take, drop, set}
+use lib.ListN.{length, getD, take, drop, set, length-append, length-drop, drop-of-length-le}
 use lib.Seq.{length-take-le, getD-take, getD-drop, take-all}
 use Rattle.strided.specs.Base.{padded}
 use Rattle.strided.specs.Order.{pick}
 use Rattle.laws.specs.Base.Arrays.{length-padded}
 use Rattle.laws.specs.Order.Picked.{length-pick}
-use Rattle.laws.specs.Base.Stores.{fill-next, fill-first, padded-row}
+use Rattle.laws.specs.Base.Stores.{set-padded, fill-next, padded-row}
 use Rattle.laws.specs.Fuse.Arrays.{getD-pick, pickRow, pickRows, rows-more, length-rows}
+
+-- one more element of ps over those of qs
+set-over : {A : Type 0} (d : A) (ps qs : List A) (j : ℕ) → length ps ≡ length qs → j < length ps → set (take j ps ++ drop j qs) j (getD ps j d) ≡ take (suc j) ps ++ drop (suc j) qs
+set-over d [] qs j e h = absurd (omega arith)
+set-over d (p ∷ ps) [] j e h = absurd (omega arith)
+set-over d (p ∷ ps) (q ∷ qs) zero e h = refl
+set-over d (p ∷ ps) (q ∷ qs) (suc j) e h = ap (λ r. p ∷ r) (set-over d ps qs j (omega arith) (omega arith))
 
 module _ (order : List ℕ) (count : ℕ) (l : length order ≡ 64) (h : count ≤ 64) where
   pub counted : length (take count order) ≡ count
@@ -26,15 +33,25 @@ module _ (order : List ℕ) (count : ℕ) (l : length order ≡ 64) (h : count �
     at-picked j g =
         getD-pick d xs (take count order) j (omega (arith, counted)) ∙ ap (λ (a : ℕ). getD xs a d) (getD-take count order j 0 g)
 
-    -- the next element is picked
-    pub picked-turn : (j : ℕ) → j < count
-        → set (padded 64 d (take j (pick d xs (take count order)))) j (getD xs (getD order j 0) d) ≡ padded 64 d (take (j + 1) (pick d xs (take count order)))
-    picked-turn j g =
-        ap (set (padded 64 d (take j (pick d xs (take count order)))) j) (sym (at-picked j g))
-        ∙ fill-first d 64 (pick d xs (take count order)) j (omega (arith, length-picked)) (omega (arith, length-picked))
+    -- the next element is picked, over what stood in its place
+    pub picked-turn : (qs : List A) (j : ℕ) → length qs ≡ count → j < count
+        → set (padded 64 d (take j (pick d xs (take count order)) ++ drop j qs)) j (getD xs (getD order j 0) d) ≡ padded 64 d (take (j + 1) (pick d xs (take count order)) ++ drop (j + 1) qs)
+    picked-turn qs j e g =
+        let ps : List A = pick d xs (take count order) in
+        let long : length (take j ps ++ drop j qs) ≡ count =
+        length-append (take j ps) (drop j qs) ∙ ap₂ _+_ (length-take-le j ps (omega (arith, length-picked))) (length-drop j qs) ∙ omega (arith, e) in
+        ap (set (padded 64 d (take j ps ++ drop j qs)) j) (sym (at-picked j g))
+        ∙ set-padded d 64 (take j ps ++ drop j qs) j (getD ps j d) (omega (arith, long))
+        ∙ ap (padded 64 d) (set-over d ps qs j (length-picked ∙ sym e) (omega (arith, length-picked)) ∙ ap (λ (n : ℕ). take n ps ++ drop n qs) (sym (add-one j)))
 
     pub picked-all : (j : ℕ) → count ≤ j → take j (pick d xs (take count order)) ≡ pick d xs (take count order)
     picked-all j g = take-all j (pick d xs (take count order)) (omega (arith, length-picked))
+
+    pub picked-over : (qs : List A) (j : ℕ) → length qs ≡ count → count ≤ j → take j (pick d xs (take count order)) ++ drop j qs ≡ pick d xs (take count order)
+    picked-over qs j e g =
+        let short : length qs ≤ j = omega (arith, e) in
+        let none : drop j qs ≡ [] = drop-of-length-le qs short in
+        ap₂ _++_ (picked-all j g) none ∙ append-nil (pick d xs (take count order))
 
   -- ---- the table of strides
 

@@ -2,18 +2,20 @@
 // an order too: the order of those that stay. What is written goes into lent arrays, since a table of strides handed back by value would
 // be copied.
 ghost use mathlib.Core.Path.{_≡_};
+ghost use mathlib.Core.Bool.{true};
 ghost use Prim.Native.Nat.{ℕ, _+_, _*_, _<_, _≤_};
-ghost use lib.ListN.{length, getD, take, replicate};
+ghost use lib.ListN.{length, getD, take, drop, replicate};
 ghost use lib.IntN.{pos};
 ghost use Rattle.strided.specs.Base.{padded};
 ghost use Rattle.strided.specs.Order.{pick};
+ghost use Rattle.strided.specs.Step.{blank};
 ghost use Rattle.laws.specs.Fuse.Arrays.{pickRows};
 
-// The elements of xs that the first `count` places of the order name, written into an array of zeros.
+// The elements of xs that the first `count` places of the order name, written into an array that is 0 behind the count.
 pub fn pick_into(xs: &[u64], order: &[usize; 64], count: usize, out: &mut [u64; 64])
     requires order { ⌜ (length (now order) ≡ 64) × (count ≤ 64) ⌝ }
     requires inside { ⌜ ((j : ℕ) → j < count → getD (now order) j 0 < length (now xs)) ⌝ }
-    requires out { ⌜ now out ≡ replicate 64 0 ⌝ }
+    requires out { ⌜ (length (now out) ≡ 64) × (blank (drop count (now out)) ≡ true) ⌝ }
     ensures { λ _. ⌜ now (out .exit) ≡ padded 64 0 (pick 0 (now (xs .entry)) (take count (now (order .entry)))) ⌝ }
 {
     let mut j: usize = 0;

@@ -26,7 +26,7 @@ pub struct Map {
     pub fused: [u64; 64],
 }
 
-// The map's arrays, written into arrays of zeros.
+// The map's arrays, written into arrays of zeros. The weights that the order goes by are made where the fused extents come to stand.
 pub fn map_into(
     extents: &[u64],
     strides: &[i64],
@@ -40,7 +40,14 @@ pub fn map_into(
     ensures { λ _. ⌜ Fused (now (extents .entry)) operands (now (strides .entry)) purpose (now (order .exit)) (now (fused .exit)) ⌝ }
 {
     let rank = extents.len();
-    order::fusing_order_into(extents, strides, operands, purpose, &mut *order);
+    order::fusing_order_into(
+        extents,
+        strides,
+        operands,
+        purpose,
+        &mut *fused,
+        &mut *order,
+    );
     arrange::pick_into(extents, order, rank, &mut *fused);
     fuse::fuse_dims(&mut *fused, strides, rank, operands, order, rank);
 }
@@ -62,7 +69,7 @@ pub fn index_map(extents: &[u64], strides: &[i64], operands: usize, purpose: Pur
 // ---- through the map
 
 // The original index of a plan index, with its count: row 11 is judged on the plan's extents.
-fn original_by<'a>(
+fn original_by_into<'a>(
     extents: &'a [u64],
     order: &'a [usize; 64],
     fused: &'a [u64; 64],
@@ -84,7 +91,7 @@ fn original_by<'a>(
 }
 
 // The plan index of an original index, with its count: row 11 is judged on the layout's extents.
-fn plan_by<'a>(
+fn plan_by_into<'a>(
     extents: &'a [u64],
     order: &'a [usize; 64],
     fused: &'a [u64; 64],
@@ -108,7 +115,7 @@ fn plan_by<'a>(
 }
 
 // The original index of a plan index, by the map of the layout with these extents.
-pub fn original(
+pub fn original_into(
     extents: &[u64],
     map: Map,
     counters: &[u64],
@@ -119,11 +126,11 @@ pub fn original(
     ensures { λ r. ⌜ TellsOriginal (now (extents .entry)) map (now (counters .entry))
         (now (count .entry)) (now (index .entry)) (now (count .exit)) (now (index .exit)) r ⌝ }
 {
-    original_by(extents, &map.order, &map.fused, counters, count, index)
+    original_by_into(extents, &map.order, &map.fused, counters, count, index)
 }
 
 // The plan index of an original index, by the map.
-pub fn in_plan(
+pub fn in_plan_into(
     extents: &[u64],
     map: Map,
     original: &[u64],
@@ -134,7 +141,7 @@ pub fn in_plan(
     ensures { λ r. ⌜ TellsPlan (now (extents .entry)) map (now (original .entry))
         (now (count .entry)) (now (index .entry)) (now (count .exit)) (now (index .exit)) r ⌝ }
 {
-    plan_by(
+    plan_by_into(
         extents,
         &map.order,
         &map.fused,
@@ -148,7 +155,7 @@ pub fn in_plan(
 // ---- the entries
 
 // The original index of a plan index, for whoever has checked the layout: row 11 alone is judged.
-pub fn original_of(
+pub fn original_of_into(
     extents: &[u64],
     strides: &[i64],
     operands: usize,
@@ -165,7 +172,7 @@ pub fn original_of(
     let mut order = [0usize; 64];
     let mut fused = [0u64; 64];
     map_into(extents, strides, operands, purpose, &mut order, &mut fused);
-    original_by(extents, &order, &fused, counters, count, index)
+    original_by_into(extents, &order, &fused, counters, count, index)
 }
 
 // The original index of a plan index in lent memory: rows 1 to 6, then 11.
@@ -195,7 +202,7 @@ pub fn original_index_into<'a>(
                 &mut order,
                 &mut fused,
             );
-            original_by(extents, &order, &fused, counters, count, index)
+            original_by_into(extents, &order, &fused, counters, count, index)
         }
     }
 }
@@ -228,7 +235,7 @@ pub fn plan_index_into<'a>(
                 &mut fused,
             );
             let rank = radix::plan_rank(&fused, extents.len());
-            plan_by(extents, &order, &fused, rank, original, count, index)
+            plan_by_into(extents, &order, &fused, rank, original, count, index)
         }
     }
 }

@@ -1,9 +1,9 @@
 -- What the tests of `joins` say, case by case, and a turn of `all_join`. Assumes nothing.
 use mathlib.Core.Path.{_≡_, refl, sym, ap, _∙_}
 use mathlib.Core.List.{List}
-use mathlib.Core.Bool.{Bool, true, false, false≢true, _&&_, and-false}
+use mathlib.Core.Bool.{Bool, true, false, false≢true, _&&_, and-true, and-false, and-assoc}
 use Prim.Native.Nat.{ℕ, zero, suc, _+_, _*_, _-_, _/_, _^_, _≤_, _<_}
-use native.Mathlib.Nat.{mul-zero, div-lt-iff-lt-mul, le-div-iff-mul-le}
+use native.Mathlib.Nat.{add-zero, mul-zero, div-lt-iff-lt-mul, le-div-iff-mul-le}
 use native.Mathlib.Numerals.{add-one}
 use native.Mathlib.Omega.{arith}
 use lib.Dec.{eqb, ltb}
@@ -98,14 +98,21 @@ joins-within e a b f h k = joins-other e a b f ∙ rw (lt-ltb e (2 ^ 63) h, lt-l
 
 -- ---- operand by operand
 
--- one operand more: what is left of the whole is the test at this operand and the rest
-pub join-turn : (e p m i h k : ℕ) (s : List ℤ) (v : Bool) → k < m → v ≡ joins e (getD s (k * p + h) (pos 0)) (getD s (k * p + i) (pos 0))
-    → allJoin e (strideColumn s p h k (m - k)) (strideColumn s p i k (m - k)) ≡ (v && allJoin e (strideColumn s p h (k + 1) (m - (k + 1))) (strideColumn s p i (k + 1) (m - (k + 1))))
-join-turn e p m i h k s v l q =
-    let g : m - k ≡ suc (m - (k + 1)) = omega arith in
-    rw (g, add-one k, q)
+-- the operands from o on, with one more behind them
+join-more : (e p i h o n : ℕ) (s : List ℤ)
+    → allJoin e (strideColumn s p h o (suc n)) (strideColumn s p i o (suc n))
+    ≡ (allJoin e (strideColumn s p h o n) (strideColumn s p i o n) && joins e (getD s ((o + n) * p + h) (pos 0)) (getD s ((o + n) * p + i) (pos 0)))
+join-more e p i h o zero s = rw add-zero (and-true (joins e (getD s (o * p + h) (pos 0)) (getD s (o * p + i) (pos 0))))
+join-more e p i h o (suc n) s =
+    let g : o + suc n ≡ suc o + n = omega arith in
+    rw (join-more e p i h (suc o) n s, g)
+    (sym (and-assoc (joins e (getD s (o * p + h) (pos 0)) (getD s (o * p + i) (pos 0))) (allJoin e (strideColumn s p h (suc o) n) (strideColumn s p i (suc o) n)) (joins e (getD s ((suc o + n) * p + h) (pos 0)) (getD s ((suc o + n) * p + i) (pos 0)))))
 
-pub join-end : (e p m i h k : ℕ) (s : List ℤ) → m ≤ k → allJoin e (strideColumn s p h k (m - k)) (strideColumn s p i k (m - k)) ≡ true
-join-end e p m i h k s l =
-    let g : m - k ≡ 0 = omega arith in
-    rw g
+-- the first k operands: the test at the last of them, and those before it
+pub join-turn : (e p i h k : ℕ) (s : List ℤ) (v : Bool) → 0 < k → v ≡ joins e (getD s ((k - 1) * p + h) (pos 0)) (getD s ((k - 1) * p + i) (pos 0))
+    → allJoin e (strideColumn s p h 0 k) (strideColumn s p i 0 k) ≡ (allJoin e (strideColumn s p h 0 (k - 1)) (strideColumn s p i 0 (k - 1)) && v)
+join-turn e p i h zero s v l q = absurd (omega arith)
+join-turn e p i h (suc k) s v l q =
+    let g : suc k - 1 ≡ k = omega arith in
+    let g′ : 0 + k ≡ k = omega arith in
+    join-more e p i h 0 k s ∙ rw (g′, q, g)

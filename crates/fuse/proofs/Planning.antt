@@ -1,22 +1,30 @@
--- The steps of `plan_axes`: the extents in the order, fused, and the axes without those of extent 1, are the axes of the plan.
+-- The steps of `plan_axes_into`: the extents in the order, fused, and the axes without those of extent 1, are the axes of the plan.
 -- Assumes nothing.
-use mathlib.Core.Path.{_≡_, sym, ap, _∙_}
+use mathlib.Core.Path.{_≡_, refl, sym, ap, _∙_}
+use mathlib.Core.Bool.{true}
 use mathlib.Core.List.{List}
-use Prim.Native.Nat.{ℕ}
+use Prim.Native.Nat.{ℕ, _≤_}
 use native.Mathlib.Nat.{mul-comm}
 use native.Mathlib.Omega.{arith}
 use lib.IntN.{ℤ}
-use lib.ListN.{length, take}
+use lib.ListN.{length, take, drop, replicate, length-replicate}
 use Rattle.strided.specs.Base.{padded}
 use Rattle.strided.specs.Layout.{Axis, noAxis, extents, axesOf}
 use Rattle.strided.specs.Order.{pick}
+use Rattle.strided.specs.Step.{blank}
 use Rattle.strided.specs.Fuse.{fuse, compress, fusedAxes}
-use Rattle.laws.specs.Base.Arrays.{length-padded, take-counted}
+use Rattle.laws.specs.Base.Arrays.{length-padded, take-counted, blank-ℕ, blank-behind}
+use Rattle.laws.specs.Base.Stores.{blank-first}
 use Rattle.laws.specs.Order.Picked.{length-pick}
 use Rattle.laws.specs.Fuse.Places.{axesBy, columnBy, fused-at, length-fused, in-places}
 use Rattle.arrange.specs.Axes.{InOrder}
 use Rattle.arrange.specs.Fusing.{whole-order, order-below}
 use Rattle.fuse.specs.Named.{Named}
+
+-- an array of zeros is 0 behind any count
+pub zeros-behind : (n : ℕ) → n ≤ 64 → (_≡_ {A = ℕ} (length {A = ℕ} (replicate 64 0)) 64) × (blank (drop n (replicate 64 0)) ≡ true)
+zeros-behind n h =
+    (refl, ap (λ (l : List ℕ). blank (drop n l)) (blank-first 0 64 n h) ∙ blank-behind blank-ℕ 64 n (replicate n 0) (length-replicate {A = ℕ} n 0))
 
 module _ {es : List ℕ} {m : ℕ} {ss : List ℤ} {order : List ℕ} (t : InOrder es m ss order) where
   abbrev n : ℕ

@@ -68,21 +68,23 @@ fn joins(e: u64, a: i64, b: i64) -> bool
     false
 }
 
-// Whether axis i joins axis h, of extent e, at every operand.
+// Whether axis i joins axis h, of extent e, at every operand. The last one is asked first: the order of the axes goes by operand 0, unless
+// another leads, so that of two neighbours which do not join the first operands often say the least.
 fn all_join(e: u64, strides: &[i64], pitch: usize, operands: usize, h: usize, i: usize) -> bool
     requires operands { ⌜ operands * pitch ≤ length (now strides) ⌝ }
     requires axes { ⌜ (h < pitch) × (i < pitch) ⌝ }
     ensures { λ r. ⌜ r ≡ allJoin e (strideColumn (now (strides .entry)) pitch h 0 operands) (strideColumn (now (strides .entry)) pitch i 0 operands) ⌝ }
 {
-    let mut k: usize = 0;
-    while k < operands {
-        let p = k * pitch;
+    let mut k = operands;
+    while 0 < k {
+        let last = k - 1;
+        let p = last * pitch;
         let a = strides[p + h];
         let b = strides[p + i];
         if !joins(e, a, b) {
             return false;
         }
-        k += 1;
+        k = last;
     }
     true
 }
@@ -158,7 +160,7 @@ pub fn fuse_dims(
 
 // The axes whose extent is not 1, with their extents, written into arrays of zeros. If there is none the first axis stays, so that a walk has
 // an axis to step on.
-pub fn kept_axes<'a>(
+pub fn kept_axes_into<'a>(
     fused: &'a [u64; 64],
     order: &'a [usize; 64],
     rank: usize,
@@ -218,14 +220,14 @@ pub fn compress_dims<'a>(
         (compress (axesBy (now (strides .entry)) pitch operands (now (order .entry)) (take rank (now (fused .entry))))) operands ⌝ }
 {
     let mut axes = [0u8; 64];
-    let count = kept_axes(fused, order, rank, extents, &mut axes);
+    let count = kept_axes_into(fused, order, rank, extents, &mut axes);
     arrange::pick_strides_into(strides, pitch, operands, &axes, count, table);
     count
 }
 
 // The axes of a layout's plan, written into arrays of zeros: put into the order, fused, those of extent 1 dropped. `strides` has one for each
 // axis, operand by operand. Answers how many axes there are.
-pub fn plan_axes(
+pub fn plan_axes_into(
     extents: &[u64],
     strides: &[i64],
     operands: usize,
@@ -269,8 +271,13 @@ fn fuse_given(extents: &mut [u64; 64], strides: &[i64], operands: usize, rank: u
     }
 }
 
-// As `kept_axes`, where each axis stands at its own place.
-fn kept_given(fused: &[u64; 64], rank: usize, extents: &mut [u64; 64], axes: &mut [u8; 64]) -> usize
+// As `kept_axes_into`, where each axis stands at its own place.
+fn kept_given_into(
+    fused: &[u64; 64],
+    rank: usize,
+    extents: &mut [u64; 64],
+    axes: &mut [u8; 64],
+) -> usize
     requires arrays { ⌜ (length (now fused) ≡ 64) × (rank ≤ 64) ⌝ }
     requires zeros { ⌜ (now extents ≡ replicate 64 0) × (now axes ≡ replicate 64 0) ⌝ }
     ensures count { λ r. ⌜ r ≡ length (stays (take rank (now (fused .entry)))) ⌝ }
@@ -299,8 +306,8 @@ fn kept_given(fused: &[u64; 64], rank: usize, extents: &mut [u64; 64], axes: &mu
     count
 }
 
-// As `plan_axes`, where the axes are fused as they are given: there is no order to make, and none to read.
-pub fn given_axes(
+// As `plan_axes_into`, where the axes are fused as they are given: there is no order to make, and none to read.
+pub fn given_axes_into(
     extents: &[u64],
     strides: &[i64],
     operands: usize,
@@ -320,7 +327,7 @@ pub fn given_axes(
     arrange::lay_into(extents, &mut fused);
     fuse_given(&mut fused, strides, operands, rank);
     let mut axes = [0u8; 64];
-    let count = kept_given(&fused, rank, es, &mut axes);
+    let count = kept_given_into(&fused, rank, es, &mut axes);
     arrange::pick_strides_into(strides, rank, operands, &axes, count, table);
     count
 }

@@ -1,12 +1,14 @@
 -- What the functions that try widths and caps are handed, and the form in which they answer.
 -- Assumes nothing.
-use mathlib.Core.Bool.{Bool, true, false}
-use mathlib.Core.List.{List, []}
+use mathlib.Core.Bool.{Bool, true, false, cond}
+use mathlib.Core.List.{List, [], map}
 use mathlib.Core.Option.{Option, none, some, Option·getD}
 use Prim.Native.Nat.{ℕ}
+use lib.Dec.{leb}
 use lib.IntN.{ℤ}
-use lib.ListN.{length}
-use Rattle.strided.specs.Base.{padded}
+use lib.ListN.{length, getD}
+use Rattle.strided.specs.Base.{padded, run, sum}
+use Rattle.strided.specs.Weights.{addend}
 use Rattle.auxiliary.specs.Fitting.{Fitting}
 use Rattle.auxiliary.specs.Moving.{MovingTo}
 
@@ -22,3 +24,11 @@ there (some ws) = true
 
 unfoldable pub laid : Option (List ℕ) → List ℕ
 laid m = padded 64 0 (Option·getD m [])
+
+-- the weights as far as the first k operands add to them, with no level capped
+module _ (es : List ℕ) (operands : ℕ) (ss : List ℤ) (lead width : ℕ) where
+  unfoldable pub partAt : ℕ → ℕ → ℕ
+  partAt k i = cond (leb (getD es i 0) 1) 0 (sum (addend es operands ss lead width (length es) i) 0 k)
+
+  unfoldable pub partly : ℕ → List ℕ
+  partly k = padded 64 0 (map (partAt k) (run 0 (length es)))

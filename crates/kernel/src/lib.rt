@@ -1,7 +1,7 @@
 // Planning: the plan of a layout for a purpose, as pointwise_plan and fold_plan of the Rust make it, and the public entry, which first
 // refuses what cannot be planned. A plan is 5 KB: it is made in arrays that the entry lends, and put together once, at the end.
-use fuse::given_axes;
-use fuse::plan_axes;
+use fuse::given_axes_into;
+use fuse::plan_axes_into;
 use layout::check_planning;
 use layout::total_at_most;
 use model::block_sizes_into;
@@ -72,9 +72,17 @@ pub fn axes_into(
     ensures extents { λ _. ⌜ now (es .exit) ≡ padded 64 0 (extentsOf (planAxes (now (extents .entry)) operands (now (strides .entry)) purpose)) ⌝ }
     ensures strides { λ _. ⌜ now (table .exit) ≡ strideTable (planAxes (now (extents .entry)) operands (now (strides .entry)) purpose) operands ⌝ }
 {
+    let mut weights = [0u64; 64];
     let mut order = [0usize; 64];
-    fusing_order_into(extents, strides, operands, purpose, &mut order);
-    plan_axes(extents, strides, operands, &order, es, table)
+    fusing_order_into(
+        extents,
+        strides,
+        operands,
+        purpose,
+        &mut weights,
+        &mut order,
+    );
+    plan_axes_into(extents, strides, operands, &order, es, table)
 }
 
 // The plan of a layout that is not refused, made in arrays of zeros: its axes are fused, and cut if there are more than 1,024 cells. So few
@@ -98,7 +106,7 @@ pub fn plan_into<'a>(
     let purpose = aim.purpose;
     let machine = aim.machine;
     if total_at_most(extents, SMALL_TENSOR_THRESHOLD) {
-        let axes = given_axes(extents, strides, sizes.len(), &mut *es, &mut *table);
+        let axes = given_axes_into(extents, strides, sizes.len(), &mut *es, &mut *table);
         *blocks = *es;
         return axes;
     }

@@ -1,17 +1,18 @@
 -- Laws of a total as 64 bits hold it. Assumes nothing.
 use mathlib.Core.Path.{_≡_, refl, sym, _∙_, ap}
-use mathlib.Core.Bool.{Bool, true, false}
+use mathlib.Core.Bool.{Bool, true, false, false≢true}
 use mathlib.Core.List.{List, [], _∷_}
-use Prim.Native.Nat.{ℕ, zero, suc, _+_, _*_, _/_, _^_, _≤_, _<_}
-use native.Mathlib.Nat.{le-trans, mul-le-mul-left, mul-le-mul-right, mul-zero, mul-one, div-mul-le-self, div-lt-iff-lt-mul}
+use Prim.Native.Nat.{ℕ, zero, suc, _+_, _*_, _-_, _/_, _^_, _≤_, _<_}
+use native.Mathlib.Nat.{le-trans, mul-le-mul-left, mul-le-mul-right, mul-assoc, zero-mul, mul-zero, mul-one, div-mul-le-self, div-lt-iff-lt-mul}
 use native.Mathlib.Numerals.{add-one}
 use native.Mathlib.Omega.{arith}
-use lib.Dec.{ltb, eqb}
-use lib.ListN.{length, getD, take}
-use borrow.Author.Tests.{lt-ltb, le-ltb, ltb-true, ltb-false, eq-eqb, ne-eqb, eqb-true, eqb-false}
+use lib.Dec.{ltb, leb, eqb}
+use lib.ListN.{length, getD, take, drop, length-drop}
+use lib.Seq.{take-all}
+use borrow.Author.Tests.{lt-ltb, le-ltb, le-leb, lt-leb, ltb-true, ltb-false, eq-eqb, ne-eqb, eqb-true, eqb-false}
 use Rattle.layout.specs.declared.sizes.Total.{Total}
 use Rattle.layout.specs.declared.sizes.Total.the-variants.{Fits, Over}
-use Rattle.strided.specs.Layout.{total}
+use Rattle.strided.specs.Layout.{total, hasZero}
 use Rattle.layout.specs.Held.{held, timesOf}
 
 pub held-fits : (n : ℕ) → n < 2 ^ 64 → held n ≡ Fits n
@@ -80,6 +81,49 @@ pub total-turn : (es : List ℕ) (i : ℕ) (t r : Total) → i < length es → t
 total-turn es i t r h p q =
     q ∙ ap (λ (x : Total). timesOf x (getD es i 0)) p ∙ times-held (total (take i es)) (getD es i 0)
     ∙ ap held (sym (ap (λ (n : ℕ). total (take n es)) (add-one i) ∙ total-take es i h))
+
+pub product-turn : (es : List ℕ) (i t : ℕ) (r : Total) → i < length es → t ≡ total (take i es) → r ≡ timesOf (Fits t) (getD es i 0) → r ≡ held (total (take (i + 1) es))
+unfolding timesOf
+product-turn es i t r h p q =
+    q ∙ ap held (ap (λ (x : ℕ). x * getD es i 0) p ∙ sym (ap (λ (n : ℕ). total (take n es)) (add-one i) ∙ total-take es i h))
+
+-- ---- once the product is above a limit
+
+total-split : (es : List ℕ) (n : ℕ) → total es ≡ total (take n es) * total (drop n es)
+total-split [] zero = refl
+total-split [] (suc n) = refl
+total-split (e ∷ es) zero = omega arith
+total-split (e ∷ es) (suc n) = rw (total-split es n) (sym (mul-assoc e (total (take n es)) (total (drop n es))))
+
+zero-total : (es : List ℕ) → hasZero es ≡ true → total es ≡ 0
+zero-total [] h = absurd (false≢true h)
+zero-total (e ∷ es) h = go (eqb e 0) refl (zero-total es)
+  where
+    go : (b : Bool) → eqb e 0 ≡ b → (hasZero es ≡ true → total es ≡ 0) → e * total es ≡ 0
+    go true q z = rw (eqb-true e 0 q) (zero-mul (total es))
+    go false q z = rw (z (rw q at h)) (mul-zero e)
+
+some-total : (es : List ℕ) → hasZero es ≡ false → 1 ≤ total es
+some-total [] h = omega arith
+some-total (e ∷ es) h = go (eqb e 0) refl (some-total es)
+  where
+    go : (b : Bool) → eqb e 0 ≡ b → (hasZero es ≡ false → 1 ≤ total es) → 1 ≤ e * total es
+    go true q s = absurd (false≢true (sym (rw q at h)))
+    go false q s =
+        let p : 1 ≤ e = omega (arith, eqb-false e 0 q) in
+        let g : 1 * 1 ≤ e * total es = le-trans (mul-le-mul-right 1 p) (mul-le-mul-left e (s (rw q at h))) in omega arith
+
+-- a 0 behind it brings it back, and nothing else does
+pub total-past : (es : List ℕ) (n limit : ℕ) → limit < total (take n es) → hasZero (take (length es - n) (drop n es)) ≡ leb (total es) limit
+total-past es n limit h = ap hasZero (take-all (length es - n) (drop n es) (omega (arith, length-drop n es))) ∙ go (hasZero (drop n es)) refl
+  where
+    go : (b : Bool) → hasZero (drop n es) ≡ b → b ≡ leb (total es) limit
+    go true q =
+        let z : total es ≡ 0 = total-split es n ∙ rw (zero-total (drop n es) q) (mul-zero (total (take n es))) in
+        sym (le-leb (total es) limit (omega (arith, z)))
+    go false q =
+        let g : total (take n es) * 1 ≤ total (take n es) * total (drop n es) = mul-le-mul-left (total (take n es)) (some-total (drop n es) q) in
+        sym (lt-leb (total es) limit (omega (arith, g, total-split es n, h)))
 
 -- ---- which of the two it is
 

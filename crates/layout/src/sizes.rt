@@ -101,15 +101,24 @@ pub fn total_len(extents: &[u64]) -> Total
     t
 }
 
-// Whether the total is at most the limit.
+// Whether the total is at most the limit. Once the product is above it, only a 0 among the extents that are left brings it back.
 pub fn total_at_most(extents: &[u64], limit: u64) -> bool
     ensures { λ r. ⌜ r ≡ leb (total (now (extents .entry))) limit ⌝ }
 {
-    let t = total_len(extents);
-    match t {
-        Total::Fits(x) => x <= limit,
-        Total::Over => false,
+    let mut t: u64 = 1;
+    let mut i: usize = 0;
+    while i < extents.len() {
+        let product = times(Total::Fits(t), extents[i]);
+        i += 1;
+        let Total::Fits(x) = product else {
+            return has_zero(&extents[i..]);
+        };
+        if limit < x {
+            return has_zero(&extents[i..]);
+        }
+        t = x;
     }
+    t <= limit
 }
 
 // Whether some extent is 0.

@@ -21,7 +21,7 @@ ghost use Rattle.parts.specs.Answers.{countsRefused, told, Part, planCos
 use auxiliary::rank_table_into;
 use finding::map_into;
 use fuse::compute_costs;
-use importance::compute_importance;
+use importance::compute_importance_into;
 use kernel::axes_into;
 use layout::check_counts;
 use layout::check_layout;
@@ -97,8 +97,8 @@ pub extern "C" fn parts_weights<'a>(
     match checked {
         Answer::Refused(refusal) => number(refusal),
         Answer::Served => {
-            let found = compute_importance(extents, strides, sizes.len(), lead(purpose));
-            *importance = found;
+            *importance = [0u64; 64];
+            compute_importance_into(extents, strides, sizes.len(), lead(purpose), importance);
             0
         }
     }
@@ -123,8 +123,9 @@ pub extern "C" fn parts_order<'a>(
     match checked {
         Answer::Refused(refusal) => number(refusal),
         Answer::Served => {
+            let mut weights = [0u64; 64];
             *order = [0usize; 64];
-            compute_order_into(extents, strides, sizes.len(), purpose, order);
+            compute_order_into(extents, strides, sizes.len(), purpose, &mut weights, order);
             0
         }
     }

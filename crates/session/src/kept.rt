@@ -18,9 +18,9 @@ ghost use Rattle.session.specs.Made.{Laid, weightsIn, Weighed, AxesIn, A
 use super::Numbers;
 use arrange::pick_into;
 use fuse::fuse_dims;
-use fuse::kept_axes;
-use fuse::plan_axes;
-use importance::first_weights;
+use fuse::kept_axes_into;
+use fuse::plan_axes_into;
+use importance::first_weights_into;
 use importance::sort_by_importance_into;
 use kernel::Aim;
 use layout::lead;
@@ -28,7 +28,7 @@ use layout::purpose_of;
 use layout::total_at_most;
 use model::block_sizes_into;
 use order::SMALL_TENSOR_THRESHOLD;
-use order::as_given;
+use order::as_given_into;
 use strided::Purpose;
 
 // The order in which the axes are fused, by their weights, written into an array of zeros.
@@ -39,7 +39,7 @@ fn order_into<'a>(extents: &'a [u64], weights: &'a [u64; 64], out: &mut [usize; 
         (orderTo (follows (now (weights .entry)) (now (extents .entry))) (length (now (extents .entry))))) ⌝ }
 {
     if total_at_most(extents, SMALL_TENSOR_THRESHOLD) {
-        as_given(extents.len(), out);
+        as_given_into(extents.len(), out);
         return;
     }
     sort_by_importance_into(weights, extents, out);
@@ -56,8 +56,16 @@ fn weights_by<'a>(
     requires { ⌜ Tabled (now extents) (now strides) (now table) operands ⌝ }
     ensures { λ r. ⌜ r ≡ padded 64 0 (weighed (now (extents .entry)) operands (now (strides .entry)) (leadOf purpose)) ⌝ }
 {
-    let rows = *table;
-    first_weights(extents, strides, rows, operands, lead(purpose))
+    let mut weights = [0u64; 64];
+    first_weights_into(
+        extents,
+        strides,
+        table,
+        operands,
+        lead(purpose),
+        &mut weights,
+    );
+    weights
 }
 
 // The same of the layout in a session's arrays.
@@ -100,7 +108,7 @@ fn axes_by_into<'a>(
 {
     let mut order = [0usize; 64];
     order_into(extents, weights, &mut order);
-    plan_axes(extents, strides, operands, &order, es, plan_strides)
+    plan_axes_into(extents, strides, operands, &order, es, plan_strides)
 }
 
 // The same of the layout in a session's arrays.
@@ -152,7 +160,7 @@ pub fn stays_by_into<'a>(
     let mut fused = [0u64; 64];
     pick_into(extents, &order, rank, &mut fused);
     fuse_dims(&mut fused, strides, rank, operands, &order, rank);
-    kept_axes(&fused, &order, rank, es, axes)
+    kept_axes_into(&fused, &order, rank, es, axes)
 }
 
 // The blocks of a plan whose axes are in the arrays: at most 1,024 cells are not cut.

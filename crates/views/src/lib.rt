@@ -5,7 +5,7 @@ ghost use Rattle.strided.specs.Refusals.{answered, layoutRefused};
 ghost use Rattle.strided.specs.declared.Outcome.the-variants.{Block};
 ghost use Rattle.views.specs.Visits.{visitRefused, noVisit, notVisited, endedVisit, seen, visited};
 ghost use Rattle.views.specs.Tally.{Countable};
-use finding::original_of;
+use finding::original_of_into;
 use layout::check_layout;
 use layout::operands_wrong;
 use layout::rank_over;
@@ -147,7 +147,7 @@ fn block_visit<'a>(
     let counters = stepped.counters;
     let mut count = [0usize; 1];
     let mut index = [0u64; 64];
-    let told = original_of(
+    let told = original_of_into(
         extents,
         strides,
         sizes.len(),

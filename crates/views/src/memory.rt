@@ -17,7 +17,7 @@ ghost use Rattle.views.specs.Visits.{seen, visited};
 ghost use Rattle.views.specs.Memory.{visitAt, VisitLeaves};
 use crate::check_visit;
 use crate::number::number_of;
-use finding::original_of;
+use finding::original_of_into;
 use strided::Answer;
 use strided::Outcome;
 use strided::Purpose;
@@ -41,7 +41,7 @@ fn told_into<'a>(
     ensures { λ r. ⌜ Leaves (foundOriginal (now (extents .entry)) operands (now (strides .entry)) purpose (take rank (now (counters .entry))))
         (now (count .entry)) (now (index .entry)) (now (count .exit)) (now (index .exit)) r ⌝ }
 {
-    original_of(
+    original_of_into(
         extents,
         strides,
         operands,

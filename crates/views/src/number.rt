@@ -1,5 +1,6 @@
 // The number of a block, told from a walk's counters: one pass over the axes, the outermost first.
 ghost use mathlib.Core.Path.{_≡_};
+ghost use Prim.Native.Nat.{_+_, _-_, _*_, _/_, _^_, _<_};
 ghost use lib.ListN.{take};
 ghost use Rattle.strided.specs.Walk.{cutAxes};
 ghost use Rattle.views.specs.Number.{blockNumber};
@@ -32,13 +33,34 @@ fn tally_axis(extent: u64, width: u64, at: u64, tally: Tally) -> Tally
     }
 }
 
+// The tiles of axis 0 under so many indices of the others. Where there are none, as in the first tile, nothing is divided.
+fn tiles_under(extent: u64, width: u64, indices: u64) -> u64
+    requires { ⌜ (0 < width) × (0 < extent) ⌝ }
+    requires { ⌜ ((extent - 1) / width + 1) * indices < 2 ^ 64 ⌝ }
+    ensures { λ r. ⌜ r ≡ ((extent - 1) / width + 1) * indices ⌝ }
+{
+    if indices == 0 {
+        return 0;
+    }
+    let tiles = (extent - 1) / width + 1;
+    tiles * indices
+}
+
+// The number of the tile that a counter lies in.
+fn tile_at(width: u64, at: u64) -> u64
+    requires { ⌜ 0 < width ⌝ }
+    ensures { λ r. ⌜ r ≡ at / width ⌝ }
+{
+    if at < width { 0 } else { at / width }
+}
+
 // Axis 0 counts by whole tiles.
 fn number_first(extent: u64, width: u64, at: u64, tally: Tally) -> u64
     requires { ⌜ First extent width at tally ⌝ }
     ensures { λ r. ⌜ r ≡ numbered extent width at tally ⌝ }
 {
-    let tiles = (extent - 1) / width + 1;
-    tiles * tally.before + at / width * tally.size + tally.place
+    let before = tiles_under(extent, width, tally.before);
+    before + tile_at(width, at) * tally.size + tally.place
 }
 
 // How many blocks come before the one at the counters `c`, on the extents and block sizes of a plan.

@@ -45,17 +45,17 @@ map-into-requires c κs =
     let a = e .before .before .before .before .before .before .args in
     (fitting (a .extents .now) (a .sizes .now) (a .strides .now) (a .purpose) (passed e), (refl, refl))
 
-original-by-requires : tie.Need-original-by-requires
-original-by-requires c κs = serves (c .before .before .before .before)
+original-by-into-requires : tie.Need-original-by-into-requires
+original-by-into-requires c κs = serves (c .before .before .before .before)
 
 returns-2 : tie.Need-returns-2
 returns-2 c =
     let m = c .before .before .before .before .before in
     let e = m .before .before .before in
     let a = e .before .before .before .before .before .before .args in
-    same-told (tells-original (serves m) (m .map-into .ensures) (a .counters .now) ∙ original-passed (a .extents .now) (a .sizes .now) (a .strides .now) (a .purpose) (a .counters .now) (passed e)) (c .original-by .ensures)
+    same-told (tells-original (serves m) (m .map-into .ensures) (a .counters .now) ∙ original-passed (a .extents .now) (a .sizes .now) (a .strides .now) (a .purpose) (a .counters .now) (passed e)) (c .original-by-into .ensures)
 
 pub original-index-into-spec : {M : Type 1} → statement M
 original-index-into-spec =
     tie.close
-    (tie.spec check-layout-requires enum-known-answer enum-told map-into-requires original-by-requires returns returns-2)
+    (tie.spec check-layout-requires enum-known-answer enum-told map-into-requires original-by-into-requires returns returns-2)

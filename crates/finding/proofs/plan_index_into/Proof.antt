@@ -48,8 +48,8 @@ map-into-requires c κs =
 plan-rank-requires : tie.Need-plan-rank-requires
 plan-rank-requires c κs = let t = serves (c .before) in (t .fused-long, t .few-axes)
 
-plan-by-requires : tie.Need-plan-by-requires
-plan-by-requires c κs =
+plan-by-into-requires : tie.Need-plan-by-into-requires
+plan-by-into-requires c κs =
     let p = c .before .before .before .before in
     (serves (p .before .before), p .plan-rank .ensures)
 
@@ -58,9 +58,9 @@ returns-2 c =
     let m = c .before .before .before .before .before .before .before in
     let e = m .before .before .before in
     let a = e .before .before .before .before .before .before .args in
-    same-told (tells-plan (serves m) (m .map-into .ensures) (a .original .now) ∙ plan-passed (a .extents .now) (a .sizes .now) (a .strides .now) (a .purpose) (a .original .now) (passed e)) (c .plan-by .ensures)
+    same-told (tells-plan (serves m) (m .map-into .ensures) (a .original .now) ∙ plan-passed (a .extents .now) (a .sizes .now) (a .strides .now) (a .purpose) (a .original .now) (passed e)) (c .plan-by-into .ensures)
 
 pub plan-index-into-spec : {M : Type 1} → statement M
 plan-index-into-spec =
     tie.close
-    (tie.spec check-layout-requires enum-known-answer enum-told map-into-requires plan-rank-requires plan-by-requires returns returns-2)
+    (tie.spec check-layout-requires enum-known-answer enum-told map-into-requires plan-rank-requires plan-by-into-requires returns returns-2)

@@ -9,8 +9,8 @@ use Rattle.fuse.proofs.compress_dims.Tie as tie
 below-256 : {x n : ℕ} → x < n → n ≤ 64 → x < 256
 below-256 h k = omega arith
 
-kept-axes-requires : tie.Need-kept-axes-requires
-kept-axes-requires c κs =
+kept-axes-into-requires : tie.Need-kept-axes-into-requires
+kept-axes-into-requires c κs =
     let s = c .before .before in
     let t = s .pre .0 in
     let l = s .pre .1 .0 in
@@ -23,7 +23,7 @@ pick-strides-into-requires c κs =
     let a = s .args in
     let t = s .pre .0 in
     let l = s .pre .1 .0 .0 in
-    let w = k .kept-axes .ensures in
+    let w = k .kept-axes-into .ensures in
     let ss = a .strides .now in
     let O = a .order .now in
     let F = a .fused .now in (
@@ -41,7 +41,7 @@ returns c =
     let a = s .args in
     let t = s .pre .0 in
     let l = s .pre .1 .0 .0 in
-    let w = k .kept-axes .ensures in
+    let w = k .kept-axes-into .ensures in
     let ss = a .strides .now in
     let O = a .order .now in
     let F = a .fused .now in (
@@ -53,4 +53,4 @@ returns c =
     )
 
 pub compress-dims-spec : {M : Type 1} → statement M
-compress-dims-spec = tie.close (tie.spec kept-axes-requires pick-strides-into-requires returns)
+compress-dims-spec = tie.close (tie.spec kept-axes-into-requires pick-strides-into-requires returns)

@@ -15,8 +15,8 @@ use Rattle.kernel.proofs.plan_into.Tie as tie
 total-at-most-requires : tie.Need-total-at-most-requires
 total-at-most-requires c κs = search needs
 
-given-axes-requires : tie.Need-given-axes-requires
-given-axes-requires c κs =
+given-axes-into-requires : tie.Need-given-axes-into-requires
+given-axes-into-requires c κs =
     let s = c .before .before .before .before .before .before .before in
     let ok = s .pre .1 .0 in
     let z = s .pre .1 .1 in
@@ -36,8 +36,8 @@ returns c =
     let ok = s .pre .1 .0 in
     let small = sym (t .total-at-most .ensures) ∙ on .if1 .taken in
     let is = given-small es m ss u small in
-    let e = x .given-axes .ensures in
-    made-small es (a .sizes .now) ss u ok (x .given-axes .result) _ _
+    let e = x .given-axes-into .ensures in
+    made-small es (a .sizes .now) ss u ok (x .given-axes-into .result) _ _
     (as-planned es m ss u (ok .axes) is length (e .0))
     (as-planned es m ss u (ok .axes) is (λ xs. padded 64 0 (extents xs)) (e .1 .0))
     (as-planned es m ss u (ok .axes) is (λ xs. strideTable xs m) (e .1 .1))
@@ -73,4 +73,4 @@ returns-2 c =
 pub plan-into-spec : {M : Type 1} → statement M
 plan-into-spec =
     tie.close
-    (tie.spec total-at-most-requires given-axes-requires returns axes-into-requires block-sizes-into-requires returns-2)
+    (tie.spec total-at-most-requires given-axes-into-requires returns axes-into-requires block-sizes-into-requires returns-2)

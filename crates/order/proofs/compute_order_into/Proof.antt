@@ -25,31 +25,32 @@ order-padded ws es n h =
 lead-requires : tie.Need-lead-requires
 lead-requires c κs = search needs
 
-compute-importance-requires : tie.Need-compute-importance-requires
-compute-importance-requires c κs = search needs
+compute-importance-into-requires : tie.Need-compute-importance-into-requires
+compute-importance-into-requires c κs = search needs
 
 sort-by-importance-into-requires : tie.Need-sort-by-importance-into-requires
 sort-by-importance-into-requires c κs =
-    let s = c .before .before .before .before .before in
-    (s .pre .0 .rank-few, s .pre .1)
+    let s = c .before .before .before .before .before .before in
+    (s .pre .0 .rank-few, s .pre .1 .1)
 
 returns : tie.Need-returns
 unfolding loopOrder
 returns c =
     let i = c .before .before .before in
-    let l = i .before in
+    let l = i .before .before in
     let s = l .before .before in
     let a = s .args in
     let es = a .extents .now in
     let ws : List ℕ = weights es (a .operands) (a .strides .now) (lead (a .purpose)) in
     let long : length ws ≤ 64 = omega (arith, weights-long es (a .operands) (a .strides .now) (lead (a .purpose)) (s .pre .0 .operands-few), s .pre .0 .rank-few) in
-    let w : i .compute-importance .result ≡ padded 64 0 ws =
-    i .compute-importance .ensures ∙ ap (λ (k : ℕ). padded 64 0 (weights es (a .operands) (a .strides .now) k)) (l .lead .ensures) in
-    c .sort-by-importance-into .ensures
-    ∙ ap (λ (v : List ℕ). padded 64 0 (orderTo (follows v es) (length es))) w
-    ∙ ap (padded 64 0) (order-padded ws es (length es) long)
+    let w = i .compute-importance-into .ensures ∙ ap (λ (k : ℕ). padded 64 0 (weights es (a .operands) (a .strides .now) k)) (l .lead .ensures) in (
+      w,
+      c .sort-by-importance-into .ensures
+          ∙ ap (λ (v : List ℕ). padded 64 0 (orderTo (follows v es) (length es))) w
+          ∙ ap (padded 64 0) (order-padded ws es (length es) long),
+    )
 
 pub compute-order-into-spec : {M : Type 1} → statement M
 compute-order-into-spec =
     tie.close
-    (tie.spec lead-requires compute-importance-requires sort-by-importance-into-requires returns)
+    (tie.spec lead-requires compute-importance-into-requires sort-by-importance-into-requires returns)

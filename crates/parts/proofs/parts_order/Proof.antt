@@ -37,9 +37,9 @@ enum-told c = search needs
 
 compute-order-into-requires : tie.Need-compute-order-into-requires
 compute-order-into-requires c κs =
-    let t = c .before .before in
+    let t = c .before .before .before in
     let a = t .before .before .before .before .before .before .args in
-    (counts-fit (a .extents .now) (a .sizes .now) (a .strides .now) (purposeOf (a .kind) (a .chosen)) (served t), refl)
+    (counts-fit (a .extents .now) (a .sizes .now) (a .strides .now) (purposeOf (a .kind) (a .chosen)) (served t), (refl, refl))
 
 returns : tie.Need-returns
 returns c =
@@ -51,10 +51,10 @@ returns c =
 
 returns-2 : tie.Need-returns-2
 returns-2 c =
-    let t = c .before .before .before in
+    let t = c .before .before .before .before in
     let a = t .before .before .before .before .before .before .args in
     part-served (countsRefused (a .extents .now) (a .sizes .now) (a .strides .now) (purposeOf (a .kind) (a .chosen))) (served t)
-    (c .compute-order-into .ensures ∙ ap (λ u. padded 64 0 (loopOrder (a .extents .now) (length (a .sizes .now)) (a .strides .now) u)) (t .before .before .before .purpose-of .ensures))
+    (c .compute-order-into .ensures .1 ∙ ap (λ u. padded 64 0 (loopOrder (a .extents .now) (length (a .sizes .now)) (a .strides .now) u)) (t .before .before .before .purpose-of .ensures))
 
 pub parts-order-spec : {M : Type 1} → statement M
 parts-order-spec =

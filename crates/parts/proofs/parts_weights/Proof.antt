@@ -1,6 +1,6 @@
 -- `parts::parts_weights` meets its contract. Assumes nothing.
 use borrow.Author.Needs.{needs}
-use mathlib.Core.Path.{_≡_, ap, _∙_}
+use mathlib.Core.Path.{_≡_, refl, ap, _∙_}
 use lib.ListN.{length}
 use Rattle.strided.specs.Base.{padded}
 use Rattle.strided.specs.Layout.{lead}
@@ -39,11 +39,11 @@ enum-told c = search needs
 lead-requires : tie.Need-lead-requires
 lead-requires c κs = search needs
 
-compute-importance-requires : tie.Need-compute-importance-requires
-compute-importance-requires c κs =
-    let t = c .before in
+compute-importance-into-requires : tie.Need-compute-importance-into-requires
+compute-importance-into-requires c κs =
+    let t = c .before .before .before in
     let a = t .before .before .before .before .before .before .args in
-    counts-fit (a .extents .now) (a .sizes .now) (a .strides .now) (purposeOf (a .kind) (a .chosen)) (served t)
+    (counts-fit (a .extents .now) (a .sizes .now) (a .strides .now) (purposeOf (a .kind) (a .chosen)) (served t), refl)
 
 returns : tie.Need-returns
 returns c =
@@ -55,11 +55,11 @@ returns c =
 
 returns-2 : tie.Need-returns-2
 returns-2 c =
-    let t = c .before .before in
+    let t = c .before .before .before .before in
     let a = t .before .before .before .before .before .before .args in
     part-served (countsRefused (a .extents .now) (a .sizes .now) (a .strides .now) (purposeOf (a .kind) (a .chosen))) (served t)
-    (c .compute-importance .ensures
-    ∙ ap (λ k. padded 64 0 (weights (a .extents .now) (length (a .sizes .now)) (a .strides .now) k)) (c .before .lead .ensures ∙ ap lead (t .before .before .before .purpose-of .ensures)))
+    (c .compute-importance-into .ensures
+    ∙ ap (λ k. padded 64 0 (weights (a .extents .now) (length (a .sizes .now)) (a .strides .now) k)) (c .before .before .lead .ensures ∙ ap lead (t .before .before .before .purpose-of .ensures)))
 
 pub parts-weights-spec : {M : Type 1} → statement M
 parts-weights-spec =
@@ -71,6 +71,6 @@ parts-weights-spec =
     number-requires
     enum-told
     lead-requires
-    compute-importance-requires
+    compute-importance-into-requires
     returns
     returns-2)

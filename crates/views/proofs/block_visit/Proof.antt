@@ -10,14 +10,14 @@ use Rattle.views.proofs.block_visit.Tie as tie
 array-share-prefix-counters : tie.Need-array-share-prefix-counters
 array-share-prefix-counters c = search needs
 
-slice-aggregate-original-of : tie.Need-slice-aggregate-original-of
-slice-aggregate-original-of c =
+slice-aggregate-original-of-into : tie.Need-slice-aggregate-original-of-into
+slice-aggregate-original-of-into c =
     let s = c .before .before .before .before in
     let k = s .pre .1 .1 in
     taken-long (s .args .t5 .rank) (s .args .stepped .counters) (k .counters-all) (k .few)
 
-original-of-requires : tie.Need-original-of-requires
-original-of-requires c κs =
+original-of-into-requires : tie.Need-original-of-into-requires
+original-of-into-requires c κs =
     let s = c .before .before .before .before .before .before in
     let a = s .args in
     (fitting (a .extents .now) (a .sizes .now) (a .strides .now) (a .purpose) (s .pre .0), cells-few (a .extents .now) (a .sizes .now) (a .strides .now) (a .purpose) (s .pre .0))
@@ -44,7 +44,7 @@ returns c =
     let a = s .args in
     c .not-visited .ensures
     ∙ value-refused (a .extents .now) (a .sizes .now) (a .strides .now) (a .purpose) (a .t5) (a .stepped) (s .pre .1 .0)
-    (told-as (a .extents .now) (a .sizes .now) (a .strides .now) (a .purpose) (s .pre .0) (take (a .t5 .rank) (a .stepped .counters)) (c .before .before .told .given .1) (o .original-of .ensures))
+    (told-as (a .extents .now) (a .sizes .now) (a .strides .now) (a .purpose) (s .pre .0) (take (a .t5 .rank) (a .stepped .counters)) (c .before .before .told .given .1) (o .original-of-into .ensures))
 
 returns-2 : tie.Need-returns-2
 returns-2 c =
@@ -54,7 +54,7 @@ returns-2 c =
     let s = o .before .before .before .before .before .before .before in
     let a = s .args in
     value-block (a .extents .now) (a .sizes .now) (a .strides .now) (a .purpose) (a .t5) (a .stepped) (s .pre .1 .0)
-    (told-as (a .extents .now) (a .sizes .now) (a .strides .now) (a .purpose) (s .pre .0) (take (a .t5 .rank) (a .stepped .counters)) (e .enum-told .given .1) (o .original-of .ensures))
+    (told-as (a .extents .now) (a .sizes .now) (a .strides .now) (a .purpose) (s .pre .0) (take (a .t5 .rank) (a .stepped .counters)) (e .enum-told .given .1) (o .original-of-into .ensures))
     (n .number-of .ensures)
 
 pub block-visit-spec : {M : Type 1} → statement M
@@ -62,8 +62,8 @@ block-visit-spec =
     tie.close
     (tie.spec
     array-share-prefix-counters
-    slice-aggregate-original-of
-    original-of-requires
+    slice-aggregate-original-of-into
+    original-of-into-requires
     enum-known-told
     not-visited-requires
     enum-told

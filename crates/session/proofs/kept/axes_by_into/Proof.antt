@@ -26,8 +26,8 @@ ordered o =
 order-into-requires : tie.Need-order-into-requires
 order-into-requires c κs = search needs
 
-plan-axes-requires : tie.Need-plan-axes-requires
-plan-axes-requires c κs =
+plan-axes-into-requires : tie.Need-plan-axes-into-requires
+plan-axes-into-requires c κs =
     let o = c .before .before .before in
     let s = start o in
     let a = s .args in
@@ -42,7 +42,7 @@ returns c =
     let es = a .extents .now in
     let ss = a .strides .now in
     let few = s .pre .0 .rank-few in
-    let found = c .plan-axes .ensures in
+    let found = c .plan-axes-into .ensures in
     record {
       weights = s .pre .1 .0;
       count = as-planned es (a .operands) ss (a .purpose) few (ordered o) length (found .0);
@@ -51,4 +51,4 @@ returns c =
     }
 
 pub axes-by-into-spec : {M : Type 1} → statement M
-axes-by-into-spec = tie.close (tie.spec order-into-requires plan-axes-requires returns)
+axes-by-into-spec = tie.close (tie.spec order-into-requires plan-axes-into-requires returns)

@@ -11,15 +11,15 @@ use Rattle.session.proofs.kept.order_into.Tie as tie
 total-at-most-requires : tie.Need-total-at-most-requires
 total-at-most-requires c κs = search needs
 
-as-given-requires : tie.Need-as-given-requires
-as-given-requires c κs = search needs
+as-given-into-requires : tie.Need-as-given-into-requires
+as-given-into-requires c κs = search needs
 
 returns : tie.Need-returns
 returns c =
     let t = c .before .before .before in
     let a = t .before .before .args in
     let es = a .extents .now in
-    c .as-given .ensures
+    c .as-given-into .ensures
     ∙ ap (λ (b : Bool). padded 64 0 (cond b (run 0 (length es)) (orderTo (follows (a .weights .now) es) (length es)))) (sym (c .before .before .if1 .taken) ∙ t .total-at-most .ensures)
 
 sort-by-importance-into-requires : tie.Need-sort-by-importance-into-requires
@@ -38,7 +38,7 @@ order-into-spec =
     tie.close
     (tie.spec
     total-at-most-requires
-    as-given-requires
+    as-given-into-requires
     returns
     sort-by-importance-into-requires
     returns-2)

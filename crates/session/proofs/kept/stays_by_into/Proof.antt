@@ -12,7 +12,7 @@ use Rattle.laws.specs.Fuse.Arrays.{pickRows}
 use Rattle.arrange.specs.Axes.{InOrder}
 use Rattle.arrange.specs.Fusing.{in-order, as-planned}
 use Rattle.fuse.proofs.Keeping.{stand-few, stand-long, stand-inside, stand-rank, stand-extents, stand-strides}
-use Rattle.fuse.proofs.Planning.{named, put-long, put-padded, made-long, as-planned as as-fused}
+use Rattle.fuse.proofs.Planning.{zeros-behind, named, put-long, put-padded, made-long, as-planned as as-fused}
 use Rattle.session.proofs.Keeping.{order-is}
 use borrow.Author.Needs.{needs}
 use Rattle.session.proofs.kept.stays_by_into.Statement.{statement}
@@ -45,7 +45,7 @@ order-into-requires : tie.Need-order-into-requires
 order-into-requires c κs = search needs
 
 pick-into-requires : tie.Need-pick-into-requires
-pick-into-requires c κs = let r = ready (c .before .before) in ((r .places, r .few-axes), (r .inside, refl))
+pick-into-requires c κs = let r = ready (c .before .before) in ((r .places, r .few-axes), (r .inside, zeros-behind _ (r .few-axes)))
 
 fuse-dims-requires : tie.Need-fuse-dims-requires
 fuse-dims-requires c κs =
@@ -53,8 +53,8 @@ fuse-dims-requires c κs =
     let r = ready (p .before .before .before) in
     (named r, (put-long r (p .pick-into .ensures), put-padded r (p .pick-into .ensures)))
 
-kept-axes-requires : tie.Need-kept-axes-requires
-kept-axes-requires c κs =
+kept-axes-into-requires : tie.Need-kept-axes-into-requires
+kept-axes-into-requires c κs =
     let f = c .before .before .before .before in
     let p = f .before .before .before in
     let o = p .before .before .before in
@@ -79,7 +79,7 @@ returns c =
     let O = o .order-into .last .1 .1 .0 in
     let F = f .fuse-dims .last .0 in
     let n = length es in
-    let w = c .kept-axes .ensures in
+    let w = c .kept-axes-into .ensures in
     record {
       count = as-planned es m ss (a .purpose) few (ordered o) length (as-fused r put made length (stand-rank ss n m O F n l few w));
       few = stand-few ss n m O F n l few w;
@@ -92,4 +92,4 @@ returns c =
 pub stays-by-into-spec : {M : Type 1} → statement M
 stays-by-into-spec =
     tie.close
-    (tie.spec order-into-requires pick-into-requires fuse-dims-requires kept-axes-requires returns)
+    (tie.spec order-into-requires pick-into-requires fuse-dims-requires kept-axes-into-requires returns)
