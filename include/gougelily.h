@@ -59,7 +59,7 @@ extern "C" {
 /* The version of this header. A program can be run with another library: gougelily_version() tells that one's. */
 #define GOUGELILY_VERSION_MAJOR 1
 #define GOUGELILY_VERSION_MINOR 0
-#define GOUGELILY_VERSION_PATCH 2
+#define GOUGELILY_VERSION_PATCH 3
 #define GOUGELILY_VERSION (GOUGELILY_VERSION_MAJOR * 1000000 + GOUGELILY_VERSION_MINOR * 1000 + GOUGELILY_VERSION_PATCH)
 
 #define GOUGELILY_MAX_RANK 64

@@ -9,7 +9,7 @@ abbrev pub minor : ℕ
 minor = 0
 
 abbrev pub patch : ℕ
-patch = 2
+patch = 3
 
 -- as one number, which grows with the version
 abbrev pub version : ℕ

@@ -14,6 +14,61 @@ use layout::purpose_of;
 use session::Numbers;
 use strided::Machine;
 
+// ---- the numbers
+
+// A session's numbers, from where they are lent.
+fn read_numbers<'a>(
+    purpose: &'a [u64; 1],
+    chosen: &'a [u64; 1],
+    machine: &'a [u64; 4],
+    rank: &'a [usize; 1],
+    operands: &'a [usize; 1],
+    plan_counts: &'a [usize; 2],
+) -> Numbers
+    ensures { λ r. ⌜ r ≡ numbersAt (now (purpose .entry)) (now (chosen .entry)) (now (machine .entry))
+        (now (rank .entry)) (now (operands .entry)) (now («plan_counts» .entry)) ⌝ }
+{
+    let record = Machine {
+        line: machine[0],
+        cache: machine[1],
+        way: machine[2],
+        live: machine[3],
+    };
+    Numbers {
+        purpose: purpose[0],
+        chosen: chosen[0],
+        machine: record,
+        rank: rank[0],
+        operands: operands[0],
+        plan_rank: plan_counts[0],
+        plan_operands: plan_counts[1],
+    }
+}
+
+// A session's numbers, written to where they are lent.
+fn put_numbers(
+    numbers: Numbers,
+    purpose: &mut [u64; 1],
+    chosen: &mut [u64; 1],
+    machine: &mut [u64; 4],
+    rank: &mut [usize; 1],
+    operands: &mut [usize; 1],
+    plan_counts: &mut [usize; 2],
+)
+    ensures { λ _. ⌜ numbersAt (now (purpose .exit)) (now (chosen .exit)) (now (machine .exit))
+        (now (rank .exit)) (now (operands .exit)) (now («plan_counts» .exit)) ≡ numbers ⌝ }
+{
+    let record = numbers.machine;
+    *purpose = [numbers.purpose];
+    *chosen = [numbers.chosen];
+    *machine = [record.line, record.cache, record.way, record.live];
+    *rank = [numbers.rank];
+    *operands = [numbers.operands];
+    *plan_counts = [numbers.plan_rank, numbers.plan_operands];
+}
+
+// ---- the entries
+
 // A session begins with a layout.
 #[no_mangle]
 pub extern "C" fn gougelily_begin_session<'a>(
@@ -54,21 +109,7 @@ pub extern "C" fn gougelily_begin_session<'a>(
         (now («layout_extents» .entry)) (now («layout_sizes» .entry)) (now («layout_strides» .entry)) (purposeOf wanted leading)) in
         ⌜ Handed (t .answer) (t .session) old new r ⌝ }
 {
-    let record = Machine {
-        line: machine[0],
-        cache: machine[1],
-        way: machine[2],
-        live: machine[3],
-    };
-    let numbers = Numbers {
-        purpose: purpose[0],
-        chosen: chosen[0],
-        machine: record,
-        rank: rank[0],
-        operands: operands[0],
-        plan_rank: plan_counts[0],
-        plan_operands: plan_counts[1],
-    };
+    let numbers = read_numbers(purpose, chosen, machine, rank, operands, plan_counts);
     let given = Machine {
         line,
         cache,
@@ -97,13 +138,7 @@ pub extern "C" fn gougelily_begin_session<'a>(
     );
     let answer = moved.answer;
     let after = moved.numbers;
-    let whose = after.machine;
-    *purpose = [after.purpose];
-    *chosen = [after.chosen];
-    *machine = [whose.line, whose.cache, whose.way, whose.live];
-    *rank = [after.rank];
-    *operands = [after.operands];
-    *plan_counts = [after.plan_rank, after.plan_operands];
+    put_numbers(after, purpose, chosen, machine, rank, operands, plan_counts);
     code_of(answer)
 }
 
@@ -139,21 +174,7 @@ pub extern "C" fn gougelily_join_session<'a>(
         let t = joined old size (now (joining .entry)) in
         ⌜ Handed (t .answer) (t .session) old new r ⌝ }
 {
-    let record = Machine {
-        line: machine[0],
-        cache: machine[1],
-        way: machine[2],
-        live: machine[3],
-    };
-    let numbers = Numbers {
-        purpose: purpose[0],
-        chosen: chosen[0],
-        machine: record,
-        rank: rank[0],
-        operands: operands[0],
-        plan_rank: plan_counts[0],
-        plan_operands: plan_counts[1],
-    };
+    let numbers = read_numbers(purpose, chosen, machine, rank, operands, plan_counts);
     let moved = join_lent(
         numbers,
         extents,
@@ -170,13 +191,7 @@ pub extern "C" fn gougelily_join_session<'a>(
     );
     let answer = moved.answer;
     let after = moved.numbers;
-    let whose = after.machine;
-    *purpose = [after.purpose];
-    *chosen = [after.chosen];
-    *machine = [whose.line, whose.cache, whose.way, whose.live];
-    *rank = [after.rank];
-    *operands = [after.operands];
-    *plan_counts = [after.plan_rank, after.plan_operands];
+    put_numbers(after, purpose, chosen, machine, rank, operands, plan_counts);
     code_of(answer)
 }
 
@@ -211,21 +226,7 @@ pub extern "C" fn gougelily_leave_session<'a>(
         let t = left old operand in
         ⌜ Handed (t .answer) (t .session) old new r ⌝ }
 {
-    let record = Machine {
-        line: machine[0],
-        cache: machine[1],
-        way: machine[2],
-        live: machine[3],
-    };
-    let numbers = Numbers {
-        purpose: purpose[0],
-        chosen: chosen[0],
-        machine: record,
-        rank: rank[0],
-        operands: operands[0],
-        plan_rank: plan_counts[0],
-        plan_operands: plan_counts[1],
-    };
+    let numbers = read_numbers(purpose, chosen, machine, rank, operands, plan_counts);
     let moved = leave_lent(
         numbers,
         extents,
@@ -241,12 +242,6 @@ pub extern "C" fn gougelily_leave_session<'a>(
     );
     let answer = moved.answer;
     let after = moved.numbers;
-    let whose = after.machine;
-    *purpose = [after.purpose];
-    *chosen = [after.chosen];
-    *machine = [whose.line, whose.cache, whose.way, whose.live];
-    *rank = [after.rank];
-    *operands = [after.operands];
-    *plan_counts = [after.plan_rank, after.plan_operands];
+    put_numbers(after, purpose, chosen, machine, rank, operands, plan_counts);
     code_of(answer)
 }

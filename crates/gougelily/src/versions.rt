@@ -8,5 +8,5 @@ ghost use Rattle.gougelily.specs.Version.{version};
 pub extern "C" fn gougelily_version() -> i64
     ensures { λ r. ⌜ r ≡ pos version ⌝ }
 {
-    1000002
+    1000003
 }

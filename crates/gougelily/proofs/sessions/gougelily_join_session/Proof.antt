@@ -1,68 +1,35 @@
 -- `gougelily::sessions::gougelily_join_session` meets its contract. Assumes nothing.
-use mathlib.Core.Path.{ap, _∙_}
-use lib.IntN.{pos}
-use Rattle.strided.specs.Memory.{codeOr}
-use Rattle.strided.specs.declared.Answer.{Answer}
+use Rattle.session.specs.Session.{joined}
+use Rattle.session.specs.declared.Session.{Session}
 use mir.Facts.{toZ-ofZ}
+use mathlib.Core.Path.{_∙_}
 use borrow.Author.Needs.{needs}
+use Rattle.gougelily.proofs.Numbers.{handed}
 use Rattle.gougelily.proofs.sessions.gougelily_join_session.Statement.{statement}
 use Rattle.gougelily.proofs.sessions.gougelily_join_session.Tie as tie
 
-element-copy-out-t26 : tie.Need-element-copy-out-t26
-element-copy-out-t26 c = search needs
-
-element-copy-out-t29 : tie.Need-element-copy-out-t29
-element-copy-out-t29 c = search needs
-
-element-copy-out-t32 : tie.Need-element-copy-out-t32
-element-copy-out-t32 c = search needs
-
-element-copy-out-t35 : tie.Need-element-copy-out-t35
-element-copy-out-t35 c = search needs
-
-element-copy-out-t26-2 : tie.Need-element-copy-out-t26-2
-element-copy-out-t26-2 c = search needs
-
-element-copy-out-t35-2 : tie.Need-element-copy-out-t35-2
-element-copy-out-t35-2 c = search needs
-
-element-copy-out-t42 : tie.Need-element-copy-out-t42
-element-copy-out-t42 c = search needs
-
-element-copy-out-t45 : tie.Need-element-copy-out-t45
-element-copy-out-t45 c = search needs
-
-element-copy-out-t48 : tie.Need-element-copy-out-t48
-element-copy-out-t48 c = search needs
-
-element-copy-out-t51 : tie.Need-element-copy-out-t51
-element-copy-out-t51 c = search needs
+read-numbers-requires : tie.Need-read-numbers-requires
+read-numbers-requires c κs = search needs
 
 join-lent-requires : tie.Need-join-lent-requires
 join-lent-requires c κs = search needs
+
+put-numbers-requires : tie.Need-put-numbers-requires
+put-numbers-requires c κs = search needs
 
 code-of-requires : tie.Need-code-of-requires
 code-of-requires c κs = search needs
 
 returns : tie.Need-returns
 returns c =
-    let l = c .before .before .before .before .before .before .before .before .before .join-lent .ensures in
-    record { code = toZ-ofZ (record { sfits = c .code-of .ok }) ∙ c .code-of .ensures ∙ ap (λ (a : Answer). codeOr a (pos 0)) (l .answers); memory = l .leaves }
+    let moved = c .before .before .before .before .before .before .before .before .before in
+    let read = moved .before .before .before .before .before .before .before .before .before in
+    let args = read .before .before .before .before .before .before .before .args in
+    handed (λ (s : Session). joined s (args .size) (args .joining .now))
+    (read .read-numbers .ensures)
+    (c .before .put-numbers .ensures)
+    (toZ-ofZ (record { sfits = c .code-of .ok }) ∙ c .code-of .ensures)
+    (moved .join-lent .ensures)
 
 pub gougelily-join-session-spec : {M : Type 1} → statement M
-gougelily-join-session-spec =
-    tie.close
-    (tie.spec
-    element-copy-out-t26
-    element-copy-out-t29
-    element-copy-out-t32
-    element-copy-out-t35
-    element-copy-out-t26-2
-    element-copy-out-t35-2
-    element-copy-out-t42
-    element-copy-out-t45
-    element-copy-out-t48
-    element-copy-out-t51
-    join-lent-requires
-    code-of-requires
-    returns)
+gougelily-join-session-spec = tie.close (tie.spec read-numbers-requires join-lent-requires put-numbers-requires code-of-requires returns)

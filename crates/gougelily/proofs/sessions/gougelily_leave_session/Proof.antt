@@ -1,68 +1,35 @@
 -- `gougelily::sessions::gougelily_leave_session` meets its contract. Assumes nothing.
-use mathlib.Core.Path.{ap, _∙_}
-use lib.IntN.{pos}
-use Rattle.strided.specs.Memory.{codeOr}
-use Rattle.strided.specs.declared.Answer.{Answer}
+use Rattle.session.specs.Session.{left}
+use Rattle.session.specs.declared.Session.{Session}
 use mir.Facts.{toZ-ofZ}
+use mathlib.Core.Path.{_∙_}
 use borrow.Author.Needs.{needs}
+use Rattle.gougelily.proofs.Numbers.{handed}
 use Rattle.gougelily.proofs.sessions.gougelily_leave_session.Statement.{statement}
 use Rattle.gougelily.proofs.sessions.gougelily_leave_session.Tie as tie
 
-element-copy-out-t25 : tie.Need-element-copy-out-t25
-element-copy-out-t25 c = search needs
-
-element-copy-out-t28 : tie.Need-element-copy-out-t28
-element-copy-out-t28 c = search needs
-
-element-copy-out-t31 : tie.Need-element-copy-out-t31
-element-copy-out-t31 c = search needs
-
-element-copy-out-t34 : tie.Need-element-copy-out-t34
-element-copy-out-t34 c = search needs
-
-element-copy-out-t25-2 : tie.Need-element-copy-out-t25-2
-element-copy-out-t25-2 c = search needs
-
-element-copy-out-t34-2 : tie.Need-element-copy-out-t34-2
-element-copy-out-t34-2 c = search needs
-
-element-copy-out-t41 : tie.Need-element-copy-out-t41
-element-copy-out-t41 c = search needs
-
-element-copy-out-t44 : tie.Need-element-copy-out-t44
-element-copy-out-t44 c = search needs
-
-element-copy-out-t47 : tie.Need-element-copy-out-t47
-element-copy-out-t47 c = search needs
-
-element-copy-out-t50 : tie.Need-element-copy-out-t50
-element-copy-out-t50 c = search needs
+read-numbers-requires : tie.Need-read-numbers-requires
+read-numbers-requires c κs = search needs
 
 leave-lent-requires : tie.Need-leave-lent-requires
 leave-lent-requires c κs = search needs
+
+put-numbers-requires : tie.Need-put-numbers-requires
+put-numbers-requires c κs = search needs
 
 code-of-requires : tie.Need-code-of-requires
 code-of-requires c κs = search needs
 
 returns : tie.Need-returns
 returns c =
-    let l = c .before .before .before .before .before .before .before .before .before .leave-lent .ensures in
-    record { code = toZ-ofZ (record { sfits = c .code-of .ok }) ∙ c .code-of .ensures ∙ ap (λ (a : Answer). codeOr a (pos 0)) (l .answers); memory = l .leaves }
+    let moved = c .before .before .before .before .before .before .before .before .before in
+    let read = moved .before .before .before .before .before .before .before .before .before in
+    let args = read .before .before .before .before .before .before .before .args in
+    handed (λ (s : Session). left s (args .operand))
+    (read .read-numbers .ensures)
+    (c .before .put-numbers .ensures)
+    (toZ-ofZ (record { sfits = c .code-of .ok }) ∙ c .code-of .ensures)
+    (moved .leave-lent .ensures)
 
 pub gougelily-leave-session-spec : {M : Type 1} → statement M
-gougelily-leave-session-spec =
-    tie.close
-    (tie.spec
-    element-copy-out-t25
-    element-copy-out-t28
-    element-copy-out-t31
-    element-copy-out-t34
-    element-copy-out-t25-2
-    element-copy-out-t34-2
-    element-copy-out-t41
-    element-copy-out-t44
-    element-copy-out-t47
-    element-copy-out-t50
-    leave-lent-requires
-    code-of-requires
-    returns)
+gougelily-leave-session-spec = tie.close (tie.spec read-numbers-requires leave-lent-requires put-numbers-requires code-of-requires returns)
