@@ -42,10 +42,12 @@ class Arguments(unittest.TestCase):
         self.assertEqual(written, "")
         self.assertRegex(said, r"^walklist: .*none\.txt.*No such file or directory")
 
+    def test_the_help(self):
+        self.assertEqual(ran("--help"), (Path(__file__).with_name("help.txt").read_text(), ""))
+
     def test_the_example_of_the_help_is_that_of_the_readme(self):
-        written, said = ran("--help")
-        example = re.search(r"^For instance: printf '(.*)' \| walklist$", written, re.M)[1]
-        self.assertEqual((example.replace("\\n", "\n"), said), (TEXT, ""))
+        example = re.search(r"^For instance: printf '(.*)' \| walklist$", ran("--help")[0], re.M)[1]
+        self.assertEqual(example.replace("\\n", "\n"), TEXT)
         self.assertIn(f"target/bin/walklist <<'END'\n{TEXT}END", (ROOT / "README.md").read_text())
 
 
