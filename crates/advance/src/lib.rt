@@ -1,5 +1,7 @@
 // A walk moved to its next block, on lent arrays. Nothing is checked here: whoever walks has checked once at the beginning.
 // No division is made on the way: the block size in force and the start of the tile are kept for each axis beside its counter.
+#![tactic(auto)]
+
 ghost use Rattle.std.specs.Prelude.{◌≡◌, ℕ, ◌<◌, ◌≤◌, get_or, replicate};
 ghost use Rattle.strided.specs.Walk.{effective};
 ghost use Rattle.advance.specs.Moves.{Moves, after_move, Shifts, shifted};
@@ -127,7 +129,7 @@ pub fn tile_starts<'a>(rank: usize, w: &'a [u64; 64], c: &'a [u64; 64]) -> [u64;
 }
 
 // Where an axis goes next, ahead or back, and where the tile starts that it is then in.
-#[derive(Drop)]
+#[derive(Clone, Copy)]
 pub struct Goal {
     pub more: bool,
     pub to: u64,

@@ -1,6 +1,8 @@
 // Axes put into another order. Planning puts a layout's axes into the order that they are fused in, and dropping the axes of extent 1 is
 // an order too: the order of those that stay. What is written goes into lent arrays, since a table of strides handed back by value would
 // be copied.
+#![tactic(auto)]
+
 ghost use Rattle.std.specs.Prelude.{◌≡◌, true, ℕ, ◌+◌, ◌*◌, ◌<◌, ◌≤◌, length, get_or, take, drop, replicate, pos};
 ghost use Rattle.strided.specs.Base.{padded};
 ghost use Rattle.strided.specs.Order.{pick};

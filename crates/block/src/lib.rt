@@ -1,4 +1,6 @@
 // Cutting: block sizes whose region fits the cache, by the axis ranks, the byte strides and the costs of the plan's axes.
+#![tactic(auto)]
+
 ghost use Rattle.std.specs.Prelude.{◌≡◌, ◌<◌, get_or};
 ghost use Rattle.strided.specs.Base.{least};
 ghost use Rattle.strided.specs.Machine.{Allowed};

@@ -1,4 +1,6 @@
 // Many steps of a walk in one call, for hosts that pay for every call: row 10 is checked once, and the next blocks are written as numbers.
+#![tactic(auto)]
+
 ghost use Rattle.std.specs.Prelude.{◌≡◌, false, ◌+◌, ◌*◌, ◌≤◌, ◌<◌, length, replicate};
 ghost use Rattle.std.proofs.Math.Seq.{paste};
 ghost use Rattle.strided.specs.Bulk.{room_for, many_of, stepped_many};

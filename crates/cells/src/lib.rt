@@ -1,5 +1,7 @@
 // Cells copied from one lent byte buffer into another, a patch of them at a time. What a copy of cells means, in whatever order they are
 // copied, is in specs/.
+#![tactic(auto)]
+
 ghost use Rattle.std.specs.Prelude.{◌≡◌, ◌≤◌, ◌<◌, ◌^◌, length};
 ghost use Rattle.cells.specs.Copy.{copied, Apart};
 ghost use Rattle.cells.specs.Patch.{patch_cells, Lies};
@@ -17,7 +19,7 @@ pub mod widths;
 
 // Where an operand's cells of a patch lie: the place of the first cell's first byte, and how many bytes it is, up or down, from a cell to
 // the next of its run (`step0`) and from a run to the next (`step1`).
-#[derive(Drop)]
+#[derive(Clone, Copy)]
 pub struct Side {
     pub first: usize,
     pub step0: i64,

@@ -1,6 +1,8 @@
 // When tiles are declined. A layout whose cut leaves slabs of whole lines, no two of which share a line, gains nothing from tiles: the flat
 // walk visits each line once as it is. Sums are in elements: an operand's size is a common factor of all its spans, so only the tests for size 0
 // and for whole lines look at it, and everything stays within 1 + reach, which row 6 bounds.
+#![tactic(auto)]
+
 ghost use Rattle.std.specs.Prelude.{◌≡◌, ◌^◌, ◌<◌, ◌≤◌, length};
 ghost use Rattle.strided.specs.Machine.{Allowed};
 ghost use Rattle.strided.specs.Region.{byte_table};
@@ -16,7 +18,7 @@ use strided::Machine;
 
 // One operand's slabs at a cut: a slab spans the axes before the cut, `width` elements of `size`, and the axes from the cut up to the rank lead
 // from slab to slab.
-#[derive(Drop)]
+#[derive(Clone, Copy)]
 struct Slabs {
     operand: usize,
     size: u64,

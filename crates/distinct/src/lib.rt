@@ -1,4 +1,6 @@
 // Whether two indices of a layout of at most 4,096 cells share an offset. Its offsets are listed axis by axis, and two that meet end it.
+#![tactic(auto)]
+
 ghost use Rattle.std.specs.Prelude.{◌≡◌, ◌↔◌, true, ◌≤◌, length};
 ghost use Rattle.strided.specs.Layout.{NoZero, total, reach, max_i};
 ghost use Rattle.strided.specs.Mark.{Shared};

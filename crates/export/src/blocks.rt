@@ -11,7 +11,7 @@ use strided::Walk;
 use walker::{moves_of, take_stretch, way_of};
 
 // What is walked: the plan's rank, and how many bytes a cell has.
-#[derive(Drop)]
+#[derive(Clone, Copy)]
 pub struct Shape {
     pub rank: usize,
     pub width: usize,

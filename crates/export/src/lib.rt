@@ -1,5 +1,7 @@
 // THE COPY of ask 3: the cells of one operand of a layout, in a lent byte buffer, moved to those of another. It follows the plan of the
 // layout for writing operand 0, and its walk, stretch by stretch. Everything is checked before a byte is written.
+#![tactic(auto)]
+
 ghost use Rattle.std.specs.Prelude.{◌≡◌, ◌<◌, ◌^◌, T};
 ghost use Rattle.std.proofs.Math.Option.{none};
 ghost use Rattle.std.specs.Int.Signed.{non_neg};

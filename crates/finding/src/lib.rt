@@ -1,5 +1,7 @@
 // Index finding: the original index of a plan index, and the plan index of an original index. Both work from the layout and the purpose
 // alone, so a caller needs no plan at hand. What they need of the plan is a map, which is made once.
+#![tactic(auto)]
+
 ghost use Rattle.std.specs.Prelude.{◌≡◌, ◌^◌, ◌<◌, length, take, replicate};
 ghost use Rattle.strided.specs.Layout.{total};
 ghost use Rattle.strided.specs.Index.{told_original, told_plan};
@@ -16,7 +18,7 @@ pub mod radix;
 
 // The map between a layout's indices and its plan's: the order that the layout's axes are fused in, their extents in that order after
 // fusing, and how many axes the plan has.
-#[derive(Drop)]
+#[derive(Clone, Copy)]
 pub struct Map {
     pub rank: usize,
     pub order: [usize; 64],

@@ -1,6 +1,8 @@
 // Fusing axes, dropping those of extent 1, and the costs of the axes that are left: fuse_dims, compress_dims and compute_costs of the Rust.
 // Axes are named by an order, and operand k's stride on axis a stands at k * pitch + a: the pitch is the rank for a layout's own strides, 64
 // for a plan's. So a layout's axes are fused where they stand, and only the plan's strides are written.
+#![tactic(auto)]
+
 ghost use Rattle.std.specs.Prelude.{◌≡◌, ◌&&◌, ℕ, ◌+◌, ◌-◌, ◌*◌, ◌/◌, ◌^◌, ◌<◌, ◌≤◌, min, ltb, leb, pos, nat_abs, length, get_or, take, replicate};
 ghost use Rattle.strided.specs.Base.{padded, least as leastOf};
 ghost use Rattle.strided.specs.Layout.{stride_column, extents as extents_of};

@@ -1,6 +1,8 @@
 // THE LIBRARY that programs in C and other languages link: the public entries as C functions on numbers and slices. include/gougelily.h
 // declares them. None has a precondition on its numbers. Each answers 0 or more, or the refusal's number negated, and then every lent byte
 // is as it was.
+#![tactic(auto)]
+
 
 pub mod checks;
 pub mod codes;

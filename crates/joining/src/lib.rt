@@ -1,4 +1,6 @@
 // A session begins, an operand joins it, an operand leaves it: where the session lies in lent arrays, and by value.
+#![tactic(auto)]
+
 ghost use Rattle.session.specs.Session.{given, begun, joined, left};
 ghost use Rattle.session.specs.Made.{session_at, Lent};
 

@@ -1,5 +1,7 @@
 // Planning: the plan of a layout for a purpose, as pointwise_plan and fold_plan of the Rust make it, and the public entry, which first
 // refuses what cannot be planned. A plan is 5 KB: it is made in arrays that the entry lends, and put together once, at the end.
+#![tactic(auto)]
+
 ghost use Rattle.std.specs.Prelude.{◌≡◌, ◌++◌, ◌≤◌, pos, length, replicate, drop};
 ghost use Rattle.strided.specs.Base.{padded};
 ghost use Rattle.strided.specs.Layout.{extents as extents_of};
@@ -17,7 +19,7 @@ use order::{SMALL_TENSOR_THRESHOLD, fusing_order_into};
 use strided::{Answer, Machine, Plan, Planned, Purpose};
 
 // What a plan is for: layout, purpose and record alone fix the plan.
-#[derive(Drop)]
+#[derive(Clone, Copy)]
 pub struct Aim {
     pub purpose: Purpose,
     pub machine: Machine,

@@ -2,6 +2,8 @@
 // share a set. An operand revisits the lines along the axes before its reuse axis (its first with a byte stride below a line) on each step
 // of that axis, so they must all stay; a block on an axis whose byte stride is a multiple of the way puts that many of them into one set.
 // Which axes these are is worked out once: the way may be any multiple of a line, so that each remainder is a division.
+#![tactic(auto)]
+
 ghost use Rattle.std.specs.Prelude.{◌≡◌, ◌<◌, ◌≤◌, min, length, set};
 ghost use Rattle.strided.specs.Machine.{Allowed};
 ghost use Rattle.strided.specs.Fit.{fitted};
@@ -12,13 +14,13 @@ use strided::Machine;
 
 // Of one operand the axes before its reuse axis: their number, 0 if it does not count; and those whose byte stride is a multiple of the way,
 // axis i as bit i.
-#[derive(Drop)]
+#[derive(Clone, Copy)]
 pub struct LiveAxes {
     pub count: usize,
     pub aliased: u64,
 }
 
-#[derive(Drop)]
+#[derive(Clone, Copy)]
 pub struct L1Sets {
     pub first: LiveAxes,
     pub second: LiveAxes,

@@ -1,5 +1,7 @@
 // What a layout is refused for: rows 1 to 6 of the refusal table, with 24 among them where it is to be planned. Beside it what all later
 // crates read off a layout: the size of a stride, the total, the reach, the lead, the purpose, and the number of a refusal.
+#![tactic(auto)]
+
 ghost use Rattle.std.specs.Prelude.{◌≡◌, ◌≤◌, length};
 ghost use Rattle.strided.specs.Layout.{lead};
 ghost use Rattle.strided.specs.Refusals.{number, negated, refused_by, answered, count_rows, span_rows, layout_refused, planning_refused};

@@ -60,7 +60,7 @@ pub fn less_one(e: u64) -> u64
 }
 
 // A total, where a u64 holds it.
-#[derive(Drop)]
+#[derive(Clone, Copy)]
 pub enum Total {
     Fits(u64),
     Over,

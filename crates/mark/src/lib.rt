@@ -1,4 +1,6 @@
 // The repeat mark of an operand: whether two indices of a layout share an offset. It reads the extents and one operand's strides.
+#![tactic(auto)]
+
 ghost use Rattle.std.specs.Prelude.{◌≡◌, false, ◌≤◌, length};
 ghost use Rattle.strided.specs.Layout.{has_zero, reach, max_i};
 ghost use Rattle.strided.specs.Mark.{mark_of, marked};

@@ -1,6 +1,8 @@
 // The blocks of a plan whose total is above 1,024: the model's exits that keep every axis whole, cutting, declining, and the L1 fit of a
 // copy. Strides and byte strides stand in flat tables, operand k's for axis i at place k * 64 + i. A byte stride may have two words; the table
 // holds a number of 32 bits that no rule of cutting or fitting tells from it.
+#![tactic(auto)]
+
 ghost use Rattle.std.specs.Prelude.{◌≡◌, ◌+◌, ◌*◌, ◌<◌, ◌≤◌, leb, length, replicate, false};
 ghost use Rattle.strided.specs.Base.{every};
 ghost use Rattle.strided.specs.Layout.{chosen};

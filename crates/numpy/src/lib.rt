@@ -1,5 +1,7 @@
 // BYTE STRIDES FROM PYTHON TOOLS: a description of an array in the NumPy array interface's words, as text, becomes our extents and element
 // strides, and the reverse. NumPy's last axis is our axis 0. A text is read and judged before anything is handed out.
+#![tactic(auto)]
+
 ghost use Rattle.std.specs.Prelude.{◌≡◌, length};
 ghost use Rattle.numpy.specs.Numpy.{FromNumpy, refusing, to_numpy};
 ghost use Rattle.numpy.specs.Readers.{ShapeAt, StridesAt, FromPacked, FromGiven};
@@ -17,7 +19,7 @@ pub mod rows;
 pub mod units;
 
 // What a description says: the size of an element in bytes, and extents and element strides in our order. Places behind the rank are 0.
-#[derive(Drop)]
+#[derive(Clone, Copy)]
 pub struct Described {
     pub answer: Answer,
     pub size: u64,

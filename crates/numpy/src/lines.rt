@@ -7,14 +7,14 @@ use reading::head::{Counts, read_counts};
 use reading::row::{read_row, read_signed_row};
 
 // The place of a line's numbers, and the place behind the line.
-#[derive(Drop)]
+#[derive(Clone, Copy)]
 pub enum Line {
     At(usize, usize),
     Bad,
 }
 
 // What a text says: size, rank, and where the shape stands, or the byte strides if there are some.
-#[derive(Drop)]
+#[derive(Clone, Copy)]
 pub enum Said {
     Packed(u64, usize, usize),
     Given(u64, usize, usize),

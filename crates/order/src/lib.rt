@@ -1,4 +1,6 @@
 // The loop order of a layout, its axes from the innermost loop to the outermost, and the order in which a plan's axes are fused.
+#![tactic(auto)]
+
 ghost use Rattle.std.specs.Prelude.{◌≡◌, true, ◌≤◌, length, drop, replicate};
 ghost use Rattle.strided.specs.Base.{padded, run};
 ghost use Rattle.strided.specs.Layout.{lead as lead_of};

@@ -2,6 +2,8 @@
 // Each takes any layout, and answers 0 and writes its part into the lent array, or answers a refusal's number and leaves the array as it
 // was. The purpose is two numbers: 0 for pointwise with no chosen operand, 1 for pointwise into the chosen one, 2 for a fold by it.
 // Planning by value is in plans.rt, the steps of a walk are in steps.rt.
+#![tactic(auto)]
+
 ghost use Rattle.std.specs.Prelude.{◌≡◌, map, [], ◌∷◌, ◌<◌, length, replicate};
 ghost use Rattle.strided.specs.Base.{padded};
 ghost use Rattle.strided.specs.Layout.{lead, extents as extents_of};

@@ -105,7 +105,7 @@ pub extern "C" fn parts_step<'a>(
 }
 
 // What a lent step returns, and the state that it leaves.
-#[derive(Drop)]
+#[derive(Clone, Copy)]
 struct Moved {
     stepped: Stepped,
     walk: Walk,

@@ -4,7 +4,7 @@ ghost use Rattle.laws.specs.Text.Numbers.{goes_on};
 ghost use Rattle.reading.specs.Bytes.{Behind};
 
 // The place behind what was read, or that it does not stand there.
-#[derive(Drop)]
+#[derive(Clone, Copy)]
 pub enum Place {
     To(usize),
     Bad,

@@ -7,21 +7,21 @@ use super::number::{Number, field};
 use strided::Purpose;
 
 // A purpose and the place behind the line.
-#[derive(Drop)]
+#[derive(Clone, Copy)]
 pub enum Chosen {
     By(Purpose, usize),
     Bad,
 }
 
 // Rank, operand count, and the place behind them.
-#[derive(Drop)]
+#[derive(Clone, Copy)]
 pub enum Counts {
     Told(usize, usize, usize),
     Bad,
 }
 
 // What the line tells, and the place behind it.
-#[derive(Drop)]
+#[derive(Clone, Copy)]
 pub enum Head {
     Told(Purpose, usize, usize, usize),
     Bad,

@@ -1,6 +1,8 @@
 // The exact reader of the walklist text. A text is taken exactly if it is the rendering of what it says, byte for byte. Its numbers are laid
 // into lent arrays while it is read; of a text that is not taken they hold what was read so far. Counts above the planner's limits are
 // read too: such a text is in the form, and is refused by another row.
+#![tactic(auto)]
+
 ghost use Rattle.reading.specs.Lines.{arrays};
 ghost use Rattle.reading.specs.Texts.{ReadsText};
 
@@ -18,7 +20,7 @@ pub mod row;
 pub const MAX_TEXT: usize = 16384;
 
 // What a text says: the purpose, the rank and the number of operands of its layout; or that it is not in the form.
-#[derive(Drop)]
+#[derive(Clone, Copy)]
 pub enum Said {
     Layout(Purpose, usize, usize),
     Unformed,

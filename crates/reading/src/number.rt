@@ -7,13 +7,13 @@ ghost use Rattle.reading.specs.Numbers.{Reads, ReadsSigned, ReadsMore, Minus, Pl
 
 use super::byte::{Place, behind, digit, wide};
 
-#[derive(Drop)]
+#[derive(Clone, Copy)]
 pub enum Number {
     Value(u64, usize),
     Bad,
 }
 
-#[derive(Drop)]
+#[derive(Clone, Copy)]
 pub enum Signed {
     Value(i64, usize),
     Bad,

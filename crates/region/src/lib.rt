@@ -1,6 +1,8 @@
 // The memory region of a tile: an estimate of the bytes that it touches, in whole cache lines of a machine. Strides below a line fill
 // contiguous lines, larger ones multiply them. Numbers above twice the machine's cache are not told apart: no limit that regions are held
 // against is greater.
+#![tactic(auto)]
+
 ghost use Rattle.std.specs.Prelude.{◌≡◌, ◌+◌, ◌-◌, ◌*◌, ◌/◌, ◌<◌, ◌≤◌, min};
 ghost use Rattle.strided.specs.Machine.{Allowed};
 ghost use Rattle.strided.specs.Region.{region_of, region};
@@ -11,7 +13,7 @@ use layout::sizes::{least, less_one};
 use strided::Machine;
 
 // The tail of axes that cutting looks at, those from offset to rank, of so many operands.
-#[derive(Drop)]
+#[derive(Clone, Copy)]
 pub struct Tail {
     pub operands: usize,
     pub offset: usize,

@@ -1,5 +1,7 @@
 // Sessions: a layout with its purpose and its machine record, to which an operand joins at the end or from which one leaves. A session
 // keeps the ranks and weights of the layout's axes, the costs of the plan's axes, and the plan.
+#![tactic(auto)]
+
 ghost use Rattle.std.specs.Prelude.{◌≡◌, ◌*◌, take, replicate};
 ghost use Rattle.strided.specs.Refusals.{refused_by, answered};
 ghost use Rattle.strided.specs.declared.Answer.TheVariants.{Served};
@@ -16,7 +18,7 @@ pub mod kept;
 // A session. The purpose is 0, 1 or 2 as a C program tells it, with `chosen` 0 where there is none. The strides stand one after the other
 // with `rank` of them for each operand, as a layout has them; operand k's rank on axis i stands at k * 64 + i. Places behind the counts
 // are 0, and a cost of 0 says that the axis has none.
-#[derive(Drop)]
+#[derive(Clone, Copy)]
 pub struct Session {
     pub purpose: u64,
     pub chosen: u64,
@@ -33,14 +35,14 @@ pub struct Session {
 }
 
 // What a call on a session answers. On a refusal every number of the session is 0.
-#[derive(Drop)]
+#[derive(Clone, Copy)]
 pub struct Sessioned {
     pub answer: Answer,
     pub session: Session,
 }
 
 // The numbers of a session. The rest of it are arrays, which its functions are lent one by one.
-#[derive(Drop)]
+#[derive(Clone, Copy)]
 pub struct Numbers {
     pub purpose: u64,
     pub chosen: u64,
@@ -52,7 +54,7 @@ pub struct Numbers {
 }
 
 // What a call on a lent session answers, and the session's numbers after it.
-#[derive(Drop)]
+#[derive(Clone, Copy)]
 pub struct Moved {
     pub answer: Answer,
     pub numbers: Numbers,

@@ -1,5 +1,7 @@
 // The blocks of a tail shortened until their region fits the cache: halving, then single steps of 1, most of which are one jump. The block
 // to shorten is the one with the greatest score.
+#![tactic(auto)]
+
 ghost use Rattle.std.specs.Prelude.{◌≡◌, ◌+◌, ◌/◌, ◌<◌};
 ghost use Rattle.strided.specs.Machine.{Allowed};
 ghost use Rattle.strided.specs.Region.{region};
@@ -16,7 +18,7 @@ use region::{Tail, memory_region};
 use strided::Machine;
 
 // Which block is to be shortened.
-#[derive(Drop)]
+#[derive(Clone, Copy)]
 pub enum Pick {
     At(usize),
     Nothing,

@@ -1,4 +1,6 @@
 // Whether some cell of an operand lies outside those that are lent, told exactly from its least and its greatest offset. Rows 17 and 22 ask it.
+#![tactic(auto)]
+
 ghost use Rattle.std.specs.Prelude.{◌≡◌, ◌-◌, ◌*◌, ◌^◌, ◌<◌, nat_abs};
 ghost use Rattle.strided.specs.Layout.{reach_down};
 ghost use Rattle.span.specs.Span.{outside, Spans};

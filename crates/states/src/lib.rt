@@ -1,4 +1,6 @@
 // A walk's beginning (rows 1, 2, 5, 6, 8, 9), and the test for row 10: whether a begun walk of the plan reaches a state.
+#![tactic(auto)]
+
 ghost use Rattle.std.specs.Prelude.{◌≡◌, ◌≤◌, [], length, take, pos};
 ghost use Rattle.std.proofs.Math.Option.{some};
 ghost use Rattle.strided.specs.Base.{padded};

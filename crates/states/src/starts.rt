@@ -47,7 +47,7 @@ fn way_along(extent: u64, stride: i64) -> u64
 }
 
 // How far apart an operand's offsets lie, and how far below the one at the counters.
-#[derive(Drop)]
+#[derive(Clone, Copy)]
 pub struct Span {
     pub reach: u64,
     pub below: u64,

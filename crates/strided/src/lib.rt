@@ -1,5 +1,7 @@
 // The values that the planner's entries take and hand out, and their limits. This crate has no function: what each value means and what
 // each entry answers is said in specs/, a file for each section of document 01.
+#![tactic(auto)]
+
 
 // "Rank is 0 to 64", "1 to 8 operands".
 pub const MAX_RANK: usize = 64;
@@ -7,7 +9,7 @@ pub const MAX_RANK: usize = 64;
 pub const MAX_OPERANDS: usize = 8;
 
 // What a plan is for: pointwise with no chosen operand, pointwise into the chosen destination, or a fold ordered by the chosen operand.
-#[derive(Drop)]
+#[derive(Clone, Copy)]
 pub enum Purpose {
     Pointwise,
     PointwiseInto(u64),
@@ -16,7 +18,7 @@ pub enum Purpose {
 
 // The machine that a plan is made for: the bytes of a cache line and of the cache, the bytes of a way of the L1 cache, and the lines of a
 // set that may be live. specs/Machine says which are allowed.
-#[derive(Drop)]
+#[derive(Clone, Copy)]
 pub struct Machine {
     pub line: u64,
     pub cache: u64,
@@ -25,7 +27,7 @@ pub struct Machine {
 }
 
 // The rows of the refusal table, 1 to 24 in this order but for 7, which is given no longer. specs/Refusals has their numbers.
-#[derive(Drop)]
+#[derive(Clone, Copy)]
 pub enum Refusal {
     Rank,
     Operands,
@@ -53,7 +55,7 @@ pub enum Refusal {
 }
 
 // What an entry answers, beside its value. On a refusal every number of the value is 0.
-#[derive(Drop)]
+#[derive(Clone, Copy)]
 pub enum Answer {
     Served,
     Refused(Refusal),
@@ -61,7 +63,7 @@ pub enum Answer {
 
 // Operand k's stride on axis i stands at k * 64 + i. Places behind the counts are 0 in a plan handed out, and are not looked at in one
 // handed in.
-#[derive(Drop)]
+#[derive(Clone, Copy)]
 pub struct Plan {
     pub rank: usize,
     pub operands: usize,
@@ -70,14 +72,14 @@ pub struct Plan {
     pub strides: [i64; 512],
 }
 
-#[derive(Drop)]
+#[derive(Clone, Copy)]
 pub struct Planned {
     pub answer: Answer,
     pub plan: Plan,
 }
 
 // An original index or a plan index: the first `count` places.
-#[derive(Drop)]
+#[derive(Clone, Copy)]
 pub struct Told {
     pub answer: Answer,
     pub count: usize,
@@ -85,21 +87,21 @@ pub struct Told {
 }
 
 // Where the next block starts; or the walk has ended, with counters 0 and every offset at its start.
-#[derive(Drop)]
+#[derive(Clone, Copy)]
 pub struct Walk {
     pub ended: bool,
     pub counters: [u64; 64],
     pub offsets: [i64; 8],
 }
 
-#[derive(Drop)]
+#[derive(Clone, Copy)]
 pub struct Begun {
     pub answer: Answer,
     pub walk: Walk,
 }
 
 // What a step answers. The refusal has another name than Answer's, since one file cannot import two constructors of one name.
-#[derive(Drop)]
+#[derive(Clone, Copy)]
 pub enum Outcome {
     Block,
     Ended,
@@ -108,7 +110,7 @@ pub enum Outcome {
 
 // A block: the plan index of its first cell, its length, and for each operand the first offset and the stride of axis 0. `walk` is the
 // state to hand to the next step.
-#[derive(Drop)]
+#[derive(Clone, Copy)]
 pub struct Stepped {
     pub answer: Outcome,
     pub counters: [u64; 64],
@@ -120,7 +122,7 @@ pub struct Stepped {
 
 // What many steps in one call answer: what one step would, how many blocks were written to the lent slices, and the state to hand to the
 // next call.
-#[derive(Drop)]
+#[derive(Clone, Copy)]
 pub struct Several {
     pub answer: Outcome,
     pub count: usize,
@@ -128,14 +130,14 @@ pub struct Several {
 }
 
 // The repeat mark of an operand: no two indices share an offset, two do, or it is not decided.
-#[derive(Drop)]
+#[derive(Clone, Copy)]
 pub enum Mark {
     No,
     Yes,
     Undecided,
 }
 
-#[derive(Drop)]
+#[derive(Clone, Copy)]
 pub struct Marked {
     pub answer: Answer,
     pub mark: Mark,

@@ -4,7 +4,7 @@ ghost use Rattle.std.specs.Float.Ieee.{is_nan};
 ghost use Rattle.summary.specs.Sums.{nothing_met, lesser, greater, with_cell};
 
 // `count` cells, of which `nans` are not a number. Without `extremes` least and greatest are +0.0.
-#[derive(Drop)]
+#[derive(Clone, Copy)]
 pub struct Summary {
     pub sum: f64,
     pub least: f64,

@@ -1,5 +1,7 @@
 // SUMS FOR THE JOURNALS: sum, least, greatest and counts of an operand's f64 cells, in the order of its F plan. It is checked, planned once and
 // walked on arrays; a refusal has the summary of no cell beside it.
+#![tactic(auto)]
+
 ghost use Rattle.std.specs.Prelude.{◌≡◌};
 ghost use Rattle.std.proofs.Math.Option.{none, some};
 ghost use Rattle.strided.specs.Refusals.{planning_refused};
@@ -25,7 +27,7 @@ pub use cell::Summary;
 pub const CELL_SIZE: u64 = 8;
 
 // A refusal has the summary of no cell beside it.
-#[derive(Drop)]
+#[derive(Clone, Copy)]
 pub struct Summarized {
     pub answer: Answer,
     pub summary: Summary,

@@ -51,7 +51,7 @@ const GROUP: u64 = 8;
 const SINGLE: u64 = 64;
 
 // A group of cells: what the sum is with them, whether there are extremes and each cell lies between them, and the last one's offset.
-#[derive(Drop)]
+#[derive(Clone, Copy)]
 struct Group {
     sum: f64,
     quiet: bool,
@@ -83,7 +83,7 @@ fn group_behind(s: Summary, cells: &[f64], last: i64, stride: i64) -> Group
 }
 
 // Cells of a run that are met: how many, what they make of the summary, and the last one's offset.
-#[derive(Drop)]
+#[derive(Clone, Copy)]
 struct Part {
     summary: Summary,
     met: u64,

@@ -1,5 +1,7 @@
 // THE TEXT ENTRY: a layout as text goes in, the lines of its plan and of its blocks come out. A text is read, judged and planned before a
 // byte is written, and its output is measured first, so that a refusal leaves every lent byte as it was.
+#![tactic(auto)]
+
 ghost use Rattle.std.specs.Prelude.{◌≡◌};
 ghost use Rattle.std.proofs.Math.Option.{none};
 ghost use Rattle.strided.specs.Refusals.{layout_refused};

@@ -1,4 +1,6 @@
 // Two readers of a block: a visit is a step with its record, from which an engineer's view and a student's are taken.
+#![tactic(auto)]
+
 ghost use Rattle.std.specs.Prelude.{◌≡◌};
 ghost use Rattle.std.proofs.Math.Option.{none};
 ghost use Rattle.strided.specs.Refusals.{answered, layout_refused};
@@ -18,7 +20,7 @@ pub mod number;
 pub mod readers;
 
 // The record of a visit: the block's number, the block as a step hands it out, and the original index of its first cell, with its count.
-#[derive(Drop)]
+#[derive(Clone, Copy)]
 pub struct Visit {
     pub number: u64,
     pub counters: [u64; 64],
@@ -30,7 +32,7 @@ pub struct Visit {
 }
 
 // What an engineer sees of it: the block as a step hands it out.
-#[derive(Drop)]
+#[derive(Clone, Copy)]
 pub struct Engineer {
     pub counters: [u64; 64],
     pub length: u64,
@@ -39,7 +41,7 @@ pub struct Engineer {
 }
 
 // What a student sees of it: number, length, and the original index of the first cell. There is no offset, no stride and no counter.
-#[derive(Drop)]
+#[derive(Clone, Copy)]
 pub struct Student {
     pub number: u64,
     pub length: u64,
@@ -48,7 +50,7 @@ pub struct Student {
 }
 
 // What a visit answers: as a step does, with the record, and the state to hand to the next visit.
-#[derive(Drop)]
+#[derive(Clone, Copy)]
 pub struct Visited {
     pub answer: Outcome,
     pub visit: Visit,

@@ -9,7 +9,7 @@ use layout::sizes::least;
 use walk::onward::start_at;
 
 // Of the axes from some axis on: how many indices the tiles before have, how many this tile has, and the place among these.
-#[derive(Drop)]
+#[derive(Clone, Copy)]
 pub struct Tally {
     pub before: u64,
     pub size: u64,

@@ -1,4 +1,6 @@
 // One step of a walk by value, on any plan and any state; and the same on a state that is lent.
+#![tactic(auto)]
+
 ghost use Rattle.std.specs.Prelude.{◌≡◌, false};
 ghost use Rattle.strided.specs.Step.{not_stepped, stepped, left};
 ghost use Rattle.strided.specs.Memory.{plan_of, walk_of};

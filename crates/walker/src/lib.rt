@@ -5,6 +5,8 @@
 // The law to cite is in proofs/Repeated.antt: the stretches one after another, each laid out as its blocks, are the plan's blocks in order,
 // each once, to the end (`stretches-plan`; from any state `stretches-blocks` and `stretches-all`). What a loop over stretches keeps, and
 // what a call makes of it, is in proofs/Walked.antt.
+#![tactic(auto)]
+
 ghost use Rattle.std.specs.Prelude.{◌≡◌, true, false, ℕ, ◌<◌, ◌≤◌, ◌+◌, ◌-◌, ◌*◌, ◌^◌, min, pos, get_or, replicate};
 ghost use Rattle.advance.specs.Axis.{start_of};
 ghost use Rattle.advance.specs.Blocks.{length_of};
@@ -15,7 +17,7 @@ use advance::{advance, carry, go_ahead, inner_axes, length_of, shift};
 
 // The way that the stretches of a walk go, the same all along it: along `axis`, `by` at a time, inside a tile or from tile to tile. `inner`
 // is what `inner_axes` tells.
-#[derive(Drop)]
+#[derive(Clone, Copy)]
 pub struct Way {
     pub rank: usize,
     pub operands: usize,
@@ -26,7 +28,7 @@ pub struct Way {
 }
 
 // A stretch: `count` blocks of `length` cells each. `more` says whether the walk goes on behind it.
-#[derive(Drop)]
+#[derive(Clone, Copy)]
 pub struct Next {
     pub count: u64,
     pub length: u64,
@@ -246,7 +248,7 @@ fn leave<'a>(
 }
 
 // The stretch at the counters to its end: `left` blocks of `length` cells each.
-#[derive(Drop)]
+#[derive(Clone, Copy)]
 pub struct Here {
     pub left: u64,
     pub length: u64,

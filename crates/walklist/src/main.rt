@@ -1,5 +1,7 @@
 // Prints the plan and the blocks of a layout: the layout's text is the file that the argument names, or standard input, and the lines of its
 // plan and its blocks, or the number of its refusal, are printed. A file, a read or a write that fails is told on standard error.
+#![tactic(auto)]
+
 ghost use Rattle.std.specs.Prelude.{◌≡◌, length, replicate};
 ghost use Rattle.strided.specs.Text.{Prints};
 ghost use Rattle.walklist.specs.Asking.{Asks};
@@ -16,7 +18,7 @@ const TEXT: usize = 16385;
 const ROOM: usize = 65536;
 
 // How many bytes were read, or that a read failed.
-#[derive(Drop)]
+#[derive(Clone, Copy)]
 enum Input {
     Bytes(usize),
     Failed,

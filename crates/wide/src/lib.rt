@@ -1,9 +1,11 @@
 // Numbers of two 64-bit words, for what a product of two words can be: byte strides of wide records.
+#![tactic(auto)]
+
 ghost use Rattle.std.specs.Prelude.{◌≡◌, ◌+◌, ◌*◌, ◌%◌, ◌<◌, ◌≤◌, ltb};
 ghost use Rattle.wide.specs.Value.{word, value};
 
 // The number high * 2^64 + low.
-#[derive(Drop)]
+#[derive(Clone, Copy)]
 pub struct Wide {
     pub high: u64,
     pub low: u64,

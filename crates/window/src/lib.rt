@@ -1,5 +1,7 @@
 // Windows of a layout: per axis a first index, a count and a signed step that is not 0. A window is a layout of its own, with the same
 // operands, and a shift of each operand's start.
+#![tactic(auto)]
+
 ghost use Rattle.std.specs.Prelude.{◌≡◌, ◌≤◌, length, replicate};
 ghost use Rattle.strided.specs.Base.{padded};
 ghost use Rattle.strided.specs.Refusals.{answered};
@@ -20,7 +22,7 @@ pub mod strides;
 
 // The window's layout: its extents, and its strides one after the other with `rank` of them for each operand, as a layout has them. Places
 // behind the counts are 0. `shifts` is to be added to the starts, one for each operand.
-#[derive(Drop)]
+#[derive(Clone, Copy)]
 pub struct Windowed {
     pub answer: Answer,
     pub rank: usize,

@@ -17,7 +17,7 @@ use strided::Refusal;
 use walker::{ALL, moves_of, take_stretch, way_of};
 
 // A text's length, or that it is more than the limit.
-#[derive(Drop)]
+#[derive(Clone, Copy)]
 pub enum Measured {
     Fits(usize),
     More,
