@@ -57,4 +57,4 @@ summed_end es ts sum i h s =
 
 -- an element of a list of signed numbers, read back from its local's bits
 pub elem_read : (l : List ℤ) (i : ℕ) → mag (get_or l i (pos 0)) < 2 ^ 63 → to_z w64 (of_z w64 (get_or l i (pos 0))) ≡ get_or l i (pos 0)
-elem_read l i h = to_z-of_z (record { sfits = h })
+elem_read l i h = to_z-of_z {w = w64} (record { sfits = h })
