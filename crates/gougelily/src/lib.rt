@@ -3,7 +3,6 @@
 // is as it was.
 #![tactic(auto)]
 
-
 pub mod checks;
 pub mod codes;
 pub mod copying;

@@ -2,7 +2,6 @@
 // each entry answers is said in specs/, a file for each section of document 01.
 #![tactic(auto)]
 
-
 // "Rank is 0 to 64", "1 to 8 operands".
 pub const MAX_RANK: usize = 64;
 

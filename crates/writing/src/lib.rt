@@ -2,7 +2,6 @@
 // what was measured is what is written.
 #![tactic(auto)]
 
-
 pub mod line;
 pub mod number;
 pub mod plan;

@@ -1,0 +1,13 @@
+-- `advance::goal_of` meets its contract. Assumes nothing.
+use Rattle.advance.specs.Axis.{goal_of}
+use mathlib.Core.Path.{◌∙◌}
+use borrow.Author.Rules.{rules}
+use Rattle.advance.proofs.goal_of.Goals as goal
+
+pub returns-then-inside : goal.returns-then-inside
+unfolding goal_of
+returns-then-inside c = c.inside_goal.ensures ∙ simp c.if-inside.true
+
+pub returns : goal.returns
+unfolding goal_of
+returns c = c.tile_goal.ensures ∙ simp c.if-inside.false

@@ -1,0 +1,12 @@
+-- The invariants of `inner_axes`.
+use Rattle.advance.proofs.Turns.{single-all, single_more}
+use Rattle.advance.specs.Carry.{Single}
+use native.Mathlib.Omega.{arith}
+use borrow.Author.Rules.{rules}
+use Rattle.advance.proofs.inner_axes.Given as goal
+
+abbrev pub invariant-loop-n : goal.invariant-loop-n
+invariant-loop-n l = Single l.n l.rank l.w
+
+abbrev pub decreases-loop-n : goal.decreases-loop-n
+decreases-loop-n l = l.n

@@ -1,0 +1,54 @@
+-- `advance::shift` meets its contract. Assumes nothing.
+use borrow.Author.Rules.{rules, sfits_of}
+use native.Mathlib.Omega.{arith}
+use mathlib.Core.Path.{◌≡◌, sym, ap, ◌∙◌, subst}
+use native.Mathlib.Nat.{le_refl, le_antisymm}
+use lib.IntN.{ℤ, pos}
+use lib.ListN.{get_or}
+use mathlib.Core.List.{List}
+use mir.Facts.{to_z-of_z}
+use Rattle.advance.proofs.Signed.{moves_read, after_read}
+use Rattle.advance.proofs.Dot.{unmoved_at}
+use Rattle.advance.specs.Filled.{filled_none, filled_more, filled_above}
+use Prim.Native.Nat.{ℕ, zero-le, ◌≤◌, ◌+◌, ◌*◌, ◌-◌}
+use Rattle.advance.specs.Moves.{shifted, moved_at, after_move, Moves}
+use Rattle.advance.proofs.shift.Goals as goal
+use mir.Syntax.{w64}
+
+-- src/lib.rt:30:5
+pub returns-then-from-to : goal.returns-then-from-to
+returns-then-from-to c =
+    let a = c.args in
+    unmoved_at a.operands a.axis a.from a.to a.s.now a.o.now (subst (λ (n : ℕ). a.operands ≤ n) (sym c.requires.offered) c.requires.few) c.if-from-to.true
+
+pub loop-k-init : goal.loop-k-init
+loop-k-init c = (zero-le, filled_none _ _)
+
+-- src/lib.rt:33:13
+pub moved-c-requires : goal.moved-c-requires
+moved-c-requires c =
+    let a = c.args in
+    let k = c.loop-k.k in
+    moves_read _ _ _ _ (sfits_of c.a-1.given) (sfits_of c.b-1.given)
+    (subst (λ (z : ℤ). Moves z (get_or a.s.now (k * 64 + a.axis) (pos 0)) a.from a.to)
+    (sym (ap (λ (l : List ℤ). get_or l k (pos 0)) c.loop-k.invariant.1 ∙ filled_above a.o.now (moved_at a.axis a.from a.to a.s.now a.o.now) (pos 0) k k (le_refl k)))
+    (c.requires.each k c.loop-k-test.true))
+
+-- src/lib.rt:30:5
+pub loop-k-preserved : goal.loop-k-preserved
+loop-k-preserved c =
+    let a = c.args in
+    let k = c.loop-k.k in
+    let e = c.loop-k.invariant.1 in (
+      omega arith,
+      filled_more a.o.now (moved_at a.axis a.from a.to a.s.now a.o.now) k _ _ e
+          (to_z-of_z {w = w64} (sfits_of c.moved-c.type_inv) ∙ c.moved-c.ensures ∙ after_read _ _ _ _ (sfits_of c.a-1.given) (sfits_of c.b-1.given)
+          ∙ ap (λ (z : ℤ). after_move z (get_or a.s.now (k * 64 + a.axis) (pos 0)) a.from a.to)
+          (ap (λ (l : List ℤ). get_or l k (pos 0)) e ∙ filled_above a.o.now (moved_at a.axis a.from a.to a.s.now a.o.now) (pos 0) k k (le_refl k))),
+    )
+
+-- src/lib.rt:25:1
+pub returns : goal.returns
+returns c =
+    let a = c.args in
+    c.loop-k.invariant.1 ∙ ap (λ (n : ℕ). shifted n a.axis a.from a.to a.s.now a.o.now) (le_antisymm c.loop-k.invariant.0 c.loop-k-test.false)

@@ -1,0 +1,17 @@
+-- `advance::width_of` meets its contract. Assumes nothing.
+use Rattle.advance.specs.Axis.{width_of}
+use mathlib.Core.Logic.{⊎_elim}
+use borrow.Author.Tests.{le-leb, lt-leb, eq-eqb, ne_eqb}
+use mathlib.Core.Path.{◌∙◌}
+use borrow.Author.Rules.{rules}
+use Rattle.advance.proofs.width_of.Goals as goal
+
+pub returns-then-axis-ne0 : goal.returns-then-axis-ne0
+unfolding width_of
+returns-then-axis-ne0 c = simp (lt-leb _ _ c.if-rank-gt8.true, ne_eqb _ _ c.if-axis-ne0.true)
+
+pub returns : goal.returns
+unfolding width_of
+returns c =
+    c.effective.ensures
+    ∙ ⊎_elim (λ u. simp (lt-leb _ _ u.0.taken, eq-eqb _ _ u.1.left)) (λ u. simp (le-leb _ _ u.left)) c.if-rank-gt8.branch

@@ -1,0 +1,41 @@
+-- `arrange::pick_into` meets its contract. The invariant: the first j elements are picked, and those behind
+-- them stand as they stood. Assumes nothing.
+use mathlib.Core.Path.{◌≡◌, sym, ap, ◌∙◌}
+use mathlib.Core.List.{List, ◌++◌}
+use Prim.Native.Nat.{ℕ, ◌-◌, ◌≤◌}
+use native.Mathlib.Omega.{arith}
+use lib.ListN.{length, get_or, take, drop, set}
+use lib.Seq.{length-take-le}
+use Rattle.strided.specs.Base.{padded}
+use Rattle.strided.specs.Order.{pick}
+use Rattle.laws.specs.Base.Arrays.{blank-ℕ, padded-take}
+use Rattle.arrange.proofs.Turns.{picked_turn, picked-over}
+use Rattle.arrange.proofs.pick_into.Goals as goal
+
+pub loop-j-init : goal.loop-j-init
+loop-j-init c =
+    let p = c.requires.out in
+    (omega arith, sym (padded-take blank-ℕ 64 c.args.count c.args.out.now p.0 p.1))
+
+pub offset_bounds-xs-a : goal.offset_bounds-xs-a
+offset_bounds-xs-a c =
+    omega (arith, c.requires.inside c.loop-j.j c.loop-j-test.true)
+
+pub bounds-xs-a : goal.bounds-xs-a
+bounds-xs-a c = c.requires.inside c.loop-j.j c.loop-j-test.true
+
+pub loop-j-preserved : goal.loop-j-preserved
+loop-j-preserved c =
+    -- what stood in the places that are counted
+    let stood : length (take c.args.count c.args.out.now) ≡ c.args.count = length-take-le c.args.count c.args.out.now (omega (arith, c.requires.order.1, c.requires.out.0)) in
+    let p = c.requires.order in (
+      omega (arith, c.loop-j-test),
+      ap (λ (r : List ℕ). set r c.loop-j.j (get_or c.args.xs.now (get_or c.args.order.now c.loop-j.j 0) 0)) c.loop-j.invariant.1
+          ∙ picked_turn c.args.order.now c.args.count p.0 p.1 0 c.args.xs.now (take c.args.count c.args.out.now) c.loop-j.j stood c.loop-j-test.true,
+    )
+
+pub returns : goal.returns
+returns c =
+    let stood : length (take c.args.count c.args.out.now) ≡ c.args.count = length-take-le c.args.count c.args.out.now (omega (arith, c.requires.order.1, c.requires.out.0)) in
+    c.loop-j.invariant.1
+    ∙ ap (padded 64 0) (picked-over c.args.order.now c.args.count c.requires.order.0 c.requires.order.1 0 c.args.xs.now (take c.args.count c.args.out.now) c.loop-j.j stood c.loop-j-test.false)

@@ -1,0 +1,40 @@
+-- `block::keeps_first` meets its contract. The invariant: the first rank of each operand before k is the least one.
+-- Assumes nothing.
+use native.Mathlib.Omega.{arith}
+use mathlib.Core.Path.{◌≡◌, sym, ap, ◌∙◌}
+use mathlib.Core.Bool.{Bool, true}
+use mathlib.Core.List.{List}
+use Prim.Native.Nat.{ℕ, ◌-◌, ◌≤◌}
+use lib.Dec.{eqb}
+use borrow.Author.Tests.{eq-eqb, ne_eqb}
+use Rattle.strided.specs.Base.{every}
+use Rattle.strided.specs.Cut.{rank_at, keeps_first}
+use Rattle.laws.specs.Cut.Ranges.{every_none, every_more, every_fails_at}
+use Rattle.block.proofs.keeps_first.Goals as goal
+use Rattle.block.proofs.keeps_first.Invariants.{firstIs}
+
+pub loop-k-init : goal.loop-k-init
+loop-k-init c = (omega arith, every_none _)
+
+pub returns-then-table-k : goal.returns-then-table-k
+unfolding keeps_first
+returns-then-table-k c = let a = c.args in
+    let l = c.loop-k in
+    let q = c.least_rank-m in
+    sym (ap (λ (m : ℕ). every (firstIs a.table.now a.tail.offset m) 0 a.tail.operands) (sym q.ensures)
+    ∙ every_fails_at (firstIs a.table.now a.tail.offset q.result) 0 l.k a.tail.operands (omega arith) (omega arith) (ne_eqb _ _ c.if-table-k.true))
+
+pub loop-k-preserved : goal.loop-k-preserved
+loop-k-preserved c = let a = c.args in
+    let l = c.loop-k in
+    let m : ℕ = c.least_rank-m.result in
+    (omega arith, every_more (firstIs a.table.now a.tail.offset m) l.k (eq-eqb _ _ c.if-table-k.false) ∙ l.invariant.1)
+
+pub returns : goal.returns
+unfolding keeps_first
+returns c = let a = c.args in
+    let l = c.loop-k in
+    let q = c.least_rank-m in
+    let e : l.k ≡ a.tail.operands = omega arith in
+    sym (ap (λ (m : ℕ). every (firstIs a.table.now a.tail.offset m) 0 a.tail.operands) (sym q.ensures)
+    ∙ ap (every (firstIs a.table.now a.tail.offset q.result) 0) (sym e) ∙ l.invariant.1)

@@ -1,0 +1,29 @@
+-- `block::least_byte` meets its contract. The invariant: m is the least byte stride of the operands before k; there is one, operand 0.
+-- Assumes nothing.
+use native.Mathlib.Omega.{arith}
+use mathlib.Core.Path.{◌≡◌, sym, ap, ◌∙◌}
+use mathlib.Core.List.{List}
+use mathlib.Core.Logic.{⊎_elim}
+use Prim.Native.Nat.{ℕ, ◌-◌, ◌≤◌, ◌<◌}
+use Rattle.strided.specs.Base.{least}
+use Rattle.strided.specs.Region.{byte_at}
+use Rattle.strided.specs.Cut.{least_byte}
+use Rattle.laws.specs.Cut.Ranges.{least_first, least_more}
+use Rattle.block.proofs.least_byte.Goals as goal
+use Rattle.block.proofs.least_byte.Invariants.{leastOf}
+
+pub loop-k-init : goal.loop-k-init
+loop-k-init c = (omega arith, omega arith, c.least_byte_at-m.ensures ∙ sym (least_first _))
+
+pub loop-k-preserved : goal.loop-k-preserved
+loop-k-preserved c = let a = c.args in
+    let l = c.loop-k in
+    let st = least_more (leastOf a.bytes.now a.tail.offset a.tail.rank) l.k l.invariant.0 in
+    ⊎_elim (λ w. omega (arith, c.least_byte_at-x.ensures)) (λ w. omega (arith, c.least_byte_at-x.ensures)) c.if-x-m.branch
+
+pub returns : goal.returns
+unfolding least_byte
+returns c = let a = c.args in
+    let l = c.loop-k in
+    let e : l.k ≡ a.tail.operands = omega arith in
+    l.invariant.2 ∙ ap (least (leastOf a.bytes.now a.tail.offset a.tail.rank) 0) e

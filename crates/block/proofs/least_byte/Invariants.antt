@@ -1,0 +1,21 @@
+-- The invariants of `least_byte`.
+use native.Mathlib.Omega.{arith}
+use mathlib.Core.Path.{◌≡◌, sym, ap, ◌∙◌}
+use mathlib.Core.List.{List}
+use mathlib.Core.Logic.{⊎_elim}
+use Prim.Native.Nat.{ℕ, ◌-◌, ◌≤◌, ◌<◌}
+use Rattle.strided.specs.Base.{least}
+use Rattle.strided.specs.Region.{byte_at}
+use Rattle.strided.specs.Cut.{least_byte}
+use Rattle.laws.specs.Cut.Ranges.{least_first, least_more}
+use Rattle.block.proofs.least_byte.Given as goal
+
+-- the least byte stride of operand j in the tail
+abbrev pub leastOf : List ℕ → ℕ → ℕ → ℕ → ℕ
+leastOf bytes offset rank j = least (byte_at bytes j) offset (rank - offset)
+
+abbrev pub invariant-loop-k : goal.invariant-loop-k
+invariant-loop-k l = (0 < l.k) × (l.k ≤ l.tail.operands) × (l.m ≡ least (leastOf l.bytes l.tail.offset l.tail.rank) 0 l.k)
+
+abbrev pub decreases-loop-k : goal.decreases-loop-k
+decreases-loop-k l = l.tail.operands - l.k

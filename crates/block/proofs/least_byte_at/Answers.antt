@@ -1,0 +1,25 @@
+-- `block::least_byte_at` meets its contract. The invariant: m is the least byte stride of the axes before i; there is one, the first.
+-- Assumes nothing.
+use native.Mathlib.Omega.{arith}
+use mathlib.Core.Path.{◌≡◌, sym, ap, ◌∙◌}
+use mathlib.Core.Logic.{⊎_elim}
+use Prim.Native.Nat.{ℕ, ◌-◌, ◌≤◌, ◌<◌}
+use Rattle.strided.specs.Base.{least}
+use Rattle.strided.specs.Region.{byte_at}
+use Rattle.laws.specs.Cut.Ranges.{least-one, least_step}
+use Rattle.block.proofs.least_byte_at.Goals as goal
+
+pub loop-i-init : goal.loop-i-init
+loop-i-init c = (omega arith, omega arith, sym (least-one _ _))
+
+pub loop-i-preserved : goal.loop-i-preserved
+loop-i-preserved c = let a = c.args in
+    let l = c.loop-i in
+    let st = least_step (byte_at a.bytes.now a.k) a.tail.offset l.i l.invariant.0 in
+    ⊎_elim (λ w. omega arith) (λ w. omega arith) c.if-x-m.branch
+
+pub returns : goal.returns
+returns c = let a = c.args in
+    let l = c.loop-i in
+    let e : l.i ≡ a.tail.rank = omega arith in
+    l.invariant.2 ∙ ap (λ (i : ℕ). least (byte_at a.bytes.now a.k) a.tail.offset (i - a.tail.offset)) e

@@ -1,0 +1,15 @@
+-- The invariants of `least_byte_at`.
+use native.Mathlib.Omega.{arith}
+use mathlib.Core.Path.{◌≡◌, sym, ap, ◌∙◌}
+use mathlib.Core.Logic.{⊎_elim}
+use Prim.Native.Nat.{ℕ, ◌-◌, ◌≤◌, ◌<◌}
+use Rattle.strided.specs.Base.{least}
+use Rattle.strided.specs.Region.{byte_at}
+use Rattle.laws.specs.Cut.Ranges.{least-one, least_step}
+use Rattle.block.proofs.least_byte_at.Given as goal
+
+abbrev pub invariant-loop-i : goal.invariant-loop-i
+invariant-loop-i l = (l.tail.offset < l.i) × (l.i ≤ l.tail.rank) × (l.m ≡ least (byte_at l.bytes l.k) l.tail.offset (l.i - l.tail.offset))
+
+abbrev pub decreases-loop-i : goal.decreases-loop-i
+decreases-loop-i l = l.tail.rank - l.i

@@ -1,0 +1,20 @@
+-- The invariants of `least_rank`.
+use native.Mathlib.Omega.{arith}
+use mathlib.Core.Path.{◌≡◌, sym, ap, ◌∙◌}
+use mathlib.Core.List.{List}
+use mathlib.Core.Logic.{⊎_elim}
+use Prim.Native.Nat.{ℕ, ◌-◌, ◌≤◌, ◌<◌}
+use Rattle.strided.specs.Base.{least}
+use Rattle.strided.specs.Cut.{rank_at, least_rank}
+use Rattle.laws.specs.Cut.Ranges.{least_first, least_more}
+use Rattle.block.proofs.least_rank.Given as goal
+
+-- the least rank of operand j in the tail
+abbrev pub leastOf : List (List ℕ) → ℕ → ℕ → ℕ → ℕ
+leastOf ranks offset rank j = least (rank_at ranks j) offset (rank - offset)
+
+abbrev pub invariant-loop-k : goal.invariant-loop-k
+invariant-loop-k l = (0 < l.k) × (l.k ≤ l.tail.operands) × (l.m ≡ least (leastOf l.table l.tail.offset l.tail.rank) 0 l.k)
+
+abbrev pub decreases-loop-k : goal.decreases-loop-k
+decreases-loop-k l = l.tail.operands - l.k

@@ -1,0 +1,18 @@
+-- The invariants of `put_rows`.
+use Rattle.bulk.proofs.Laying.{rows_none, rows_as_long, rows-room, rows_next, row_fits}
+use Rattle.bulk.specs.Blocks.{rows_for}
+use borrow.Author.Rules.{rules}
+use native.Mathlib.Nat.{le_antisymm}
+use native.Mathlib.Omega.{arith}
+use mathlib.Core.Path.{◌≡◌, refl, ap, ◌∙◌}
+use Prim.Native.Nat.{ℕ, ◌+◌, ◌-◌, ◌*◌, ◌≤◌, ◌<◌}
+use lib.ListN.{length}
+use lib.Seq.{paste}
+use Rattle.bulk.proofs.put_rows.Given as goal
+
+abbrev pub invariant-loop-j : goal.invariant-loop-j
+invariant-loop-j l =
+    (l.j ≤ l.count) × (length l.offsets ≡ length l.initial.offsets) × (l.offsets ≡ paste l.initial.offsets (l.at * l.operands) (rows_for l.j l.operands l.d l.o) (l.j * l.operands))
+
+abbrev pub decreases-loop-j : goal.decreases-loop-j
+decreases-loop-j l = l.count - l.j

@@ -1,0 +1,68 @@
+-- `cells::copy_patch` meets its contract. Assumes nothing.
+use mathlib.Core.Path.{◌≡◌, sym, ap, ◌∙◌}
+use Prim.Native.Nat.{ℕ, ◌^◌, ◌≤◌, ◌<◌}
+use native.Mathlib.Omega.{arith}
+use lib.IntN.{ℤ, pos, neg_ℤ}
+use lib.ListN.{length}
+use mir.Syntax.{w64}
+use mir.Val.{SFits, to_z, of_z}
+use mir.Facts.{to_z-of_z}
+use Rattle.cells.specs.Reaching.{PatchIn}
+use Rattle.cells.proofs.Lying.{lies_in, no_cell, no_run}
+use borrow.Author.Rules.{rules}
+use Rattle.cells.proofs.copy_patch.Goals as goal
+
+pub returns-then-n0-eq0 : goal.returns-then-n0-eq0
+returns-then-n0-eq0 c = let a = c.args in no_cell a.width a.n0 a.n1 a.to a.from a.destination.now a.source.now c.if-n0-eq0.true
+
+pub returns-then-n1-eq0 : goal.returns-then-n1-eq0
+returns-then-n1-eq0 c = let a = c.args in no_run a.width a.n0 a.n1 a.to a.from a.destination.now a.source.now c.if-n1-eq0.true
+
+pub copy_packed-requires : goal.copy_packed-requires
+copy_packed-requires c =
+    -- both sides reach their cells
+    let to_in : PatchIn c.args.width (length c.args.destination.now) c.args.n0 c.args.n1 c.args.to = let a = c.args in
+    let g = c.well_formed.0.1 in
+    lies_in a.width (length a.destination.now) a.n0 a.n1 a.to c.requires.lies (omega (arith, g)) c.requires.n0_bound.0 c.requires.n0_bound.1 in
+    let from_in : PatchIn c.args.width (length c.args.source.now) c.args.n0 c.args.n1 c.args.from = let a = c.args in
+    let g = c.well_formed.1.0.1 in
+    lies_in a.width (length a.source.now) a.n0 a.n1 a.from c.requires.lies_2 (omega (arith, g)) c.requires.n0_bound.0 c.requires.n0_bound.1 in
+    let e : tie.Else2 = c in
+    let s = c e in
+    let a = s.args in
+    let f : SFits w64 a.to.step0 = search rules in
+    let g : SFits w64 a.from.step0 = search rules in
+    let p : to_z w64 (of_z w64 a.to.step0) ≡ pos a.width = (c.both_step.ensures c.if-both_step.true).0 in
+    let q : to_z w64 (of_z w64 a.from.step0) ≡ pos a.width = (c.both_step.ensures c.if-both_step.true).1 in record { n0_nonzero = (omega arith, omega arith, sym (to_z-of_z {w = w64} f) ∙ p, sym (to_z-of_z {w = w64} g) ∙ q); patch_in = to_in s; patch_in_2 = from_in s }
+
+pub copy_down-requires : goal.copy_down-requires
+copy_down-requires c =
+    let g3 : tie.Else3 = c in
+    let s = c g3.before.before.before.before in
+    let a = s.args in
+    let f : SFits w64 a.to.step0 = search rules in
+    let g : SFits w64 a.from.step0 = search rules in
+    let p : to_z w64 (of_z w64 a.to.step0) ≡ neg_ℤ (pos a.width) = (c.both_down.ensures c.if-both_down.true).0 in
+    let q : to_z w64 (of_z w64 a.from.step0) ≡ neg_ℤ (pos a.width) = (c.both_down.ensures c.if-both_down.true).1 in record { n0_nonzero = (omega arith, omega arith, sym (to_z-of_z {w = w64} f) ∙ p, sym (to_z-of_z {w = w64} g) ∙ q); width_bound = (s.pre.0.1, s.pre.1.0.0, s.pre.1.0.1); lies = s.pre.1.1.0; lies_2 = s.pre.1.1.1.0; apart = s.pre.1.1.1.1 }
+
+pub copy_fours_by_width-requires : goal.copy_fours_by_width-requires
+copy_fours_by_width-requires c =
+    let to_in : PatchIn c.args.width (length c.args.destination.now) c.args.n0 c.args.n1 c.args.to = let a = c.args in
+    let g = c.well_formed.0.1 in
+    lies_in a.width (length a.destination.now) a.n0 a.n1 a.to c.requires.lies (omega (arith, g)) c.requires.n0_bound.0 c.requires.n0_bound.1 in
+    let from_in : PatchIn c.args.width (length c.args.source.now) c.args.n0 c.args.n1 c.args.from = let a = c.args in
+    let g = c.well_formed.1.0.1 in
+    lies_in a.width (length a.source.now) a.n0 a.n1 a.from c.requires.lies_2 (omega (arith, g)) c.requires.n0_bound.0 c.requires.n0_bound.1 in
+    let e : tie.Else4 = c in
+    let s = c e in record { width_bound = s.pre.0.1; patch_in = to_in s; patch_in_2 = from_in s; apart = s.pre.1.1.1.1 }
+
+pub copy_runs_by_width-requires : goal.copy_runs_by_width-requires
+copy_runs_by_width-requires c =
+    let to_in : PatchIn c.args.width (length c.args.destination.now) c.args.n0 c.args.n1 c.args.to = let a = c.args in
+    let g = c.well_formed.0.1 in
+    lies_in a.width (length a.destination.now) a.n0 a.n1 a.to c.requires.lies (omega (arith, g)) c.requires.n0_bound.0 c.requires.n0_bound.1 in
+    let from_in : PatchIn c.args.width (length c.args.source.now) c.args.n0 c.args.n1 c.args.from = let a = c.args in
+    let g = c.well_formed.1.0.1 in
+    lies_in a.width (length a.source.now) a.n0 a.n1 a.from c.requires.lies_2 (omega (arith, g)) c.requires.n0_bound.0 c.requires.n0_bound.1 in
+    let e : tie.Else4 = c in
+    let s = c e in record { width_bound = s.pre.0.1; patch_in = to_in s; patch_in_2 = from_in s }

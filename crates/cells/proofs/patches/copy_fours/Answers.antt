@@ -1,0 +1,63 @@
+-- `cells::patches::copy_fours` meets its contract. Assumes nothing.
+use mathlib.Core.Path.{◌≡◌, refl, sym, ap, ◌∙◌, subst}
+use mathlib.Core.List.{List}
+use Prim.Native.Nat.{ℕ, ◌+◌, ◌-◌, ◌≤◌, ◌<◌}
+use native.Mathlib.Omega.{arith}
+use lib.ListN.{length}
+use Rattle.cells.specs.Copy.{copied}
+use Rattle.cells.specs.Meaning.{copied-length}
+use Rattle.cells.specs.Patch.{run_cells, patch_cells}
+use Rattle.cells.specs.Reaching.{RunIn, RunsIn, runs_from}
+use Rattle.cells.proofs.Running.{run_more}
+use Rattle.cells.proofs.Patching.{patch-run, patch_runs, patch_start, runs_more, runs_apart}
+use Rattle.cells.proofs.patches.copy_fours.Goals as goal
+
+pub loop-j-init : goal.loop-j-init
+loop-j-init c = (omega arith, refl, patch_start _ _ _ _ _ _)
+
+pub copy_four-requires : goal.copy_four-requires
+copy_four-requires c =
+    let a = c.args in
+    let j : ℕ = c.loop-j.j in
+    let h : j + 4 ≤ a.n1 = omega arith in record { width_bound = (c.requires.width_bound, omega arith); runs_in = subst (λ (len : ℕ). RunsIn a.width len a.n0 j 4 a.to) (sym c.loop-j.invariant.1) (patch_runs _ _ a.n0 a.n1 a.to j 4 c.requires.patch_in h); runs_in_2 = patch_runs _ _ a.n0 a.n1 a.from j 4 c.requires.patch_in_2 h; apart = runs_apart a.n0 a.to a.from a.width a.n1 j 4 h c.requires.apart }
+
+pub loop-j-preserved-then-n1-j-ge4 : goal.loop-j-preserved-then-n1-j-ge4
+loop-j-preserved-then-n1-j-ge4 c =
+    let m = c.copy_four in
+    let a = c.args in
+    let j : ℕ = c.loop-j.j in
+    let e : m.new.destination ≡ copied a.width (runs_from a.n0 j 4 a.to a.from) c.loop-j.destination a.source.now = m.ensures in (
+      omega arith,
+      ap length e ∙ copied-length a.width (runs_from a.n0 j 4 a.to a.from) c.loop-j.destination a.source.now ∙ c.loop-j.invariant.1,
+      e
+          ∙ ap (λ (xs : List ℕ). copied a.width (runs_from a.n0 j 4 a.to a.from) xs a.source.now) c.loop-j.invariant.2
+          ∙ runs_more a.n0 a.to a.from a.width a.destination.now a.source.now j 4,
+    )
+
+pub copy_run-requires : goal.copy_run-requires
+copy_run-requires c =
+    let a = c.args in
+    let j : ℕ = c.loop-j.j in
+    let h : j < a.n1 = omega arith in record { width_bound = c.requires.width_bound; run_in = subst (λ (len : ℕ). RunIn a.width len a.n0 j a.to) (sym c.loop-j.invariant.1) (patch-run _ _ a.n0 a.n1 a.to j c.requires.patch_in h); run_in_2 = patch-run _ _ a.n0 a.n1 a.from j c.requires.patch_in_2 h }
+
+pub loop-j-preserved : goal.loop-j-preserved
+loop-j-preserved c =
+    let m = c.copy_run in
+    let a = c.args in
+    let j : ℕ = c.loop-j.j in
+    let e : m.new.destination ≡ copied a.width (run_cells a.n0 a.to a.from j) c.loop-j.destination a.source.now = m.ensures in (
+      omega arith,
+      ap length e ∙ copied-length a.width (run_cells a.n0 a.to a.from j) c.loop-j.destination a.source.now ∙ c.loop-j.invariant.1,
+      e
+          ∙ ap (λ (xs : List ℕ). copied a.width (run_cells a.n0 a.to a.from j) xs a.source.now) c.loop-j.invariant.2
+          ∙ run_more a.width a.to a.from a.destination.now a.source.now a.n0 j,
+    )
+
+pub shape_of-destination : goal.shape_of-destination
+shape_of-destination c = c.loop-j.invariant.1
+
+pub returns : goal.returns
+returns c =
+    let a = c.args in
+    let e : c.loop-j.j ≡ a.n1 = omega arith in
+    c.loop-j.invariant.2 ∙ ap (λ (n : ℕ). copied a.width (patch_cells a.n0 n a.to a.from) a.destination.now a.source.now) e

@@ -1,0 +1,43 @@
+-- `cells::runs::copy_run` meets its contract. Assumes nothing.
+use mathlib.Core.Path.{◌≡◌, refl, sym, ap, ◌∙◌, subst}
+use mathlib.Core.List.{List}
+use Prim.Native.Nat.{ℕ, ◌+◌, ◌-◌, ◌≤◌, ◌<◌}
+use native.Mathlib.Omega.{arith}
+use lib.ListN.{length}
+use Rattle.cells.specs.Copy.{moved, copied}
+use Rattle.cells.specs.Meaning.{moved_length}
+use Rattle.cells.specs.Patch.{place, run_cells}
+use Rattle.cells.specs.Reaching.{CellIn}
+use Rattle.cells.proofs.Running.{none_copied, cell_more, cell_in_lem}
+use Rattle.cells.proofs.runs.copy_run.Goals as goal
+
+pub loop-i-init : goal.loop-i-init
+loop-i-init c = (omega arith, refl, none_copied _ _ _)
+
+pub copy_cell-requires : goal.copy_cell-requires
+copy_cell-requires c =
+    let a = c.args in
+    let i : ℕ = c.loop-i.i in
+    let h : i < a.n = c.loop-i-test.true in record { width_bound = c.requires.width_bound; cell_in = subst (λ (len : ℕ). CellIn a.width len a.to i a.j) (sym c.loop-i.invariant.1) (cell_in_lem _ _ a.n a.j a.to i c.requires.run_in h); cell_in_2 = cell_in_lem _ _ a.n a.j a.from i c.requires.run_in_2 h }
+
+pub loop-i-preserved : goal.loop-i-preserved
+loop-i-preserved c =
+    let m = c.copy_cell in
+    let a = c.args in
+    let i : ℕ = c.loop-i.i in
+    let e : m.new.destination ≡ moved c.loop-i.destination (place a.to i a.j) a.source.now (place a.from i a.j) a.width = m.ensures in (
+      omega arith,
+      ap length e ∙ moved_length c.loop-i.destination (place a.to i a.j) a.source.now (place a.from i a.j) a.width ∙ c.loop-i.invariant.1,
+      e
+          ∙ ap (λ (xs : List ℕ). moved xs (place a.to i a.j) a.source.now (place a.from i a.j) a.width) c.loop-i.invariant.2
+          ∙ cell_more a.width a.to a.from a.destination.now a.source.now a.j i,
+    )
+
+pub shape_of-destination : goal.shape_of-destination
+shape_of-destination c = c.loop-i.invariant.1
+
+pub returns : goal.returns
+returns c =
+    let a = c.args in
+    let e : c.loop-i.i ≡ a.n = omega arith in
+    c.loop-i.invariant.2 ∙ ap (λ (n : ℕ). copied a.width (run_cells n a.to a.from a.j) a.destination.now a.source.now) e

@@ -1,0 +1,24 @@
+-- The invariants of `first_cut`.
+use native.Mathlib.Omega.{arith}
+use mathlib.Core.Bool.{Bool}
+use mathlib.Core.List.{List}
+use mathlib.Core.Path.{◌≡◌, sym, ap, ◌∙◌}
+use Prim.Native.Nat.{ℕ, ◌-◌, ◌≤◌}
+use native.Mathlib.Nat.{sub-zero}
+use lib.Dec.{ltb}
+use lib.ListN.{get_or}
+use borrow.Author.Tests.{lt-ltb, le-ltb}
+use Rattle.strided.specs.Base.{seek}
+use Rattle.strided.specs.Decline.{first_cut}
+use Rattle.laws.specs.Cut.Ranges.{seek_none, seek_hit, seek_miss}
+use Rattle.decline.proofs.first_cut.Given as goal
+
+-- whether axis j is cut
+abbrev pub cut_at : List ℕ → List ℕ → ℕ → Bool
+cut_at extents blocks j = ltb (get_or blocks j 0) (get_or extents j 0)
+
+abbrev pub invariant-loop-i : goal.invariant-loop-i
+invariant-loop-i l = (l.i ≤ l.rank) × (seek (cut_at l.extents l.blocks) l.i (l.rank - l.i) ≡ first_cut l.extents l.blocks l.rank)
+
+abbrev pub decreases-loop-i : goal.decreases-loop-i
+decreases-loop-i l = l.rank - l.i

@@ -1,0 +1,35 @@
+-- `decline::tail_separated` meets its contract. The invariant: the axes from the cut to i keep the slabs apart. They are tested as they stand;
+-- the definition's order by rising stride says the same (laws, Cut/Rising). Assumes nothing.
+use borrow.Author.Rules.{rules}
+use native.Mathlib.Omega.{arith}
+use mathlib.Core.Path.{◌≡◌, sym, ap, ◌∙◌}
+use mathlib.Core.Bool.{Bool, true}
+use Prim.Native.Nat.{ℕ, ◌-◌, ◌≤◌}
+use Rattle.laws.specs.Cut.Ranges.{every_start, every-step, every_fails_at}
+use Rattle.decline.specs.Slabs.{apart_at, apart_to}
+use Rattle.decline.proofs.tail_separated.Goals as goal
+
+pub loop-i-init : goal.loop-i-init
+loop-i-init c = (omega arith, omega arith, every_start _ _)
+
+pub loop-i-preserved : goal.loop-i-preserved
+unfolding test
+loop-i-preserved c =
+    -- the test at one axis
+    let test : ℕ → Bool = apart_at c.args.machine c.args.slabs c.args.strides.now c.args.extents.now in
+    let l = c.loop-i in
+    (omega arith, omega arith, every-step test c.args.slabs.cut l.i l.invariant.0 (sym c.keeps_apart.ensures ∙ c.if-keeps_apart.true) ∙ l.invariant.2)
+
+pub returns-else-keeps_apart : goal.returns-else-keeps_apart
+unfolding test
+returns-else-keeps_apart c =
+    let test : ℕ → Bool = apart_at c.args.machine c.args.slabs c.args.strides.now c.args.extents.now in
+    let l = c.loop-i in
+    let b = c.args.slabs in
+    sym (every_fails_at test b.cut l.i (b.rank - b.cut) l.invariant.0 (omega arith) (sym c.keeps_apart.ensures ∙ c.if-keeps_apart.false))
+
+pub returns : goal.returns
+returns c = let a = c.args in
+    let l = c.loop-i in
+    let e : a.slabs.rank ≡ l.i = omega arith in
+    sym (ap (λ (i : ℕ). apart_to i a.machine a.slabs a.strides.now a.extents.now) e ∙ l.invariant.2)

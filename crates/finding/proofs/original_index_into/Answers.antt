@@ -1,0 +1,37 @@
+-- `finding::original_index_into` meets its contract. Assumes nothing.
+use mathlib.Core.Path.{◌≡◌, refl, sym, ◌∙◌}
+use mathlib.Core.Option.{none}
+use borrow.Author.Rules.{rules}
+use Rattle.strided.specs.Refusals.{layout_refused}
+use Rattle.laws.specs.Refusals.Rows.{served_none, refused_some}
+use Rattle.finding.specs.Mapped.{Sound}
+use Rattle.finding.proofs.Maps.{sound}
+use Rattle.finding.proofs.Answers.{same-told, fitting, cells-few, tells_original, original_passed, original_refused}
+use Rattle.finding.proofs.original_index_into.Goals as goal
+
+pub returns-in-Refused : goal.returns-in-Refused
+returns-in-Refused c =
+    let a = c.args in
+    original_refused a.extents.now a.sizes.now a.strides.now a.purpose a.counters.now _ (refused_some _ (sym c.check_layout-answer.ensures ∙ c.in-Refused.is))
+
+pub map_into-requires : goal.map_into-requires
+map_into-requires c =
+    -- rows 1 to 6 let the layout through
+    let passed : let a = c.args in layout_refused a.extents.now a.sizes.now a.strides.now a.purpose ≡ none = served_none _ (sym c.check_layout-answer.ensures ∙ c.in-Served.is) in
+    let a = c.args in record { layout = fitting a.extents.now a.sizes.now a.strides.now a.purpose passed; zeros = (refl, refl) }
+
+pub original_by_into-requires : goal.original_by_into-requires
+original_by_into-requires c =
+    let passed : let a = c.args in layout_refused a.extents.now a.sizes.now a.strides.now a.purpose ≡ none = served_none _ (sym c.check_layout-answer.ensures ∙ c.in-Served.is) in
+    -- and so the map serves
+    let serves : let a = c.args in Sound a.extents.now c.map_into.new.order c.map_into.new.fused = let a = c.args in
+    sound (fitting a.extents.now a.sizes.now a.strides.now a.purpose passed) c.map_into.ensures (cells-few a.extents.now a.sizes.now a.strides.now a.purpose passed) in
+    serves
+
+pub returns-in-Served : goal.returns-in-Served
+returns-in-Served c =
+    let passed : let a = c.args in layout_refused a.extents.now a.sizes.now a.strides.now a.purpose ≡ none = served_none _ (sym c.check_layout-answer.ensures ∙ c.in-Served.is) in
+    let serves : let a = c.args in Sound a.extents.now c.map_into.new.order c.map_into.new.fused = let a = c.args in
+    sound (fitting a.extents.now a.sizes.now a.strides.now a.purpose passed) c.map_into.ensures (cells-few a.extents.now a.sizes.now a.strides.now a.purpose passed) in
+    let a = c.args in
+    same-told (tells_original serves c.map_into.ensures a.counters.now ∙ original_passed a.extents.now a.sizes.now a.strides.now a.purpose a.counters.now passed) c.original_by_into.ensures

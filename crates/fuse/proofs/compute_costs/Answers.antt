@@ -1,0 +1,33 @@
+-- `fuse::compute_costs` meets its contract. The invariant: the first i costs are stored. Assumes nothing.
+use mathlib.Core.Path.{◌≡◌, sym, ap, ap₂, ◌∙◌}
+use mathlib.Core.List.{List}
+use Prim.Native.Nat.{ℕ, ◌-◌, ◌≤◌}
+use native.Mathlib.Omega.{arith}
+use lib.ListN.{length, get_or, take, set}
+use lib.Seq.{take_all}
+use borrow.Author.Rules.{rules}
+use Rattle.strided.specs.Base.{padded}
+use Rattle.strided.specs.Costs.{costs}
+use Rattle.laws.specs.Base.Filling.{fill_none}
+use Rattle.laws.specs.Base.Stores.{fill_first}
+use Rattle.laws.specs.Cut.Tables.{cost_at}
+use Rattle.fuse.proofs.Costing.{length-costs}
+use Rattle.fuse.proofs.compute_costs.Goals as goal
+
+pub loop-i-init : goal.loop-i-init
+loop-i-init c = (omega arith, fill_none 64 0)
+
+pub loop-i-preserved : goal.loop-i-preserved
+loop-i-preserved c =
+    let C : List ℕ = costs c.args.strides.now c.args.operands c.args.rank in
+    let long : length C ≡ c.args.rank = length-costs c.args.strides.now c.args.operands c.args.rank in
+    let e : c.cost.result ≡ get_or C c.loop-i.i 0 =
+    c.cost.ensures ∙ sym (cost_at c.args.strides.now c.args.operands c.args.rank c.loop-i.i c.loop-i-test.true) in (
+      omega (arith, c.loop-i-test),
+      ap₂ (λ (r : List ℕ) (v : ℕ). set r c.loop-i.i v) c.loop-i.invariant.1 e ∙ fill_first 0 64 C c.loop-i.i (omega (arith, c.requires, long)) (omega (arith, c.loop-i-test, long)),
+    )
+
+pub returns : goal.returns
+returns c =
+    let long : length (costs c.args.strides.now c.args.operands c.args.rank) ≡ c.args.rank = length-costs c.args.strides.now c.args.operands c.args.rank in
+    c.loop-i.invariant.1 ∙ ap (padded 64 0) (take_all c.loop-i.i (costs c.args.strides.now c.args.operands c.args.rank) (omega (arith, c.loop-i-test, long)))

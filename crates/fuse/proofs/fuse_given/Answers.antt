@@ -1,0 +1,67 @@
+-- `fuse::fuse_given` meets its contract. The invariant: the places from rank - k on are fused. At each place stands the axis of that number.
+-- Assumes nothing.
+use mathlib.Core.Path.{◌≡◌, ◌∙◌, subst}
+use mathlib.Core.Logic.{⊎_elim}
+use mathlib.Core.List.{List}
+use Prim.Native.Nat.{ℕ, ◌-◌, ◌*◌, ◌^◌, ◌<◌}
+use mathlib.Core.Bool.{Bool, ◌&&◌}
+use lib.Dec.{ltb}
+use native.Mathlib.Omega.{arith}
+use lib.IntN.{ℤ}
+use lib.ListN.{length, get_or, take}
+use lib.Seq.{length-take-le}
+use Rattle.strided.specs.Layout.{Axis, stride_column}
+use Rattle.strided.specs.Fuse.{can_fuse, all_join}
+use Rattle.laws.specs.Fuse.Places.{axis_at, column_by}
+use Rattle.fuse.specs.Named.{given}
+use Rattle.fuse.proofs.Given.{fuses_given}
+use Rattle.fuse.proofs.Fusing.{Done, done_first, turn_left, turn_taken, joined_fits}
+use Rattle.fuse.proofs.fuse_given.Goals as goal
+
+pub loop-k-init : goal.loop-k-init
+loop-k-init c =
+    -- the strides at each place, the extents at first, and how many there are
+    let col : ℕ → List ℤ = column_by c.args.strides.now c.args.rank c.args.operands (given c.args.rank) in
+    let E : List ℕ = take c.args.rank c.args.extents.now in
+    let long : length E ≡ c.args.rank = length-take-le c.args.rank c.args.extents.now (omega (arith, c.requires.layout.few-axes, c.requires.extents.0)) in
+    (omega arith, c.requires.extents.1 ∙ done_first col E (c.args.rank - 1) (omega (arith, long)))
+
+pub can_fuse-requires : goal.can_fuse-requires
+can_fuse-requires c =
+    let t = c.loop-k-test in record { operands = c.requires.layout.rows; axes = (omega (arith, t), omega (arith, t, c.loop-k.invariant.0)) }
+
+pub overflow_mul-extents : goal.overflow_mul-extents
+overflow_mul-extents c =
+    let col : ℕ → List ℤ = column_by c.args.strides.now c.args.rank c.args.operands (given c.args.rank) in
+    -- the extent at a place, with the strides there
+    let at : List ℕ → ℕ → Axis = λ out i. axis_at col i (get_or out i 0) in
+    -- the test of places i - 1 and i, in a turn
+    let tested : let i : ℕ = c.args.rank - c.loop-k.k in (v : Bool) → v ≡ (all_join (get_or c.loop-k.extents (i - 1) 0) (stride_column c.args.strides.now c.args.rank (i - 1) 0 c.args.operands) (stride_column c.args.strides.now c.args.rank i 0 c.args.operands) && ltb (get_or c.loop-k.extents (i - 1) 0 * get_or c.loop-k.extents i 0) (2 ^ 64)) → v ≡ can_fuse (at c.loop-k.extents (i - 1)) (at c.loop-k.extents i) = λ v e. let i : ℕ = c.args.rank - c.loop-k.k in
+    fuses_given c.args.rank c.requires.layout.few-axes c.args.strides.now c.args.operands (i - 1) i (omega (arith, c.loop-k-test)) (omega (arith, c.loop-k-test, c.loop-k.invariant.0)) v _ _ e in
+    let i : ℕ = c.args.rank - c.loop-k.k in
+    record { fits = joined_fits (at c.loop-k.extents (i - 1)) (at c.loop-k.extents i) c.can_fuse.result (tested c.can_fuse.result c.can_fuse.ensures) c.if-can_fuse.true }
+
+pub loop-k-preserved : goal.loop-k-preserved
+loop-k-preserved c =
+    let col : ℕ → List ℤ = column_by c.args.strides.now c.args.rank c.args.operands (given c.args.rank) in
+    let E : List ℕ = take c.args.rank c.args.extents.now in
+    let long : length E ≡ c.args.rank = length-take-le c.args.rank c.args.extents.now (omega (arith, c.requires.layout.few-axes, c.requires.extents.0)) in
+    let at : List ℕ → ℕ → Axis = λ out i. axis_at col i (get_or out i 0) in
+    let tested : let i : ℕ = c.args.rank - c.loop-k.k in (v : Bool) → v ≡ (all_join (get_or c.loop-k.extents (i - 1) 0) (stride_column c.args.strides.now c.args.rank (i - 1) 0 c.args.operands) (stride_column c.args.strides.now c.args.rank i 0 c.args.operands) && ltb (get_or c.loop-k.extents (i - 1) 0 * get_or c.loop-k.extents i 0) (2 ^ 64)) → v ≡ can_fuse (at c.loop-k.extents (i - 1)) (at c.loop-k.extents i) = λ v e. let i : ℕ = c.args.rank - c.loop-k.k in
+    fuses_given c.args.rank c.requires.layout.few-axes c.args.strides.now c.args.operands (i - 1) i (omega (arith, c.loop-k-test)) (omega (arith, c.loop-k-test, c.loop-k.invariant.0)) v _ _ e in
+    let few = c.requires.layout.few-axes in (
+      omega arith,
+      ⊎_elim
+          (λ w. turn_taken col E c.args.rank c.loop-k.k c.loop-k.invariant.0 c.loop-k-test.true long few c.loop-k.extents c.if-can_fuse.extents c.loop-k.invariant.1
+          c.can_fuse.result (tested c.can_fuse.result c.can_fuse.ensures) w.0.taken w.1)
+          (λ w. turn_left col E c.args.rank c.loop-k.k c.loop-k.invariant.0 c.loop-k-test.true long few c.loop-k.extents c.if-can_fuse.extents c.loop-k.invariant.1
+          c.can_fuse.result (tested c.can_fuse.result c.can_fuse.ensures) w.0.left w.1)
+          c.if-can_fuse.branch,
+    )
+
+pub returns : goal.returns
+returns c =
+    let col : ℕ → List ℤ = column_by c.args.strides.now c.args.rank c.args.operands (given c.args.rank) in
+    let E : List ℕ = take c.args.rank c.args.extents.now in
+    let z : c.args.rank - c.loop-k.k ≡ 0 = omega (arith, c.loop-k-test) in
+    subst (λ (i : ℕ). Done col E i c.loop-k.extents) z c.loop-k.invariant.1

@@ -1,0 +1,32 @@
+-- `gougelily::marks::gougelily_repeat_mark` meets its contract. Assumes nothing.
+use borrow.Author.Rules.{rules}
+use mathlib.Core.Path.{ap, ◌∙◌}
+use Prim.Native.Nat.{◌<◌, ◌^◌}
+use native.Mathlib.Omega.{arith}
+use lib.IntN.{pos}
+use mir.Syntax.{w64}
+use mir.Facts.{to_z-of_z, to_z_pos}
+use Rattle.strided.specs.Mark.{mark_number}
+use Rattle.strided.specs.declared.Mark.{Mark}
+use Rattle.strided.specs.declared.Mark.TheVariants.{No, Yes, Undecided}
+use Rattle.gougelily.proofs.Answers.{mark_refused_lem, mark_served}
+use Rattle.gougelily.proofs.marks.gougelily_repeat_mark.Goals as goal
+
+number_small : (m : Mark) → mark_number m < 3
+number_small No = omega arith
+number_small Yes = omega arith
+number_small Undecided = omega arith
+
+pub overflow_cast-result : goal.overflow_cast-result
+overflow_cast-result c =
+    let small : c.mark_number.result < 2 ^ 63 = omega (arith, c.mark_number.ensures, number_small c.repeat_mark-marked.result.mark) in
+    record { sfits = small }
+
+pub returns-in-Refused : goal.returns-in-Refused
+returns-in-Refused c =
+    mark_refused_lem c.repeat_mark-marked.ensures c.in-Refused.is (to_z-of_z {w = w64} (record { sfits = c.negated.type_inv }) ∙ c.negated.ensures)
+
+pub returns-in-Served : goal.returns-in-Served
+returns-in-Served c =
+    let small : c.mark_number.result < 2 ^ 63 = omega (arith, c.mark_number.ensures, number_small c.repeat_mark-marked.result.mark) in
+    mark_served c.repeat_mark-marked.ensures c.in-Served.is (to_z_pos w64 small ∙ ap pos c.mark_number.ensures)

@@ -1,0 +1,54 @@
+-- `joining::begin_lent` meets its contract. Assumes nothing.
+use mathlib.Core.Path.{◌≡◌, refl, sym, ap, ◌∙◌}
+use mathlib.Core.Option.{none}
+use borrow.Author.Rules.{rules}
+use Rattle.strided.specs.declared.Answer.TheVariants.{Served}
+use Rattle.laws.specs.Refusals.Rows.{served_none}
+use Rattle.session.specs.declared.Numbers.{Numbers}
+use Rattle.session.specs.Session.{Given, given, refused_of, fresh_of, begun}
+use Rattle.session.specs.Afresh.{taken_of}
+use Rattle.joining.proofs.Answering.{lent_refused, lent_served}
+use Rattle.joining.proofs.Moving.{stands_right, stands_table, stands_session}
+use Rattle.joining.proofs.begin_lent.Goals as goal
+
+pub lay-requires : goal.lay-requires
+lay-requires c =
+    let G : Given = let a = c.args in given a.aim.machine a.layout-extents.now a.layout-sizes.now a.layout-strides.now a.aim.purpose in
+    -- planning accepts the layout
+    let told : c.check_planning-answer.result ≡ Served = c.served.ensures.yes c.if-served.true in
+    let passed : refused_of G ≡ none = served_none _ (sym c.check_planning-answer.ensures ∙ told) in
+    record { list_in_bounds = (taken_of G passed).axes; out_value = refl }
+
+pub lay_operands-requires : goal.lay_operands-requires
+lay_operands-requires c =
+    let G : Given = let a = c.args in given a.aim.machine a.layout-extents.now a.layout-sizes.now a.layout-strides.now a.aim.purpose in
+    let told : c.check_planning-answer.result ≡ Served = c.served.ensures.yes c.if-served.true in
+    let passed : refused_of G ≡ none = served_none _ (sym c.check_planning-answer.ensures ∙ told) in
+    let t = taken_of G passed in record { fitting = record { rank-few = t.axes; operands_few = t.few; strides_all = t.strides }; table_value = refl }
+
+pub keep-numbers-requires : goal.keep-numbers-requires
+keep-numbers-requires c =
+    let G : Given = let a = c.args in given a.aim.machine a.layout-extents.now a.layout-sizes.now a.layout-strides.now a.aim.purpose in
+    let told : c.check_planning-answer.result ≡ Served = c.served.ensures.yes c.if-served.true in
+    let passed : refused_of G ≡ none = served_none _ (sym c.check_planning-answer.ensures ∙ told) in
+    let g = G in
+    let q = c.begun.ensures in record { layout_right = stands_right g passed c.begun.result _ _ _ _ _ c.lay.ensures c.lay_operands.ensures (ap (λ (x : Numbers). x.rank) q) (ap (λ (x : Numbers). x.operands) q) (ap (λ (x : Numbers). x.machine) q) (ap (λ (x : Numbers). x.purpose) q) (ap (λ (x : Numbers). x.chosen) q); table_of = stands_table g passed c.begun.result _ _ _ _ _ c.lay.ensures c.lay_operands.ensures (ap (λ (x : Numbers). x.rank) q) (ap (λ (x : Numbers). x.operands) q) (ap (λ (x : Numbers). x.machine) q) (ap (λ (x : Numbers). x.purpose) q) (ap (λ (x : Numbers). x.chosen) q); plan_strides_value = refl }
+
+pub returns-then-served : goal.returns-then-served
+unfolding begun
+returns-then-served c =
+    let G : Given = let a = c.args in given a.aim.machine a.layout-extents.now a.layout-sizes.now a.layout-strides.now a.aim.purpose in
+    let told : c.check_planning-answer.result ≡ Served = c.served.ensures.yes c.if-served.true in
+    let passed : refused_of G ≡ none = served_none _ (sym c.check_planning-answer.ensures ∙ told) in
+    let g = G in
+    let q = c.begun.ensures in
+    lent_served (refused_of g) (fresh_of g) _ c.check_planning-answer.ensures told
+    (stands_session g passed c.begun.result _ _ _ _ _ c.lay.ensures c.lay_operands.ensures (ap (λ (x : Numbers). x.rank) q) (ap (λ (x : Numbers). x.operands) q) (ap (λ (x : Numbers). x.machine) q) (ap (λ (x : Numbers). x.purpose) q) (ap (λ (x : Numbers). x.chosen) q)
+    _ _ _ _ _ _ c.keep-numbers.ensures.numbers c.keep-numbers.ensures.kept)
+
+pub returns : goal.returns
+unfolding begun
+returns c =
+    let G : Given = let a = c.args in given a.aim.machine a.layout-extents.now a.layout-sizes.now a.layout-strides.now a.aim.purpose in
+    let g = G in
+    lent_refused (refused_of g) (fresh_of g) _ c.check_planning-answer.ensures (c.served.ensures.no c.if-served.false)

@@ -1,0 +1,16 @@
+-- The invariants of `layouts::put_row`.
+use Rattle.joining.proofs.Laying.{put_none, put_next, put-over}
+use mathlib.Core.Path.{◌≡◌, refl}
+use Prim.Native.Nat.{◌+◌, ◌-◌, ◌≤◌}
+use native.Mathlib.Omega.{arith}
+use lib.ListN.{length, take}
+use mathlib.Core.List.{◌++◌}
+use Rattle.strided.specs.Base.{padded}
+use borrow.Author.Rules.{rules}
+use Rattle.joining.proofs.layouts.put_row.Given as goal
+
+abbrev pub invariant-loop-i : goal.invariant-loop-i
+invariant-loop-i l = (l.at + 64 ≤ 512) × (length l.row ≡ 64) × (l.i ≤ 64) × (l.out ≡ padded 512 0 (take l.at l.initial.out ++ take l.i l.row))
+
+abbrev pub decreases-loop-i : goal.decreases-loop-i
+decreases-loop-i l = 64 - l.i

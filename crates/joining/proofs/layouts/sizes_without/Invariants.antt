@@ -1,0 +1,18 @@
+-- The invariants of `layouts::sizes_without`.
+use lib.Seq.{get_or-take, length-take-le}
+use Rattle.joining.proofs.Laying.{stayed, stays-next, stays-over}
+use Rattle.session.specs.Afresh.{old-there}
+use mathlib.Core.Path.{◌≡◌, sym, ap, ◌∙◌}
+use Prim.Native.Nat.{ℕ, ◌-◌, ◌≤◌, ◌<◌}
+use native.Mathlib.Omega.{arith}
+use lib.ListN.{length, take, set}
+use Rattle.strided.specs.Base.{padded}
+use Rattle.laws.specs.Base.Filling.{fill_none}
+use borrow.Author.Rules.{rules}
+use Rattle.joining.proofs.layouts.sizes_without.Given as goal
+
+abbrev pub invariant-loop-j : goal.invariant-loop-j
+invariant-loop-j l = (l.k < l.operands) × (l.operands ≤ 8) × (l.j ≤ l.operands - 1) × (l.kept ≡ padded 8 0 (stayed 8 0 0 (take l.operands l.sizes) l.k l.j))
+
+abbrev pub decreases-loop-j : goal.decreases-loop-j
+decreases-loop-j l = l.operands - 1 - l.j

@@ -1,0 +1,6 @@
+-- `joining::moves::begun` meets its contract. Assumes nothing.
+use borrow.Author.Rules.{rules}
+use Rattle.joining.proofs.moves.begun.Goals as goal
+
+pub returns : goal.returns
+returns c = cc

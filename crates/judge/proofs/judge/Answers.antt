@@ -1,0 +1,36 @@
+-- `judge::judge` meets its contract: the rows one after the other, then the text.
+-- Assumes nothing.
+use mathlib.Core.Path.{sym, ◌∙◌}
+use lib.ListN.{length}
+use borrow.Author.Rules.{rules}
+use Rattle.strided.specs.declared.Refusal.TheVariants.{Rank, Total, TextTotal, Visits}
+use Rattle.judge.proofs.Judging.{refuses, judges, rank-refused, total-refused, cells-refused, none_refused, buffer_refused, none_refuses}
+use Rattle.judge.proofs.judge.Goals as goal
+
+pub returns-then-rank_over : goal.returns-then-rank_over
+returns-then-rank_over c =
+    refuses c.args.extents.now c.args.text.now c.args.marks.now Rank (rank-refused c.args.extents.now (length c.args.marks.now) (sym c.rank_over.ensures ∙ c.if-rank_over.true))
+
+pub returns-in_default : goal.returns-in_default
+returns-in_default c =
+    refuses c.args.extents.now c.args.text.now c.args.marks.now Total (total-refused c.args.extents.now (length c.args.marks.now) (sym c.rank_over.ensures ∙ c.if-rank_over.false) (sym c.total_len.ensures ∙ c.in_default.is))
+
+pub returns-then-cells-gt-MAX_CELLS : goal.returns-then-cells-gt-MAX_CELLS
+returns-then-cells-gt-MAX_CELLS c =
+    refuses c.args.extents.now c.args.text.now c.args.marks.now TextTotal (cells-refused c.args.extents.now (length c.args.marks.now) (sym c.rank_over.ensures ∙ c.if-rank_over.false) (sym c.total_len.ensures ∙ c.in-Fits.is) c.if-cells-gt-MAX_CELLS.true)
+
+pub returns-then-rank-eq0 : goal.returns-then-rank-eq0
+returns-then-rank-eq0 c =
+    refuses c.args.extents.now c.args.text.now c.args.marks.now Visits (none_refused c.args.extents.now (length c.args.marks.now) (sym c.rank_over.ensures ∙ c.if-rank_over.false) (sym c.total_len.ensures ∙ c.in-Fits.is) c.if-cells-gt-MAX_CELLS.false c.if-rank-eq0.true)
+
+pub returns-then-marks-cells : goal.returns-then-marks-cells
+returns-then-marks-cells c =
+    refuses c.args.extents.now c.args.text.now c.args.marks.now Visits (buffer_refused c.args.extents.now (length c.args.marks.now) (sym c.rank_over.ensures ∙ c.if-rank_over.false) (sym c.total_len.ensures ∙ c.in-Fits.is) c.if-cells-gt-MAX_CELLS.false c.if-rank-eq0.false c.if-marks-cells.true)
+
+pub judge_text-requires : goal.judge_text-requires
+judge_text-requires c =
+    none_refuses c.args.extents.now (length c.args.marks.now) (sym c.rank_over.ensures ∙ c.if-rank_over.false) (sym c.total_len.ensures ∙ c.in-Fits.is) c.if-cells-gt-MAX_CELLS.false c.if-rank-eq0.false c.if-marks-cells.false
+
+pub returns : goal.returns
+returns c =
+    judges c.args.extents.now c.args.text.now c.args.marks.now (none_refuses c.args.extents.now (length c.args.marks.now) (sym c.rank_over.ensures ∙ c.if-rank_over.false) (sym c.total_len.ensures ∙ c.in-Fits.is) c.if-cells-gt-MAX_CELLS.false c.if-rank-eq0.false c.if-marks-cells.false) c.judge_text.ensures

@@ -1,0 +1,30 @@
+-- The invariants of `L1Sets::live_axes`.
+use native.Mathlib.Omega.{arith}
+use mathlib.Core.Path.{◌≡◌, sym, ap, ◌∙◌}
+use mathlib.Core.Bool.{Bool}
+use mathlib.Core.List.{List}
+use Prim.Native.Nat.{ℕ, ◌+◌, ◌-◌, ◌*◌, ◌%◌, ◌^◌, ◌≤◌}
+use native.Mathlib.Nat.{sub-zero}
+use lib.Dec.{ltb, eqb}
+use lib.Pow.{pow_mono}
+use mir.Val.{bool_byte}
+use borrow.Author.Tests.{lt-ltb, le-ltb, eq-eqb, ne_eqb}
+use Rattle.strided.specs.Base.{seek}
+use Rattle.strided.specs.Region.{byte_at}
+use Rattle.strided.specs.Fit.{reuse}
+use Rattle.strided.specs.declared.Machine.{Machine}
+use Rattle.laws.specs.Cut.Ranges.{seek_none, seek_hit, seek_miss}
+use Rattle.l1.specs.Live.{Holds, aliases_at, live_count}
+use Rattle.l1.proofs.Loads.{holds_none, holds_more}
+use Rattle.l1.proofs.L1Sets.live_axes.Given as goal
+
+-- whether operand k's byte stride on axis j is below a line
+abbrev pub near : Machine → List ℕ → ℕ → ℕ → Bool
+near mc bytes k j = ltb (byte_at bytes k j) mc.line
+
+abbrev pub invariant-loop-i : goal.invariant-loop-i
+invariant-loop-i l = (l.i ≤ l.rank) × (seek (near l.machine l.bytes l.k) l.i (l.rank - l.i) ≡ reuse l.machine l.bytes l.rank l.k)
+    × (Holds (aliases_at l.machine l.bytes l.k) l.i l.aliased)
+
+abbrev pub decreases-loop-i : goal.decreases-loop-i
+decreases-loop-i l = l.rank - l.i

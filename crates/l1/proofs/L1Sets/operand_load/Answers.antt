@@ -1,0 +1,36 @@
+-- `l1::L1Sets::operand_load` meets its contract. The invariant: m is the product of the blocks before i that bring lines into one set,
+-- saturated. Assumes nothing.
+use native.Mathlib.Omega.{arith}
+use mathlib.Core.Path.{◌≡◌, ap, ◌∙◌}
+use mathlib.Core.Logic.{⊎_elim}
+use Prim.Native.Nat.{ℕ, ◌-◌, ◌*◌, ◌≤◌, min}
+use native.Mathlib.Nat.{mul-one}
+use lib.ListN.{get_or}
+use borrow.Author.Tests.{eq-eqb, ne_eqb}
+use Rattle.laws.specs.Cut.Saturate.{min-mul-left}
+use Rattle.l1.proofs.Loads.{product_by_none, product_by_more}
+use Rattle.l1.specs.Live.{top, product_by}
+use Rattle.l1.proofs.L1Sets.operand_load.Goals as goal
+
+pub overflow_cast-m : goal.overflow_cast-m
+overflow_cast-m c = tt
+
+pub loop-i-init : goal.loop-i-init
+loop-i-init c = let a = c.args in (omega arith, product_by_none a.live a.blocks.now)
+
+pub loop-i-preserved : goal.loop-i-preserved
+loop-i-preserved c = let a = c.args in
+    let i : ℕ = c.loop-i.i in
+    let p : ℕ = product_by a.live a.blocks.now i in
+    let b : ℕ = get_or a.blocks.now i 0 in
+    let e = product_by_more a.live a.blocks.now i in
+    ⊎_elim
+    (λ w. (omega arith, rw (e, eq-eqb _ _ w.0.taken) (w.3 ∙ w.2.ensures ∙ ap (λ (x : ℕ). min (x * b) top) c.loop-i.invariant.1 ∙ min-mul-left p b top)))
+    (λ w. (omega arith, rw (e, ne_eqb _ _ w.0.left, mul-one) (w.1 ∙ c.loop-i.invariant.1)))
+    c.if-live-i-eq1.branch
+
+pub returns : goal.returns
+returns c = let l = c.loop-i in
+    let a = c.args in
+    let e : l.i ≡ a.live.count = omega arith in
+    l.invariant.1 ∙ ap (λ (i : ℕ). min (product_by a.live a.blocks.now i) top) e

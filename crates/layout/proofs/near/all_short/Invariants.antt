@@ -1,0 +1,18 @@
+-- The invariants of `near::all_short`.
+use mathlib.Core.Path.{◌≡◌, refl}
+use mathlib.Core.Bool.{◌&&◌}
+use Prim.Native.Nat.{◌≤◌, ◌<◌, ◌-◌, ◌*◌, ◌^◌}
+use native.Mathlib.Omega.{arith}
+use lib.Dec.{eqb}
+use lib.ListN.{length, get_or, drop}
+use borrow.Author.Rules.{rules}
+use Rattle.layout.specs.Near.{short}
+use Rattle.layout.proofs.Nearness.{short_turn, short_end, short-room, short-next}
+use Rattle.layout.proofs.near.all_short.Given as goal
+
+abbrev pub invariant-loop-i : goal.invariant-loop-i
+invariant-loop-i l =
+    (l.i ≤ length l.extents) × ((l.above ≤ l.i * 2 ^ 48) × ((eqb l.above 0 && short (drop l.i l.extents)) ≡ short l.extents))
+
+abbrev pub decreases-loop-i : goal.decreases-loop-i
+decreases-loop-i l = length l.extents - l.i

@@ -1,0 +1,16 @@
+-- The invariants of `sizes::has_zero`.
+use mathlib.Core.Path.{◌≡◌, refl, sym, ◌∙◌, ap}
+use Prim.Native.Nat.{◌≤◌, ◌-◌}
+use native.Mathlib.Omega.{arith}
+use lib.ListN.{length, drop, drop_of_length-le}
+use borrow.Author.Rules.{rules}
+use Rattle.strided.specs.Layout.{has_zero}
+use Rattle.layout.proofs.Tests.{zero-here, zero-later}
+use Rattle.layout.proofs.sizes.has_zero.Given as goal
+
+-- the extents before i are not 0
+abbrev pub invariant-loop-i : goal.invariant-loop-i
+invariant-loop-i l = (l.i ≤ length l.extents) × (has_zero (drop l.i l.extents) ≡ has_zero l.extents)
+
+abbrev pub decreases-loop-i : goal.decreases-loop-i
+decreases-loop-i l = length l.extents - l.i

@@ -1,0 +1,25 @@
+-- `layout::sizes::reach_of` meets its contract. Assumes nothing.
+use mathlib.Core.Path.{◌∙◌, ap}
+use Prim.Native.Nat.{◌≤◌, ◌-◌}
+use native.Mathlib.Nat.{le_antisymm}
+use native.Mathlib.Omega.{arith}
+use lib.IntN.{nat_abs}
+use lib.ListN.{length}
+use borrow.Author.Rules.{rules}
+use Rattle.layout.proofs.Caps.{elem_read, Summed, summed_start, summed_turn, summed_end}
+use Rattle.layout.proofs.sizes.reach_of.Goals as goal
+
+pub loop-i-init : goal.loop-i-init
+loop-i-init c = (omega arith, summed_start c.args.extents.now c.args.strides.now)
+
+pub add_cap-sum-requires : goal.add_cap-sum-requires
+add_cap-sum-requires c = c.loop-i.invariant.1.0
+
+pub loop-i-preserved : goal.loop-i-preserved
+loop-i-preserved c =
+    let l = c.loop-i in
+    let n = c.magnitude-size.ensures ∙ ap nat_abs (elem_read c.args.strides.now l.i c.magnitude-arg-1.given) in
+    (omega arith, summed_turn _ _ _ l.i _ _ _ _ c.loop-i-test.true c.requires l.invariant.1 n c.less_one.ensures c.mul_cap-term.ensures c.add_cap-sum.ensures)
+
+pub returns : goal.returns
+returns c = summed_end _ _ _ _ (le_antisymm c.loop-i.invariant.0 c.loop-i-test.false) c.loop-i.invariant.1

@@ -1,0 +1,18 @@
+-- The invariants of `sizes::total_len`.
+use mathlib.Core.Path.{◌≡◌, ◌∙◌, ap}
+use Prim.Native.Nat.{◌≤◌, ◌-◌}
+use native.Mathlib.Omega.{arith}
+use lib.ListN.{length, take}
+use lib.Seq.{take_all}
+use borrow.Author.Rules.{rules}
+use Rattle.strided.specs.Layout.{total}
+use Rattle.layout.specs.Held.{held}
+use Rattle.layout.proofs.Totals.{total_none, total_turn}
+use Rattle.layout.proofs.sizes.total_len.Given as goal
+
+-- the total of the first i extents
+abbrev pub invariant-loop-i : goal.invariant-loop-i
+invariant-loop-i l = (l.i ≤ length l.extents) × (l.t ≡ held (total (take l.i l.extents)))
+
+abbrev pub decreases-loop-i : goal.decreases-loop-i
+decreases-loop-i l = length l.extents - l.i

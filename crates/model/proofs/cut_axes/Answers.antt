@@ -1,0 +1,39 @@
+-- `model::cut_axes` meets its contract: costs and ranks of the code say the same as the definition's, and the tail is all axes.
+-- Assumes nothing.
+use mathlib.Core.Path.{ap, ◌∙◌}
+use mathlib.Core.List.{List}
+use Prim.Native.Nat.{ℕ}
+use native.Mathlib.Nat.{sub-zero}
+use native.Mathlib.Omega.{arith}
+use lib.ListN.{length, get_or, replicate}
+use borrow.Author.Rules.{rules}
+use Rattle.strided.specs.Costs.{costs}
+use Rattle.strided.specs.Cut.{cutting}
+use Rattle.strided.specs.declared.Purpose.TheVariants.{Pointwise}
+use Rattle.laws.specs.Base.Arrays.{get_d_padded}
+use Rattle.laws.specs.Cut.Same.{SameCosts}
+use Rattle.laws.specs.Plan.Ranks.{ranks-same}
+use Rattle.model.proofs.Rooms.{scores}
+use Rattle.model.proofs.Whole.{ruled_is}
+use Rattle.model.proofs.cut_axes.Goals as goal
+
+pub compute_blocks_at-requires : goal.compute_blocks_at-requires
+compute_blocks_at-requires c =
+    -- the costs and the ranks that are worked out
+    let costed : let a = c.args in SameCosts a.rank c.compute_costs-costs.result (costs a.strides.now (length a.sizes.now) a.rank) = let a = c.args in
+    λ i h. ap (λ (l : List ℕ). get_or l i 0) c.compute_costs-costs.ensures ∙ get_d_padded 0 64 (costs a.strides.now (length a.sizes.now) a.rank) i (omega (arith, c.requires.plannable.axes)) in
+    let a = c.args in
+    let p = c.requires.plannable in record { allowed = c.requires.allowed; operands_nonzero = ((p.one, omega (arith, p.few, p.axes)), scores a.sizes.now a.blocks.now a.strides.now a.rank Pointwise p c.compute_costs-costs.result costed) }
+
+pub returns : goal.returns
+returns c =
+    let costed : let a = c.args in SameCosts a.rank c.compute_costs-costs.result (costs a.strides.now (length a.sizes.now) a.rank) = let a = c.args in
+    λ i h. ap (λ (l : List ℕ). get_or l i 0) c.compute_costs-costs.ensures ∙ get_d_padded 0 64 (costs a.strides.now (length a.sizes.now) a.rank) i (omega (arith, c.requires.plannable.axes)) in
+    let a = c.args in
+    let p = c.requires.plannable in
+    let ranks = c.plan_ranks_into.new.table in
+    let ranked = ranks-same a.sizes.now a.strides.now a.rank (replicate 64 0) p.few p.axes _ c.plan_ranks_into.ensures in
+    c.compute_blocks_at.ensures
+    ∙ ap (λ (n : ℕ). cutting a.machine a.bytes.now (length a.sizes.now) c.compute_costs-costs.result ranks 0 n a.blocks.now) (sub-zero a.rank)
+    ∙ ruled_is a.machine a.sizes.now a.blocks.now a.strides.now a.rank Pointwise c.requires.allowed a.bytes.now c.requires.images
+    c.compute_costs-costs.result costed ranks ranked

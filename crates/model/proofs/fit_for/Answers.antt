@@ -1,0 +1,41 @@
+-- `model::fit_for` meets its contract: each purpose by itself. Row 4 says that the chosen operand of a copy is there, so it is one of two.
+-- Assumes nothing.
+use native.Mathlib.Omega.{arith}
+use mathlib.Core.Path.{◌≡◌, subst}
+use mathlib.Core.Bool.{false}
+use Prim.Native.Nat.{ℕ, ◌<◌}
+use lib.ListN.{length}
+use borrow.Author.Tests.{leb-false, eq-eqb, ne_eqb}
+use Rattle.strided.specs.Layout.{chosen}
+use Rattle.strided.specs.Refusals.{missing}
+use Rattle.strided.specs.declared.Purpose.{Purpose}
+use Rattle.strided.specs.declared.Purpose.TheVariants.{PointwiseInto}
+use borrow.Author.Rules.{rules}
+use Rattle.model.proofs.fit_for.Goals as goal
+
+pub fit-requires : goal.fit-requires
+fit-requires c =
+    -- the purpose, where it names a destination
+    let into : c.args.purpose ≡ PointwiseInto c.in-PointwiseInto.c = c.in-PointwiseInto.is in
+    let a = c.args in
+    let k : ℕ = c.in-PointwiseInto.c in
+    let two : length a.sizes.now ≡ 2 = c.if-sizes-eq2.true in
+    let there : missing (length a.sizes.now) (chosen (PointwiseInto k)) ≡ false =
+    subst (λ (v : Purpose). missing (length a.sizes.now) (chosen v) ≡ false) into c.requires.rank_bound.1 in
+    let below : k < length a.sizes.now = leb-false (length a.sizes.now) k there in record { allowed = c.requires.allowed; rank_bound = ((c.requires.rank_bound.0, omega arith), two) }
+
+pub returns-in-Pointwise : goal.returns-in-Pointwise
+returns-in-Pointwise c = rw c.in-Pointwise.is
+
+pub returns-in-Fold : goal.returns-in-Fold
+returns-in-Fold c = rw c.in-Fold.is
+
+pub returns-then-sizes-eq2 : goal.returns-then-sizes-eq2
+returns-then-sizes-eq2 c =
+    let into : c.args.purpose ≡ PointwiseInto c.in-PointwiseInto.c = c.in-PointwiseInto.is in
+    rw (into, eq-eqb _ _ c.if-sizes-eq2.true) c.fit.ensures
+
+pub returns-else-sizes-eq2 : goal.returns-else-sizes-eq2
+returns-else-sizes-eq2 c =
+    let into : c.args.purpose ≡ PointwiseInto c.in-PointwiseInto.c = c.in-PointwiseInto.is in
+    rw (into, ne_eqb _ _ c.if-sizes-eq2.false)

@@ -1,0 +1,22 @@
+-- The invariants of `units::byte_strides`.
+use mathlib.Core.Path.{◌≡◌, ap, ◌∙◌}
+use mathlib.Core.List.{map}
+use Prim.Native.Nat.{◌+◌, ◌-◌, ◌≤◌}
+use native.Mathlib.Omega.{arith}
+use lib.IntN.{ℤ, pos}
+use lib.ListN.{length, get_or, take}
+use mir.Facts.{to_z-of_z}
+use Rattle.strided.specs.Base.{padded}
+use Rattle.laws.specs.Base.Bits.{read_back}
+use Rattle.laws.specs.Base.Filling.{fill_none}
+use Rattle.numpy.specs.Numpy.{reversed, byte_stride, stride_out}
+use Rattle.numpy.specs.Reversing.{any_at}
+use Rattle.numpy.proofs.Fills.{filling_turn, filling_end, turned-length, turned-map}
+use borrow.Author.Rules.{rules}
+use Rattle.numpy.proofs.units.byte_strides.Given as goal
+
+abbrev pub invariant-loop-i : goal.invariant-loop-i
+invariant-loop-i l = (l.i ≤ length l.strides) × (l.out ≡ padded 64 (pos 0) (take l.i (reversed (map (byte_stride l.size) l.strides))))
+
+abbrev pub decreases-loop-i : goal.decreases-loop-i
+decreases-loop-i l = length l.strides - l.i

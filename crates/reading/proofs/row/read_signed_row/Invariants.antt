@@ -1,0 +1,18 @@
+-- The invariants of `row::read_signed_row`.
+use mathlib.Core.Path.{◌≡◌, ap, ◌∙◌}
+use Prim.Native.Nat.{◌-◌, ◌+◌}
+use lib.ListN.{set}
+use lib.IntN.{ℤ}
+use borrow.Author.Rules.{rules}
+use Rattle.strided.specs.Digits.{signed_of}
+use Rattle.strided.specs.Text.{FitI}
+use Rattle.laws.specs.Text.Numbers.{signed_once}
+use Rattle.laws.specs.Base.Bits.{read_back}
+use Rattle.reading.proofs.Rows.{Rowing, rowing_start, rowing_turn, rowing_bad, rowing_end}
+use Rattle.reading.proofs.row.read_signed_row.Given as goal
+
+abbrev pub invariant-loop-i : goal.invariant-loop-i
+invariant-loop-i l = Rowing signed_of FitI l.s l.at l.count l.from l.initial.out l.out l.p l.i
+
+abbrev pub decreases-loop-i : goal.decreases-loop-i
+decreases-loop-i l = l.count - l.i

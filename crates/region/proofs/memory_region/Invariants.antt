@@ -1,0 +1,18 @@
+-- The invariants of `memory_region`.
+use borrow.Author.Rules.{rules}
+use native.Mathlib.Omega.{arith}
+use mathlib.Core.Path.{◌≡◌, sym, ap, ◌∙◌}
+use Prim.Native.Nat.{ℕ, ◌-◌, ◌≤◌, min}
+use Rattle.strided.specs.Base.{sum}
+use Rattle.strided.specs.Region.{region_of, region}
+use Rattle.laws.specs.Base.Ranges.{sum-next, sum_mono}
+use Rattle.laws.specs.Cut.Ranges.{sum_none}
+use Rattle.laws.specs.Cut.Saturate.{cap, capped, add_sat}
+use Rattle.region.specs.Tail.{axes}
+use Rattle.region.proofs.memory_region.Given as goal
+
+abbrev pub invariant-loop-k : goal.invariant-loop-k
+invariant-loop-k l = (l.k ≤ l.tail.operands) × (l.r ≡ min (sum (region_of l.machine l.bytes l.blocks l.tail.offset (axes l.tail)) 0 l.k) (cap l.machine))
+
+abbrev pub decreases-loop-k : goal.decreases-loop-k
+decreases-loop-k l = l.tail.operands - l.k

@@ -1,0 +1,67 @@
+-- `session::check::row_picked` meets its contract. Assumes nothing.
+use mathlib.Core.Path.{◌≡◌, refl, sym, ap, ◌∙◌}
+use mathlib.Core.Bool.{◌&&◌}
+use Prim.Native.Nat.{ℕ, ◌+◌, ◌-◌, ◌≤◌, ◌<◌}
+use native.Mathlib.Nat.{le_antisymm}
+use native.Mathlib.Omega.{arith}
+use mir.Syntax.{w64}
+use mir.Val.{of_z}
+use lib.Dec.{eqb}
+use lib.IntN.{ℤ, pos}
+use lib.ListN.{length, get_or, drop}
+use borrow.Author.Rules.{rules}
+use Rattle.strided.specs.Step.{blank_z}
+use Rattle.strided.specs.Fuse.{eq_z}
+use Rattle.fuse.proofs.Joining.{eqb_bits}
+use Rattle.session.specs.Session.{same_ints}
+use Rattle.session.proofs.Comparing.{xor_none, same_z-next}
+use Rattle.session.proofs.Holding.{rest_is}
+use Rattle.session.proofs.Picking.{fresh, fresh_long, fresh_at, row-over}
+use Rattle.session.proofs.check.row_picked.Goals as goal
+
+pub loop-i-init : goal.loop-i-init
+loop-i-init c = (c.requires.axes_len.0, c.requires.axes_len.1.0, c.requires.axes_len.1.1, c.requires.by_index, omega arith, refl)
+
+pub overflow_cast-axis : goal.overflow_cast-axis
+overflow_cast-axis c =
+    let g = c.well_formed.0.1 in
+    let h = c.loop-i.invariant.3 c.loop-i.i c.loop-i-test.true in
+    omega (arith, g, h)
+
+pub overflow_add-differing : goal.overflow_add-differing
+overflow_add-differing c = let l = c.loop-i in let h = l.invariant.3 l.i c.loop-i-test.true in omega (arith, h)
+
+pub offset_bounds-strides-from : goal.offset_bounds-strides-from
+offset_bounds-strides-from c = let l = c.loop-i in let h = l.invariant.3 l.i c.loop-i-test.true in omega (arith, h)
+
+pub bounds-strides-from : goal.bounds-strides-from
+bounds-strides-from c = let l = c.loop-i in l.invariant.3 l.i c.loop-i-test.true
+
+pub loop-i-preserved : goal.loop-i-preserved
+loop-i-preserved c =
+    let l = c.loop-i in
+    let a = c.args in
+    let t = c.loop-i-test.true in
+    let few = l.invariant.1 in
+    let e = l.invariant.2 in
+    let f = fresh_long a.strides.now a.from a.axes.now a.count c.requires.axes_len.0 c.requires.axes_len.1.0 in
+    let x : ℤ = get_or a.strides.now (a.from + get_or a.axes.now l.i 0) (pos 0) in
+    let y : ℤ = get_or a.row.now l.i (pos 0) in (
+      l.invariant.0,
+      few,
+      e,
+      l.invariant.3,
+      omega (arith, t),
+      same_z-next (fresh a.strides.now a.from a.axes.now a.count) a.row.now l.i l.differing _ (omega (arith, f, few, t)) (omega (arith, e, few, t))
+          (xor_none (of_z w64 x) (of_z w64 y) ∙ eqb_bits x y (record { sfits = c.differing-1.given }) (record { sfits = c.differing-in-loop-i-1.given })
+          ∙ ap (λ (v : ℤ). eq_z v y) (sym (fresh_at a.strides.now a.from a.axes.now a.count c.requires.axes_len.0 c.requires.axes_len.1.0 l.i t))) l.invariant.5,
+    )
+
+pub returns : goal.returns
+returns c =
+    let l = c.loop-i in
+    let a = c.args in
+    let e : l.i ≡ a.count = le_antisymm l.invariant.4 c.loop-i-test.false in
+    row-over a.strides.now a.from a.axes.now a.count c.requires.axes_len.0 c.requires.axes_len.1.0 a.row.now c.requires.axes_len.1.1 (eqb l.differing 0) c.all_zero_signed-rest.result
+    (c.all_zero_signed-rest.ensures ∙ ap blank_z (rest_is a.count a.row.now))
+    (ap (λ (n : ℕ). eqb l.differing 0 && same_ints (drop n (fresh a.strides.now a.from a.axes.now a.count)) (drop n a.row.now)) (sym e) ∙ l.invariant.5)

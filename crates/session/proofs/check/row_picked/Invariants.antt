@@ -1,0 +1,28 @@
+-- The invariants of `check::row_picked`.
+use mathlib.Core.Path.{◌≡◌, refl, sym, ap, ◌∙◌}
+use mathlib.Core.Bool.{◌&&◌}
+use Prim.Native.Nat.{ℕ, ◌+◌, ◌-◌, ◌≤◌, ◌<◌}
+use native.Mathlib.Nat.{le_antisymm}
+use native.Mathlib.Omega.{arith}
+use mir.Syntax.{w64}
+use mir.Val.{of_z}
+use lib.Dec.{eqb}
+use lib.IntN.{ℤ, pos}
+use lib.ListN.{length, get_or, drop}
+use borrow.Author.Rules.{rules}
+use Rattle.strided.specs.Step.{blank_z}
+use Rattle.strided.specs.Fuse.{eq_z}
+use Rattle.fuse.proofs.Joining.{eqb_bits}
+use Rattle.session.specs.Session.{same_ints}
+use Rattle.session.proofs.Comparing.{xor_none, same_z-next}
+use Rattle.session.proofs.Holding.{rest_is}
+use Rattle.session.proofs.Picking.{fresh, fresh_long, fresh_at, row-over}
+use Rattle.session.proofs.check.row_picked.Given as goal
+
+abbrev pub invariant-loop-i : goal.invariant-loop-i
+invariant-loop-i l =
+    (length l.axes ≡ 64) × (l.count ≤ 64) × (length l.row ≡ 64) × ((j : ℕ) → j < l.count → l.from + get_or l.axes j 0 < length l.strides) × (l.i ≤ l.count)
+    × ((eqb l.differing 0 && same_ints (drop l.i (fresh l.strides l.from l.axes l.count)) (drop l.i l.row)) ≡ same_ints (fresh l.strides l.from l.axes l.count) l.row)
+
+abbrev pub decreases-loop-i : goal.decreases-loop-i
+decreases-loop-i l = l.count - l.i

@@ -1,0 +1,22 @@
+-- `session::check_leave` meets its contract. Assumes nothing.
+use mathlib.Core.Path.{◌≡◌, sym, ◌∙◌}
+use Prim.Native.Nat.{ℕ}
+use native.Mathlib.Omega.{arith}
+use mathlib.Core.List.{[], ◌∷◌}
+use Rattle.session.specs.declared.Session.{Session}
+use Rattle.session.specs.Session.{row21}
+use Rattle.session.specs.Made.{session_at}
+use Rattle.session.proofs.Holding.{past_10, at_10}
+use borrow.Author.Rules.{rules}
+use Rattle.session.proofs.check_leave.Goals as goal
+
+pub returns-then-holds : goal.returns-then-holds
+returns-then-holds c =
+    let session : Session = let a = c.args in session_at a.numbers a.extents.now a.sizes.now a.strides.now a.ranks.now a.weights.now a.costs.now a.plan_extents_lem.now a.blocks.now a.plan_strides.now in
+    let a = c.args in
+    let h = (c.holds.ensures.told, c.holds.ensures.table) in record { told = c.check_leaving.ensures ∙ sym (past_10 session h.0 (row21 a.numbers.operands a.operand ∷ []) c.if-holds.true); table = (λ e. h.1 c.if-holds.true) }
+
+pub returns : goal.returns
+returns c =
+    let session : Session = let a = c.args in session_at a.numbers a.extents.now a.sizes.now a.strides.now a.ranks.now a.weights.now a.costs.now a.plan_extents_lem.now a.blocks.now a.plan_strides.now in
+    let a = c.args in record { told = sym (at_10 session c.holds.ensures.told (row21 a.numbers.operands a.operand ∷ []) c.if-holds.false); table = (λ e. let z : ◌≡◌ {A = ℕ} 0 1 = cc e in absurd (omega arith)) }

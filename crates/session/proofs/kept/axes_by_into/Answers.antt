@@ -1,0 +1,37 @@
+-- `session::kept::axes_by_into` meets its contract: the order by the weights is that of fusing. Assumes nothing.
+use mathlib.Core.Path.{◌≡◌, ◌∙◌}
+use lib.ListN.{length}
+use Rattle.strided.specs.Base.{padded}
+use Rattle.strided.specs.Layout.{extents}
+use Rattle.strided.specs.Order.{fusing_order}
+use Rattle.strided.specs.Plan.{stride_table}
+use Rattle.arrange.specs.Fusing.{in_order_lem, as_planned}
+use Rattle.session.proofs.Keeping.{order_is}
+use borrow.Author.Rules.{rules}
+use Rattle.session.proofs.kept.axes_by_into.Goals as goal
+
+pub plan_axes_into-requires : goal.plan_axes_into-requires
+plan_axes_into-requires c =
+    -- the order that the weights give
+    let ordered : let a = c.args in c.order_into.new.out ≡ padded 64 0 (fusing_order a.extents.now a.operands a.strides.now a.purpose) = let a = c.args in
+    let f = c.requires.fitting in
+    c.order_into.ensures ∙ order_is a.extents.now a.operands a.strides.now a.purpose f.rank-few f.operands_few _ c.requires.weights_value in
+    let a = c.args in
+    let f = c.requires.fitting in record { layout = in_order_lem a.extents.now a.operands a.strides.now a.purpose f.rank-few ordered f.operands_few f.strides_all; zeros = (c.requires.zeros.extents, c.requires.zeros.strides) }
+
+pub returns : goal.returns
+returns c =
+    let ordered : let a = c.args in c.order_into.new.out ≡ padded 64 0 (fusing_order a.extents.now a.operands a.strides.now a.purpose) = let a = c.args in
+    let f = c.requires.fitting in
+    c.order_into.ensures ∙ order_is a.extents.now a.operands a.strides.now a.purpose f.rank-few f.operands_few _ c.requires.weights_value in
+    let a = c.args in
+    let es = a.extents.now in
+    let ss = a.strides.now in
+    let few = c.requires.fitting.rank-few in
+    let found = (c.plan_axes_into.ensures.rank, (c.plan_axes_into.ensures.extents, c.plan_axes_into.ensures.strides)) in
+    record {
+      weights = c.requires.weights_value;
+      count = as_planned es a.operands ss a.purpose few ordered length found.0;
+      extents = as_planned es a.operands ss a.purpose few ordered (λ xs. padded 64 0 (extents xs)) found.1.0;
+      strides = as_planned es a.operands ss a.purpose few ordered (λ xs. stride_table xs a.operands) found.1.1;
+    }

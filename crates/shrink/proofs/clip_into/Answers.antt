@@ -1,0 +1,53 @@
+-- `shrink::clip_into` meets its contract. The invariant: the axes before i are clipped. A score above `level` has a cost above 0, so that the
+-- code may divide by it. Assumes nothing.
+use native.Mathlib.Omega.{arith}
+use mathlib.Core.Path.{◌≡◌, sym, ap, ◌∙◌}
+use mathlib.Core.Logic.{⊎_elim}
+use Prim.Native.Nat.{ℕ, ◌-◌, ◌*◌, ◌≤◌, ◌<◌}
+use native.Mathlib.Nat.{div-le_self}
+use lib.ListN.{get_or}
+use borrow.Author.Tests.{lt-ltb, le-ltb}
+use Rattle.strided.specs.Cut.{score}
+use Rattle.laws.specs.Cut.Picks.{pos_right}
+use Rattle.laws.specs.Cut.Jump.{clipped_over, over_start, over-step}
+use Rattle.shrink.proofs.clip_into.Goals as goal
+
+pub loop-i-init : goal.loop-i-init
+loop-i-init c = (omega arith, omega arith, sym (over_start _ _ _ _ _))
+
+pub less_one-requires : goal.less_one-requires
+less_one-requires c = tt
+
+pub overflow_mul-less_one : goal.overflow_mul-less_one
+overflow_mul-less_one c =
+    -- the product that the code compares is the score
+    let the-score : let a = c.args in c.less_one.result * get_or a.costs.now c.loop-i.i 0 ≡ score a.blocks.now a.costs.now c.loop-i.i = ap (λ (x : ℕ). x * get_or c.args.costs.now c.loop-i.i 0) c.less_one.ensures in
+    omega (arith, the-score, c.requires.1 c.loop-i.i (omega arith))
+
+pub nonzero_div-out : goal.nonzero_div-out
+nonzero_div-out c = pos_right c.less_one.result _ _ c.if-level-less_one.true
+
+pub overflow_add-out : goal.overflow_add-out
+overflow_add-out c =
+    let the-score : let a = c.args in c.less_one.result * get_or a.costs.now c.loop-i.i 0 ≡ score a.blocks.now a.costs.now c.loop-i.i = ap (λ (x : ℕ). x * get_or c.args.costs.now c.loop-i.i 0) c.less_one.ensures in
+    let a = c.args in
+    omega (arith, the-score, c.requires.1 c.loop-i.i (omega arith), div-le_self a.level (get_or a.costs.now c.loop-i.i 0))
+
+pub loop-i-preserved : goal.loop-i-preserved
+loop-i-preserved c =
+    let the-score : let a = c.args in c.less_one.result * get_or a.costs.now c.loop-i.i 0 ≡ score a.blocks.now a.costs.now c.loop-i.i = ap (λ (x : ℕ). x * get_or c.args.costs.now c.loop-i.i 0) c.less_one.ensures in
+    let a = c.args in
+    let i : ℕ = c.loop-i.i in
+    let sc : ℕ = score a.blocks.now a.costs.now i in
+    let e = the-score in
+    let st = over-step a.level a.costs.now a.tail.offset i a.blocks.now a.out.now c.loop-i.invariant.0 in
+    ⊎_elim
+    (λ w. let above : a.level < sc = omega (arith, e, w.0.taken) in (omega arith, omega arith, rw (w.1, c.loop-i.invariant.2, st, lt-ltb a.level sc above)))
+    (λ w. let within : sc ≤ a.level = omega (arith, e, w.0.left) in (omega arith, omega arith, rw (w.1, c.loop-i.invariant.2, st, le-ltb a.level sc within)))
+    c.if-level-less_one.branch
+
+pub returns : goal.returns
+returns c = let a = c.args in
+    let l = c.loop-i in
+    let e : l.i ≡ a.tail.rank = omega arith in
+    l.invariant.2 ∙ ap (λ (i : ℕ). clipped_over a.level a.costs.now a.tail.offset (i - a.tail.offset) a.blocks.now a.out.now) e

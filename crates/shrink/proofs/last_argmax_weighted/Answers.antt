@@ -1,0 +1,48 @@
+-- `shrink::last_argmax_weighted` meets its contract. The invariant: `best` is the pick of the axes before i, and `top` the score to reach. A
+-- score of 0 does not, which is that of a block of 1 or of an axis without a cost; of equal scores the later wins. Assumes nothing.
+use native.Mathlib.Omega.{arith}
+use mathlib.Core.Path.{◌≡◌, refl, sym, ap, ◌∙◌}
+use mathlib.Core.Logic.{⊎_elim}
+use mathlib.Core.Option.{Option}
+use Prim.Native.Nat.{ℕ, ◌-◌, ◌*◌, ◌≤◌, ◌<◌}
+use lib.ListN.{get_or}
+use Rattle.strided.specs.Cut.{score, greatest_score}
+use Rattle.laws.specs.Cut.Picks.{bar_of, pick_start, pick_wins, pick_loses}
+use Rattle.shrink.specs.Picked.{picked}
+use Rattle.shrink.proofs.last_argmax_weighted.Goals as goal
+
+pub loop-i-init : goal.loop-i-init
+loop-i-init c = (omega arith, omega arith, sym (pick_start _ _ _), refl)
+
+pub less_one-requires : goal.less_one-requires
+less_one-requires c = tt
+
+pub overflow_mul-s : goal.overflow_mul-s
+overflow_mul-s c =
+    -- the product is the score
+    let the-score : let a = c.args in c.less_one.result * get_or a.costs.now c.loop-i.i 0 ≡ score a.blocks.now a.costs.now c.loop-i.i = ap (λ (x : ℕ). x * get_or c.args.costs.now c.loop-i.i 0) c.less_one.ensures in
+    omega (arith, the-score, c.requires.1 c.loop-i.i (omega arith))
+
+pub loop-i-preserved : goal.loop-i-preserved
+loop-i-preserved c =
+    let the-score : let a = c.args in c.less_one.result * get_or a.costs.now c.loop-i.i 0 ≡ score a.blocks.now a.costs.now c.loop-i.i = ap (λ (x : ℕ). x * get_or c.args.costs.now c.loop-i.i 0) c.less_one.ensures in
+    let a = c.args in
+    let i : ℕ = c.loop-i.i in
+    let s : ℕ → ℕ = score a.blocks.now a.costs.now in
+    let old : Option ℕ = greatest_score a.blocks.now a.costs.now a.tail.offset (i - a.tail.offset) in
+    let sc = the-score in
+    let e : bar_of s old ≡ c.loop-i.top = sym (c.loop-i.invariant.3 ∙ ap (bar_of s) c.loop-i.invariant.2) in
+    ⊎_elim
+    (λ w.
+    let wins : bar_of s old ≤ s i = omega (arith, e, sc, w.0.taken) in
+    (omega arith, omega arith, rw (w.1, pick_wins a.blocks.now a.costs.now a.tail.offset i c.loop-i.invariant.0 wins), rw (w.1, w.2) sc))
+    (λ w.
+    let loses : s i < bar_of s old = omega (arith, e, sc, w.0.left) in
+    (omega arith, omega arith, rw (w.1, pick_loses a.blocks.now a.costs.now a.tail.offset i c.loop-i.invariant.0 loses) c.loop-i.invariant.2, rw (w.1, w.2) c.loop-i.invariant.3))
+    c.if-s-top.branch
+
+pub returns : goal.returns
+returns c = let a = c.args in
+    let l = c.loop-i in
+    let e : l.i ≡ a.tail.rank = omega arith in
+    l.invariant.2 ∙ ap (λ (i : ℕ). greatest_score a.blocks.now a.costs.now a.tail.offset (i - a.tail.offset)) e

@@ -1,0 +1,46 @@
+-- `shrink::lessen_far` meets its contract. The clipped blocks are still too large, so the single steps pass them (laws, Cut/Jump), and go on
+-- from there. Assumes nothing.
+use native.Mathlib.Omega.{arith}
+use mathlib.Core.Path.{◌≡◌, sym, ap, subst⁻¹, ◌∙◌}
+use mathlib.Core.List.{List}
+use Prim.Native.Nat.{ℕ, ◌≤◌}
+use Rattle.strided.specs.Region.{region}
+use Rattle.strided.specs.declared.Machine.{Machine}
+use Rattle.strided.specs.Cut.{lessened}
+use Rattle.laws.specs.Cut.Steps.{ScoresFit, lessened_fits}
+use Rattle.laws.specs.Cut.Jump.{clipped, clipped_over, over_itself, jump, clipped_scores}
+use Rattle.laws.specs.Cut.Level.{Least}
+use borrow.Author.Rules.{rules}
+use Rattle.region.specs.Tail.{axes}
+use Rattle.shrink.proofs.lessen_far.Goals as goal
+
+module _ (mc : Machine) (bytes : List ℕ) (operands : ℕ) (costs : List ℕ) (o n rank : ℕ) (b : List ℕ) (s : ℕ) {t : List ℕ} (made : t ≡ clipped_over s costs o n b b) where
+  is : t ≡ clipped s costs o n b
+  is = made ∙ over_itself s costs o n b
+
+module _ (mc : Machine) (bytes : List ℕ) (operands : ℕ) (costs : List ℕ) (o n rank : ℕ) (b : List ℕ) (s : ℕ) {t : List ℕ} (made : t ≡ clipped_over s costs o n b b) where
+  still-fit : ScoresFit rank costs b → ScoresFit rank costs t
+  still-fit h = subst⁻¹ (λ (l : List ℕ). ScoresFit rank costs l) is (clipped_scores s costs o n rank b h)
+
+module _ (mc : Machine) (bytes : List ℕ) (operands : ℕ) (costs : List ℕ) (o n rank : ℕ) (b : List ℕ) (s : ℕ) {t : List ℕ} (made : t ≡ clipped_over s costs o n b b) where
+  same_end : Least mc bytes operands costs o n b s → lessened mc bytes operands costs o n t ≡ lessened mc bytes operands costs o n b
+  same_end h = ap (lessened mc bytes operands costs o n) is ∙ sym (jump mc bytes operands costs o n s b h.above)
+
+pub returns-then-memory_region-machine : goal.returns-then-memory_region-machine
+returns-then-memory_region-machine c =
+    let a = c.args in
+    let small : region a.machine a.bytes.now a.tail.operands a.blocks.now a.tail.offset (axes a.tail) ≤ a.machine.cache = omega arith in
+    sym (lessened_fits a.machine a.bytes.now a.tail.operands a.costs.now a.tail.offset (axes a.tail) a.blocks.now small)
+
+pub level-s-requires : goal.level-s-requires
+level-s-requires c = record { allowed = c.requires.allowed; within = c.requires.within; cache_bound = omega arith }
+
+pub lessen-requires : goal.lessen-requires
+lessen-requires c =
+    let a = c.args in record { allowed = c.requires.allowed; within = (c.requires.within.0, still-fit a.machine a.bytes.now a.tail.operands a.costs.now a.tail.offset (axes a.tail) a.tail.rank a.blocks.now c.level-s.result c.clip_into.ensures c.requires.within.1) }
+
+pub returns : goal.returns
+returns c =
+    let a = c.args in
+    c.lessen.ensures
+    ∙ same_end a.machine a.bytes.now a.tail.operands a.costs.now a.tail.offset (axes a.tail) a.tail.rank a.blocks.now c.level-s.result c.clip_into.ensures c.level-s.ensures

@@ -1,0 +1,15 @@
+-- The invariants of `level`.
+use borrow.Author.Rules.{rules}
+use native.Mathlib.Omega.{arith}
+use mathlib.Core.List.{List}
+use Prim.Native.Nat.{ℕ, ◌-◌, ◌≤◌, ◌<◌, ◌^◌}
+use Rattle.strided.specs.Region.{region}
+use Rattle.laws.specs.Cut.Level.{Seeking, seek-first, seek_down, seek-up, sought}
+use Rattle.region.specs.Tail.{axes}
+use Rattle.shrink.proofs.level.Given as goal
+
+abbrev pub invariant-loop-lo : goal.invariant-loop-lo
+invariant-loop-lo l = Seeking l.machine l.bytes l.tail.operands l.costs l.tail.offset (axes l.tail) l.blocks l.t l.lo l.hi × (l.hi < 2 ^ 64)
+
+abbrev pub decreases-loop-lo : goal.decreases-loop-lo
+decreases-loop-lo l = l.hi - l.lo

@@ -1,0 +1,31 @@
+-- `shrink::shrink` meets its contract: halving, then taking 1 off. No block is greater after halving, so that scores still fit 64 bits.
+-- Assumes nothing.
+use mathlib.Core.Path.{ap, subst⁻¹, ◌∙◌}
+use mathlib.Core.List.{List}
+use Prim.Native.Nat.{ℕ}
+use Rattle.strided.specs.Cut.{halved, lessened, shrunk}
+use Rattle.laws.specs.Cut.Steps.{ScoresFit, scores_le, halved_le}
+use borrow.Author.Rules.{rules}
+use Rattle.region.specs.Tail.{axes}
+use Rattle.shrink.proofs.shrink.Goals as goal
+
+pub lessen_far-requires : goal.lessen_far-requires
+lessen_far-requires c =
+    let a = c.args in
+    let bytes : List ℕ = a.bytes.now in
+    let n : ℕ = axes a.tail in
+    let b : List ℕ = a.blocks.now in
+    let half : List ℕ = halved a.machine bytes a.tail.operands a.costs.now a.tail.offset n b in record {
+      allowed = c.requires.allowed;
+      within = (
+        c.requires.within.0,
+        subst⁻¹ (λ (l : List ℕ). ScoresFit a.tail.rank a.costs.now l) c.halve.ensures
+            (scores_le a.tail.rank a.costs.now b half (halved_le a.machine bytes a.tail.operands a.costs.now a.tail.offset n b) c.requires.within.1),
+      );
+    }
+
+pub returns : goal.returns
+unfolding shrunk
+returns c =
+    let a = c.args in
+    c.lessen_far.ensures ∙ ap (lessened a.machine a.bytes.now a.tail.operands a.costs.now a.tail.offset (axes a.tail)) c.halve.ensures

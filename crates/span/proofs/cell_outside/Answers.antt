@@ -1,0 +1,44 @@
+-- `span::cell_outside` meets its contract. Assumes nothing.
+use mathlib.Core.Path.{◌≡◌, sym, ◌∙◌}
+use mir.Facts.{to_z-of_z}
+use borrow.Author.Rules.{rules}
+use mathlib.Core.Bool.{false}
+use Rattle.strided.specs.Layout.{has_zero}
+use Rattle.span.proofs.Sums.{full, no_cell, starts_below, start_cast, too_low, down_le, top_fits, top_test}
+use Rattle.span.proofs.cell_outside.Goals as goal
+use mir.Syntax.{w64}
+
+pub returns-then-has_zero : goal.returns-then-has_zero
+returns-then-has_zero c = no_cell _ _ _ _ (sym c.has_zero.ensures ∙ c.if-has_zero.true)
+
+pub returns-then-start-lt0 : goal.returns-then-start-lt0
+returns-then-start-lt0 c = starts_below _ _ _ (sym c.has_zero.ensures ∙ c.if-has_zero.false) _ (rw (to_z-of_z {w = w64} c.ranges.start) at c.if-start-lt0.true)
+
+pub overflow_cast-at : goal.overflow_cast-at
+overflow_cast-at c = start_cast _ c.ranges.start c.if-start-lt0.false
+
+pub down_of-below-requires : goal.down_of-below-requires
+down_of-below-requires c =
+    -- where no extent is 0
+    let whole : has_zero c.args.extents.now ≡ false = sym c.has_zero.ensures ∙ c.if-has_zero.false in
+    full _ _ c.requires whole
+
+pub returns-then-at-below : goal.returns-then-at-below
+returns-then-at-below c =
+    let whole : has_zero c.args.extents.now ≡ false = sym c.has_zero.ensures ∙ c.if-has_zero.false in
+    too_low _ c.ranges.start c.if-start-lt0.false _ _ _ c.requires whole _ c.down_of-below.ensures c.if-at-below.true
+
+pub overflow_sub-result : goal.overflow_sub-result
+overflow_sub-result c =
+    let whole : has_zero c.args.extents.now ≡ false = sym c.has_zero.ensures ∙ c.if-has_zero.false in
+    down_le _ c.ranges.start c.if-start-lt0.false _ _ c.args.cells c.requires whole _ c.down_of-below.ensures _ c.reach_of-reach.ensures
+
+pub overflow_add-result : goal.overflow_add-result
+overflow_add-result c =
+    let whole : has_zero c.args.extents.now ≡ false = sym c.has_zero.ensures ∙ c.if-has_zero.false in
+    record { fits = top_fits _ c.ranges.start c.if-start-lt0.false _ _ c.args.cells c.requires whole _ c.down_of-below.ensures _ c.reach_of-reach.ensures }
+
+pub returns : goal.returns
+returns c =
+    let whole : has_zero c.args.extents.now ≡ false = sym c.has_zero.ensures ∙ c.if-has_zero.false in
+    top_test _ c.ranges.start c.if-start-lt0.false _ _ _ c.requires whole _ c.down_of-below.ensures _ c.reach_of-reach.ensures c.if-at-below.false

@@ -1,0 +1,18 @@
+-- The invariants of `near::all_below`.
+use mathlib.Core.Path.{◌≡◌, refl}
+use mathlib.Core.Bool.{◌&&◌}
+use Prim.Native.Nat.{◌≤◌, ◌-◌, ◌^◌}
+use native.Mathlib.Omega.{arith}
+use lib.Dec.{eqb}
+use lib.ListN.{length, get_or, drop}
+use borrow.Author.Rules.{rules}
+use Rattle.states.specs.Near.{all_below}
+use Rattle.states.proofs.Blanks.{gathered_next, gathered_end}
+use Rattle.states.proofs.Nearness.{each_below, shifted_none}
+use Rattle.states.proofs.near.all_below.Given as goal
+
+abbrev pub invariant-loop-i : goal.invariant-loop-i
+invariant-loop-i l = (l.i ≤ length l.numbers) × ((eqb l.above 0 && all_below (2 ^ l.bits) (drop l.i l.numbers)) ≡ all_below (2 ^ l.bits) l.numbers)
+
+abbrev pub decreases-loop-i : goal.decreases-loop-i
+decreases-loop-i l = length l.numbers - l.i

@@ -1,0 +1,28 @@
+-- `states::near::rows_near` meets its contract. Assumes nothing.
+use mathlib.Core.Bool.{false≢true}
+use Prim.Native.Nat.{◌≤◌, ◌-◌}
+use native.Mathlib.Omega.{arith}
+use borrow.Author.Rules.{rules}
+use Rattle.states.specs.Near.{RowsNear}
+use Rattle.states.proofs.Nearness.{row_room, rows_none, rows_next, rows_all}
+use Rattle.states.proofs.near.rows_near.Goals as goal
+
+pub loop-k-init : goal.loop-k-init
+loop-k-init c = let a = c.args in (omega arith, rows_none a.extents.now a.strides.now)
+
+pub row_near-near-requires : goal.row_near-near-requires
+row_near-near-requires c =
+    row_room c.args.extents.now c.args.strides.now c.loop-k.k _ c.requires c.loop-k-test.true
+
+pub loop-k-preserved : goal.loop-k-preserved
+loop-k-preserved c =
+    let a = c.args in
+    (omega arith, rows_next a.extents.now a.strides.now c.loop-k.k c.loop-k.invariant.1 c.row_near-near.ensures c.if-near.true)
+
+pub returns-else-near : goal.returns-else-near
+returns-else-near c = λ h. absurd (false≢true h)
+
+pub returns : goal.returns
+returns c =
+    let a = c.args in
+    λ h. rows_all a.extents.now a.strides.now c.loop-k.k a.operands c.loop-k.invariant.1 c.loop-k-test.false

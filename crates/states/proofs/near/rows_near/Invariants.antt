@@ -1,0 +1,14 @@
+-- The invariants of `near::rows_near`.
+use mathlib.Core.Bool.{false≢true}
+use Prim.Native.Nat.{◌≤◌, ◌-◌}
+use native.Mathlib.Omega.{arith}
+use borrow.Author.Rules.{rules}
+use Rattle.states.specs.Near.{RowsNear}
+use Rattle.states.proofs.Nearness.{row_room, rows_none, rows_next, rows_all}
+use Rattle.states.proofs.near.rows_near.Given as goal
+
+abbrev pub invariant-loop-k : goal.invariant-loop-k
+invariant-loop-k l = (l.k ≤ l.operands) × RowsNear l.extents l.strides l.k
+
+abbrev pub decreases-loop-k : goal.decreases-loop-k
+decreases-loop-k l = l.operands - l.k

@@ -1,0 +1,15 @@
+-- The invariants of `state::all_within`.
+use Rattle.states.proofs.Blanks.{within-not, within-next, within_end}
+use Rattle.strided.specs.Layout.{within}
+use lib.ListN.{length, drop}
+use Prim.Native.Nat.{◌≤◌, ◌-◌}
+use native.Mathlib.Omega.{arith}
+use mathlib.Core.Path.{◌≡◌, refl}
+use borrow.Author.Rules.{rules}
+use Rattle.states.proofs.state.all_within.Given as goal
+
+abbrev pub invariant-loop-i : goal.invariant-loop-i
+invariant-loop-i l = (l.i ≤ length l.extents) × (within (drop l.i l.extents) (drop l.i l.counters) ≡ within l.extents l.counters)
+
+abbrev pub decreases-loop-i : goal.decreases-loop-i
+decreases-loop-i l = length l.extents - l.i

@@ -1,0 +1,17 @@
+-- The invariants of `state::all_zero`.
+use mathlib.Core.Path.{◌≡◌, refl}
+use Prim.Native.Nat.{◌-◌, ◌≤◌}
+use native.Mathlib.Omega.{arith}
+use lib.Dec.{eqb}
+use lib.ListN.{length, drop}
+use mathlib.Core.Bool.{◌&&◌}
+use Rattle.strided.specs.Step.{blank}
+use Rattle.states.proofs.Blanks.{each_zero, gathered_next, gathered_end}
+use borrow.Author.Rules.{rules}
+use Rattle.states.proofs.state.all_zero.Given as goal
+
+abbrev pub invariant-loop-i : goal.invariant-loop-i
+invariant-loop-i l = (l.i ≤ length l.numbers) × ((eqb l.seen 0 && blank (drop l.i l.numbers)) ≡ blank l.numbers)
+
+abbrev pub decreases-loop-i : goal.decreases-loop-i
+decreases-loop-i l = length l.numbers - l.i

@@ -1,0 +1,18 @@
+-- The invariants of `run::with_rows`.
+use mathlib.Core.Path.{◌≡◌, ◌∙◌}
+use Prim.Native.Nat.{◌-◌}
+use native.Mathlib.Omega.{arith}
+use lib.IntN.{ℤ, ◌+ℤ◌}
+use mir.Facts.{to_z-of_z}
+use mir.Syntax.{w64}
+use mir.Val.{to_z, of_z}
+use Rattle.summary.specs.Ahead.{rows_from, met}
+use Rattle.summary.specs.Meeting.{Rowing, rowing_none, rowing_run, rowing_fits, rowing_next, rowing_last, rowing_end}
+use Rattle.summary.proofs.run.with_rows.Given as goal
+
+abbrev pub invariant-loop-j : goal.invariant-loop-j
+invariant-loop-j l =
+    Rowing l.cells (to_z w64 l.by) l.count (to_z w64 l.stride) l.n (met l.cells l.initial.t (rows_from (to_z w64 l.first) (to_z w64 l.by) l.count (to_z w64 l.stride) l.n)) l.j l.t (to_z w64 l.o)
+
+abbrev pub decreases-loop-j : goal.decreases-loop-j
+decreases-loop-j l = l.count - l.j

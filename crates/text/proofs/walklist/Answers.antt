@@ -1,0 +1,22 @@
+-- `text::walklist` meets its contract: what was read is what the text says, and its listing is the text's. Assumes nothing.
+use mathlib.Core.Path.{refl, ◌∙◌}
+use mir.Facts.{to_z-of_z}
+use Rattle.laws.specs.Text.Planning.{lists_said, lists_unformed}
+use Rattle.text.proofs.Listings.{answering, said-listed}
+use borrow.Author.Rules.{rules}
+use Rattle.text.proofs.walklist.Goals as goal
+use mir.Syntax.{w64}
+
+pub returns-in-Layout : goal.returns-in-Layout
+returns-in-Layout c =
+    let room = c.args.room.now in
+    let w = c.read_text.ensures.layout _ _ _ c.in-Layout.is in
+    lists_said w.1.form room _
+    (answering (to_z-of_z {w = w64} (record { sfits = c.list_numbers.type_inv }))
+    (c.list_numbers.ensures ∙ said-listed w.1 (record { axes = refl; few = refl; all = refl }) room))
+
+pub returns-in-Unformed : goal.returns-in-Unformed
+returns-in-Unformed c =
+    let room = c.args.room.now in
+    lists_unformed (c.read_text.ensures.unformed c.in-Unformed.is) room _
+    (answering (to_z-of_z {w = w64} (record { sfits = c.negated.type_inv }) ∙ c.negated.ensures) refl)

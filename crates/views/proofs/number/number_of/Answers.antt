@@ -1,0 +1,57 @@
+-- `views::number::number_of` meets its contract. The loop keeps the figures of the axes from i on. Assumes nothing.
+use borrow.Author.Rules.{rules}
+use mathlib.Core.Path.{◌≡◌, sym, ap, ◌∙◌, subst}
+use Prim.Native.Nat.{ℕ, ◌+◌, ◌-◌, ◌≤◌, ◌<◌}
+use native.Mathlib.Omega.{arith}
+use lib.ListN.{get_or}
+use Rattle.views.specs.Tally.{tallied, numbered, Room, First}
+use Rattle.views.proofs.Tallies.{tally_from, tally_none, tally_step, tally_room, tally_first, tally_number, number_none}
+use Rattle.views.proofs.number.number_of.Goals as goal
+
+pub returns-then-rank-eq0 : goal.returns-then-rank-eq0
+returns-then-rank-eq0 c =
+    let a = c.args in
+    number_none a.rank a.e.now a.b.now a.c.now (omega (arith, c.if-rank-eq0.true))
+
+pub loop-i-init : goal.loop-i-init
+loop-i-init c =
+    let a = c.args in
+    (omega (arith, c.if-rank-eq0.false), omega arith, sym (tally_none a.rank a.e.now a.b.now a.c.now))
+
+pub tally_axis-more-requires : goal.tally_axis-more-requires
+tally_axis-more-requires c =
+    let a = c.args in
+    let j : ℕ = c.loop-i.i - 1 in
+    let i : j + 1 ≡ c.loop-i.i = omega arith in
+    subst (Room (get_or a.e.now j 0) c.width_of-width.result (get_or a.c.now j 0))
+    (ap (tally_from a.rank a.e.now a.b.now a.c.now) i ∙ sym c.loop-i.invariant.2)
+    (tally_room a.rank a.e.now a.b.now a.c.now c.requires j (omega arith) c.width_of-width.ensures)
+
+pub loop-i-preserved : goal.loop-i-preserved
+loop-i-preserved c =
+    let a = c.args in
+    let j : ℕ = c.loop-i.i - 1 in
+    let i : c.loop-i.i ≡ j + 1 = omega arith in (
+      omega arith,
+      omega arith,
+      c.tally_axis-more.ensures
+          ∙ ap (tallied (get_or a.e.now j 0) c.width_of-width.result (get_or a.c.now j 0))
+          (c.loop-i.invariant.2 ∙ ap (tally_from a.rank a.e.now a.b.now a.c.now) i)
+          ∙ tally_step a.rank a.e.now a.b.now a.c.now c.requires j (omega arith) c.width_of-width.ensures,
+    )
+
+pub number_first-requires : goal.number_first-requires
+number_first-requires c =
+    let a = c.args in
+    let i : 1 ≡ c.loop-i.i = omega arith in
+    subst (First (get_or a.e.now 0 0) c.width_of-width-2.result (get_or a.c.now 0 0))
+    (ap (tally_from a.rank a.e.now a.b.now a.c.now) i ∙ sym c.loop-i.invariant.2)
+    (tally_first a.rank a.e.now a.b.now a.c.now c.requires (omega arith) c.width_of-width-2.ensures)
+
+pub returns : goal.returns
+returns c =
+    let a = c.args in
+    let i : c.loop-i.i ≡ 1 = omega arith in
+    c.number_first.ensures
+    ∙ ap (numbered (get_or a.e.now 0 0) c.width_of-width-2.result (get_or a.c.now 0 0)) (c.loop-i.invariant.2 ∙ ap (tally_from a.rank a.e.now a.b.now a.c.now) i)
+    ∙ tally_number a.rank a.e.now a.b.now a.c.now c.requires (omega arith) c.width_of-width-2.ensures

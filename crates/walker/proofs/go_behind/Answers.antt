@@ -1,0 +1,45 @@
+-- `walker::go_behind` meets its contract. Assumes nothing.
+use Rattle.walker.proofs.Going.{may_go, gone_on, last_less, left_above, end_below, end_at, limit_less, gone_last, passed_short, passed_all}
+use borrow.Author.Rules.{rules}
+use Rattle.walker.proofs.go_behind.Goals as goal
+
+pub go_steps-requires : goal.go_steps-requires
+go_steps-requires c =
+    let k = c.requires in
+    may_go k.strides _ (limit_less k.strides k.left_value.0 _ c.if-limit-left.true) k.left_value.1
+
+pub returns-then-limit-left : goal.returns-then-limit-left
+returns-then-limit-left c =
+    let k = c.requires in
+    passed_short k.strides k.left_value.0 _ c.if-limit-left.true c.go_steps.ensures
+
+pub ends_axis-requires : goal.ends_axis-requires
+ends_axis-requires c =
+    let k = c.requires in record { by_bound = end_below k.strides k.left_value.0; left_nonzero = (left_above k.strides k.left_value.0, k.left_value.1) }
+
+pub leave-requires : goal.leave-requires
+leave-requires c =
+    let k = c.requires in record { strides = k.strides; by_nonzero = end_at k.strides k.left_value.0 (c.ends_axis.ensures c.if-ends_axis.true) }
+
+pub returns-then-ends_axis : goal.returns-then-ends_axis
+returns-then-ends_axis c =
+    let k = c.requires in
+    passed_all k.strides k.left_value.0 _ c.if-limit-left.false c.leave.ensures
+
+pub overflow_sub-left : goal.overflow_sub-left
+overflow_sub-left c = let k = c.requires in left_above k.strides k.left_value.0
+
+pub go_steps-requires-2 : goal.go_steps-requires-2
+go_steps-requires-2 c =
+    let k = c.requires in
+    may_go k.strides _ (last_less k.strides k.left_value.0) k.left_value.1
+
+pub advance-requires : goal.advance-requires
+advance-requires c =
+    let k = c.requires in
+    let g = gone_on k.strides _ (last_less k.strides k.left_value.0) c.go_steps-2.ensures in record { roomy = g.roomy; tiled = g.tiled; single = k.strides.leads.single }
+
+pub returns : goal.returns
+returns c =
+    let k = c.requires in
+    passed_all k.strides k.left_value.0 _ c.if-limit-left.false (gone_last k.strides k.left_value.0 c.go_steps-2.ensures c.advance.ensures)

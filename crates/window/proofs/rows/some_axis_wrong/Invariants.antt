@@ -1,0 +1,21 @@
+-- The invariants of `rows::some_axis_wrong`.
+use mathlib.Core.Path.{◌≡◌, sym, ◌∙◌, ap}
+use mathlib.Core.Bool.{false}
+use Prim.Native.Nat.{◌≤◌, ◌-◌}
+use native.Mathlib.Nat.{le_antisymm}
+use native.Mathlib.Omega.{arith}
+use lib.IntN.{ℤ, pos}
+use lib.ListN.{length, get_or}
+use borrow.Author.Rules.{rules}
+use Rattle.strided.specs.Base.{some_of}
+use Rattle.laws.specs.Base.Bits.{read_back}
+use Rattle.laws.specs.Refusals.Operands.{some_of_empty, some_of_step, some_of_found}
+use Rattle.window.specs.Window.{axis_wrong, axis_wrong_at}
+use Rattle.window.proofs.rows.some_axis_wrong.Given as goal
+
+-- no axis before i is wrong
+abbrev pub invariant-loop-i : goal.invariant-loop-i
+invariant-loop-i l = (l.i ≤ length l.extents) × (some_of (axis_wrong_at l.extents l.firsts l.counts l.steps) 0 l.i ≡ false)
+
+abbrev pub decreases-loop-i : goal.decreases-loop-i
+decreases-loop-i l = length l.extents - l.i

@@ -1,0 +1,18 @@
+-- `window::shifts::shifts_into` meets its contract. Assumes nothing.
+use mathlib.Core.Path.{sym, ◌∙◌}
+use borrow.Author.Rules.{rules}
+use Rattle.window.proofs.Shifting.{shifts_none, shifts_some}
+use Rattle.window.proofs.shifts.shifts_into.Goals as goal
+
+pub returns-then-has_zero : goal.returns-then-has_zero
+returns-then-has_zero c =
+    let a = c.args in
+    shifts_none a.firsts.now a.counts.now a.strides.now a.operands (sym c.has_zero.ensures ∙ c.if-has_zero.true) c.requires.operands_bound.0 _ c.requires.shifts_value
+
+pub sums_into-requires : goal.sums_into-requires
+sums_into-requires c = record { operands_bound = c.requires.operands_bound; by_index = c.requires.k_bound (sym c.has_zero.ensures ∙ c.if-has_zero.false); shifts_value = c.requires.shifts_value }
+
+pub returns : goal.returns
+returns c =
+    let a = c.args in
+    shifts_some a.firsts.now a.counts.now a.strides.now a.operands (sym c.has_zero.ensures ∙ c.if-has_zero.false) _ c.sums_into.ensures

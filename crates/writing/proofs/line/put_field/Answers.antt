@@ -1,0 +1,9 @@
+-- `writing::line::put_field` meets its contract: a comma and then the number.
+-- Assumes nothing.
+use native.Mathlib.Omega.{arith}
+use Rattle.writing.proofs.Putting.{wrote_then}
+use borrow.Author.Rules.{rules}
+use Rattle.writing.proofs.line.put_field.Goals as goal
+
+pub returns : goal.returns
+returns c = wrote_then c.put_byte-next.ensures c.put_u64.ensures (omega arith)

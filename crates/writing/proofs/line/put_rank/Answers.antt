@@ -1,0 +1,11 @@
+-- `writing::line::put_rank` meets its contract: its fields are those of a K line.
+-- Assumes nothing.
+use Rattle.writing.proofs.Lines.{line_room, line_written, rank_fields}
+use borrow.Author.Rules.{rules}
+use Rattle.writing.proofs.line.put_rank.Goals as goal
+
+pub put_line-requires : goal.put_line-requires
+put_line-requires c = line_room 75 (rank_fields _) _ _ c.requires
+
+pub returns : goal.returns
+returns c = line_written 75 (rank_fields _) c.put_line.ensures

@@ -1,0 +1,13 @@
+-- The invariants of `number::put_u64`.
+use borrow.Author.Rules.{rules}
+use native.Mathlib.Omega.{arith}
+use lib.ListN.{length-set}
+use Rattle.laws.specs.Text.Lengths.{length_big}
+use Rattle.writing.proofs.Digits.{Writing, writing_start, writing_length, writing_turn, writing_last, writing_index, writing_first}
+use Rattle.writing.proofs.number.put_u64.Given as goal
+
+abbrev pub invariant-loop-rest : goal.invariant-loop-rest
+invariant-loop-rest l = Writing l.initial.out l.at l.n l.end l.out l.i l.rest
+
+abbrev pub decreases-loop-rest : goal.decreases-loop-rest
+decreases-loop-rest l = l.rest

@@ -1,0 +1,20 @@
+-- The invariants of `plan::axes_len`.
+use borrow.Author.Rules.{rules}
+use native.Mathlib.Omega.{arith}
+use mathlib.Core.Path.{◌≡◌, ap, ◌∙◌}
+use mathlib.Core.List.{List}
+use Prim.Native.Nat.{ℕ, ◌+◌, ◌-◌, ◌*◌, ◌≤◌}
+use lib.ListN.{length, length-append}
+use Rattle.strided.specs.Base.{over, run}
+use Rattle.writing.specs.Line.{longest}
+use Rattle.writing.specs.Plan.{axis_at}
+use Rattle.writing.proofs.Axes.{run_at, run_out}
+use Rattle.writing.proofs.plan.axes_len.Given as goal
+
+abbrev pub invariant-loop-i : goal.invariant-loop-i
+invariant-loop-i l =
+    (l.k + length (over (run l.i (l.rank - l.i)) (axis_at l.operands l.e l.b l.s)) ≡ length (over (run 0 l.rank) (axis_at l.operands l.e l.b l.s)))
+    × (l.k ≤ longest * l.i) × (l.i ≤ l.rank)
+
+abbrev pub decreases-loop-i : goal.decreases-loop-i
+decreases-loop-i l = l.rank - l.i

@@ -1,0 +1,15 @@
+-- The invariants of `stretch::put_stretch`.
+use native.Mathlib.Omega.{arith}
+use mathlib.Core.Path.{◌≡◌, ap}
+use Prim.Native.Nat.{◌-◌, ◌≤◌}
+use lib.ListN.{length, take}
+use Rattle.writing.proofs.Laid.{lines_at, Before, lines_all, lines_none, before-first, row_lent, row_room, row_put, may_on, before-next, before_end}
+use Rattle.writing.proofs.Putting.{Doing, doing_start, doing_length, doing_end, wrote_is}
+use Rattle.writing.proofs.stretch.put_stretch.Given as goal
+
+abbrev pub invariant-loop-j : goal.invariant-loop-j
+invariant-loop-j l =
+    Before l.count l.operands l.d l.initial.o l.j l.o × Doing l.initial.out l.at (lines_at l.count l.size l.number l.operands l.d l.initial.o 0) l.out l.next (lines_at l.count l.size l.number l.operands l.d l.initial.o l.j)
+
+abbrev pub decreases-loop-j : goal.decreases-loop-j
+decreases-loop-j l = l.count - l.j
