@@ -5,6 +5,7 @@ use borrow.Author.Tests.{le-leb, lt-leb, eq-eqb, ne_eqb}
 use mathlib.Core.Path.{◌∙◌}
 use borrow.Author.Rules.{rules}
 use Rattle.advance.proofs.width_of.Goals as goal
+use Rattle.advance.proofs.width_of.Goals.{then-rank-gt8+else-axis-ne0, else-rank-gt8}
 
 pub returns-then-axis-ne0 : goal.returns-then-axis-ne0
 unfolding width_of
@@ -14,4 +15,7 @@ pub returns : goal.returns
 unfolding width_of
 returns c =
     c.effective.ensures
-    ∙ ⊎_elim (λ u. simp (lt-leb _ _ u.0.taken, eq-eqb _ _ u.1.left)) (λ u. simp (le-leb _ _ u.left)) c.if-rank-gt8.branch
+    ∙ elim c.if-rank-gt8.branch [
+      | then-rank-gt8+else-axis-ne0 u ↦ simp (lt-leb _ _ u.if-rank-gt8.true, eq-eqb _ _ u.if-axis-ne0.false)
+      | else-rank-gt8 u ↦ simp (le-leb _ _ u.if-rank-gt8.false)
+    ]

@@ -60,4 +60,4 @@ pub returns : goal.returns
 returns c =
     let small : c.number.result < 2 ^ 63 = omega (arith, c.number.ensures, number_small c.args.refusal) in
     let value : pos 0 -ℤ to_z w64 c.number.result ≡ negated c.args.refusal = +ℤ_idl _ ∙ ap neg_ℤ (to_z_pos w64 small ∙ ap pos c.number.ensures) in
-    to_z-of_z {w = w64} (sub-result c) ∙ value
+    to_z-of_z {w = w64} (rw value (negated_fits c.args.refusal)) ∙ value

@@ -14,6 +14,7 @@ use Rattle.strided.specs.Region.{near, far, byte_at, region_of}
 use Rattle.laws.specs.Cut.Ranges.{sum_start, sum_step, product_start, product-step}
 use Rattle.laws.specs.Cut.Saturate.{cap, capped, min-mul-left, min-mul-right, lines_sat}
 use Rattle.region.proofs.region_of.Goals as goal
+use Rattle.region.proofs.region_of.Goals.{then-s-machine, else-s-machine}
 
 -- one term more, each cut off or not
 more : (C T c t r top : ℕ) → min c top ≡ min C top → min t top ≡ min T top → r ≡ c + t → min r top ≡ min (C + T) top
@@ -50,23 +51,22 @@ loop-i-preserved c = let a = c.args in
     let M : ℕ = product (far mc bytes blocks a.k) a.tail.offset (i - a.tail.offset) in
     let ss = sum_step (near mc bytes blocks a.k) a.tail.offset i c.loop-i.invariant.0 in
     let ps = product-step (far mc bytes blocks a.k) a.tail.offset i c.loop-i.invariant.0 in
-    ⊎_elim
-    (λ c.
-    let t = c.1.ensures in (
-      omega arith,
-      omega arith,
-      omega (arith, c.2, t.1),
-      rw (ss, lt-ltb s mc.line (omega (arith, e, c.0.taken))) (more C (s * (b - 1)) c.loop-i.c _ _ top c.loop-i.invariant.3 (capped top (t.0 ∙ ap (λ (x : ℕ). x * min (b - 1) top) e) ∙ min-mul-right s (b - 1) top) c.2),
-      rw (ps, lt-ltb s mc.line (omega (arith, e, c.0.taken)), mul-one) (c.3 ∙ c.loop-i.invariant.4),
-    ))
-    (λ c. (
-      omega arith,
-      omega arith,
-      omega (arith, c.2),
-      rw (ss, le-ltb s mc.line (omega (arith, e, c.0.left)), add-zero) (capped top c.2 ∙ c.loop-i.invariant.3),
-      rw (ps, le-ltb s mc.line (omega (arith, e, c.0.left))) (c.3 ∙ c.1.ensures ∙ ap (λ (x : ℕ). min (x * b) top) c.loop-i.invariant.4 ∙ min-mul-left M b top),
-    ))
-    c.if-s-machine.branch
+    elim c.if-s-machine.branch [
+      | then-s-machine w ↦ let t = w.near_part-c.ensures in (
+        omega arith,
+        omega arith,
+        omega (arith, w.c-is, t.1),
+        rw (ss, lt-ltb s mc.line (omega (arith, e, w.if-s-machine.true))) (more C (s * (b - 1)) c.loop-i.c _ _ top c.loop-i.invariant.3 (capped top (t.0 ∙ ap (λ (x : ℕ). x * min (b - 1) top) e) ∙ min-mul-right s (b - 1) top) w.c-is),
+        rw (ps, lt-ltb s mc.line (omega (arith, e, w.if-s-machine.true)), mul-one) (w.m-is ∙ c.loop-i.invariant.4),
+      )
+      | else-s-machine w ↦ (
+        omega arith,
+        omega arith,
+        omega (arith, w.c-is),
+        rw (ss, le-ltb s mc.line (omega (arith, e, w.if-s-machine.false)), add-zero) (capped top w.c-is ∙ c.loop-i.invariant.3),
+        rw (ps, le-ltb s mc.line (omega (arith, e, w.if-s-machine.false))) (w.m-is ∙ w.times-m.ensures ∙ ap (λ (x : ℕ). min (x * b) top) c.loop-i.invariant.4 ∙ min-mul-left M b top),
+      )
+    ]
 
 pub least-requires : goal.least-requires
 least-requires c = tt
