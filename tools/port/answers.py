@@ -88,7 +88,7 @@ class Function:
         for n in range(len(rest), 0, -1):
             if key in self.arm and tuple(rest[:n]) in self.arm[key]:
                 return list(self.arm[key][tuple(rest[:n])]) + rest[n:]
-        if rest[:1] and rest[0] in ("taken", "true", "left", "false", "fact"):
+        if rest[:1] and rest[0] in ("taken", "true", "left", "false", "fact") and re.match(r"if\d|.*_test|.*-test", key):
             special = self.special.get(key, {})
             word = {"taken": "true", "left": "false"}.get(rest[0], rest[0])
             rest[0] = special.get(word, word)
@@ -148,6 +148,8 @@ class Function:
                 return self.joined(head, [first] + rest), None
             if not rest:
                 return head + "." + self.steps[key], "step:" + key
+            if any(where[: len(rest)] == tuple(rest) and len(where) > len(rest) for where in self.arm.get(key, {})):
+                return self.joined(head, self.of_step(key, rest)), "part:" + ":".join([key] + rest)
             return self.joined(head, self.of_step(key, rest)), None
         if kind and kind.startswith("step:"):
             key = kind[5:]
@@ -157,6 +159,9 @@ class Function:
             if new[0] != self.steps[key]:
                 return self.joined("c", new), None
             return self.joined(head, new[1:]), None
+        if kind and kind.startswith("part:"):
+            key, *rest = kind[5:].split(":")
+            return self.joined("c", self.of_step(key, rest + tail)), None
         if kind == "requires":
             new = self.of_clauses(["requires"] + tail, self.pre)
             if len(new) == 1 or isinstance(new[-1], tuple):
@@ -260,13 +265,15 @@ class Turner:
                 if answer:
                     answers.append(answer)
         plain = [h for h in self.helpers.values() if h["kind"] == "plain"]
-        used_in_inv = [h for h in plain if any(re.search(r"(?<!%s)%s(?!%s)" % (r"[\w'-]", re.escape(h["name"]), r"[\w'-]"), it) for it in invariants)]
+        used_in_inv = [h for h in plain if any(re.search(r"(?<!%s)(?:%s)(?!%s)" % (r"[\w'-]", "|".join(map(re.escape, h["name"].split("|"))), r"[\w'-]"), it) for it in invariants)]
         self.write(head, uses, plain, used_in_inv, invariants, answers)
 
     def unsectioned(self, part):
         m = re.match(r"((?:--[^\n]*\n)*)module _ ((?:\([^()]*\)|\{[^{}]*\}|\s)*(?:\((?:[^()]|\([^()]*\))*\)|\{[^{}]*\}|\s)*) where\n", part)
         if not m:
             return [(*split_decl(part), None)]
+        if not re.match(r"\(%s : (?:tie\.[A-Z]|%s\b)" % (W, "|".join(map(re.escape, self.places)) or "NONE"), m[2].strip()):
+            return [(m[1].rstrip("\n").split("\n") if m[1] else [], part[m.start(2) - len("module _ ") :], None)]
         inner = re.sub(r"(?m)^  ", "", part[m.end() :])
         out = []
         for it in re.split(r"\n(?:[ \t]*\n)+(?=\S)", inner):
@@ -275,11 +282,18 @@ class Turner:
         return out
 
     def name_of(self, text):
+        if text.startswith("module _ "):
+            return "|".join(re.findall(r"(?m)^  (?:abbrev )?(?:pub )?(%s) :" % W, text))
         m = re.match(r"(?:abbrev )?(?:unfoldable )?(?:pub )?(?:record )?(%s) (?:[({][^:]* )?:" % W, text)
         return m[1] if m else None
 
     def helper(self, name, notes, text, section):
         f = self.f
+        if text.startswith("module _ "):
+            if "tie." in text:
+                raise ValueError(f"section {name}: a place inside")
+            self.helpers[name] = dict(kind="plain", name=name, notes=notes, text=text, abbrev=False)
+            return
         m = DECL.match(text)
         places = "|".join(map(re.escape, self.places)) or "NONE"
         is_place = r"(?:tie\.[A-Z][\w-]*(?: (?:invariant|decreases|Inv|μ)-loop\d*)*|%s)" % places
@@ -321,7 +335,7 @@ class Turner:
         pos, out = 0, []
         # one pass: tokens, with kinds changed as lets are met
         while True:
-            m = re.compile(r"(?<![\w'-])let (%s) = " % W).search(text, pos)
+            m = re.compile(r"(?<![\w'-])let (%s)(?: : tie\.[A-Z][\w-]*(?: (?:invariant|decreases)-loop\d*)*)? = " % W).search(text, pos)
             if not m:
                 out.append(self.flat_with(text[pos:], kinds, used))
                 break
@@ -334,6 +348,12 @@ class Turner:
             bound = text[m.end() : end].strip()
             out.append(self.flat_with(text[pos : m.start()], kinds, used))
             kind = self.kind_of(bound, kinds)
+            if kind and kind.startswith("part:"):
+                kinds[m[1]] = kind
+                pos = end + len("in")
+                while pos < len(text) and text[pos] in " \n":
+                    pos += 1
+                continue
             if kind == "place":
                 kinds[m[1]] = "place"
                 pos = end + len("in")
@@ -493,6 +513,8 @@ class Turner:
 
         # a name that is not behind a dot, and not bound again
         body = re.sub(r"(?<![^\s(){};,\[\]])(%s)" % W, lambda t: by.get(t[1], t[1]), body)
+        body = re.sub(r"\(to_z w64 (l\.[\w.]+)\)", r"\1", body)
+        body = re.sub(r"to_z w64 (l\.[\w.]+)", r"\1", body)
         decl = f"abbrev pub {kind}-{loop} : goal.{kind}-{loop}\n{kind}-{loop} l ={body}"
         return "\n".join(notes + [decl])
 
@@ -537,6 +559,14 @@ class Turner:
                 svar = first[1]
             ty, used_ty = self.lets(sig, [var] if h["section"] else [svar])
             bd, used_bd = self.lets(hbody, [var])
+            more = h["section"] and re.sub(r"^\(%s : (?:[^()]|\([^()]*\))*\)\s*" % W, "", h["section"]).strip()
+            if more:
+                more, used_more = self.lets(more, [var])
+                extra = re.findall(r"[({](%s)(?: %s)* :" % (W, W), more)
+                for sib in (x for x in used_ty + used_bd if self.helpers[x]["section"] == h["section"]):
+                    again = r"(?<![\w'.-])%s(?![\w'-])" % re.escape(sib)
+                    ty, bd = (re.sub(again, f"({sib} {' '.join(extra)})", x) for x in (ty, bd))
+                ty, hparams = f"{more} → {ty}", extra + hparams
             for u in used_ty + used_bd:
                 if u != it:
                     bring(u)
@@ -550,12 +580,17 @@ class Turner:
 
         for u in used:
             bring(u)
-        wide = lambda it: re.sub(r"to_z-of_z (?!\{)", "to_z-of_z {w = w64} ", it)
+        def wide(it):
+            it = re.sub(r"to_z-of_z (?!\{)", "to_z-of_z {w = w64} ", it)
+            it = re.sub(r"\(to_z w64 (c\.loop[^\s.]*\.\w+)\)", r"\1", it)
+            return re.sub(r"to_z w64 (c\.loop[^\s.]*\.\w+)(?![\w.])", r"\1", it)
+
         body, pre = wide(body), [wide(it) for it in pre]
         if goal[1] in self.f.names["asked"] or goal[0] in self.f.names["asked"]:
             body = self.fields(body, self.f.names["asked"].get(goal[0]) or self.f.names["asked"][goal[1]])
         if pre:
             body = "\n" + "\n".join(pre) + "\n    " + body.strip()
+        unfolding = [it for it in unfolding if it not in self.helpers]
         un = f"unfolding {' '.join(unfolding)}\n" if unfolding else ""
         return "\n".join(notes + [f"pub {new} : goal.{new}\n{un}{new} c ={body}"])
 
@@ -612,8 +647,7 @@ class Turner:
         here = f"Rattle.{f.crate}.proofs." + f.path
         kept = [u for u in uses if not re.search(r"\.(Tie as tie|Statement\.\{statement\})$", u)]
         if invariants:
-            names = [h["name"] for h in used_in_inv]
-            helpers = ["\n".join(h["notes"] + [re.sub(r"(?m)^(  )?(abbrev )?(?=%s :)" % re.escape(h["name"]), lambda m: (m[1] or "") + (m[2] or "") + "pub ", h["text"], 1)]) for h in used_in_inv]
+            helpers = ["\n".join(h["notes"] + [re.sub(r"(?m)^(  )?(abbrev )?(?=(?:%s) :)" % "|".join(map(re.escape, h["name"].split("|"))), lambda m: (m[1] or "") + (m[2] or "") + "pub ", h["text"])]) for h in used_in_inv]
             text = "\n".join(head[:1] and ["-- The invariants of `%s`." % f.path.replace(".", "::")]) + "\n"
             text += "\n".join(kept + [f"use {here}.Given as goal"]) + "\n\n" + "\n\n".join(helpers + invariants) + "\n"
             open(f.folder + "/Invariants.antt", "w", encoding="utf-8").write(text)
@@ -628,7 +662,7 @@ class Turner:
             if "{w = w64}" in text_of and not any(re.search(r"[{ ]w64[,}]", it) for it in kept):
                 lines.append("use mir.Syntax.{w64}")
             if used_in_inv:
-                lines.append(f"use {here}.Invariants.{{{', '.join(h['name'] for h in used_in_inv)}}}")
+                lines.append(f"use {here}.Invariants.{{{', '.join(n for h in used_in_inv for n in h['name'].split('|'))}}}")
             text = "\n".join(head + lines) + "\n\n" + "\n\n".join(lemmas + answers) + "\n"
             open(f.folder + "/Answers.antt", "w", encoding="utf-8").write(text)
         os.remove(f.folder + "/Proof.antt")

@@ -3,7 +3,7 @@
 use Rattle.std.specs.Prelude.{◌≡◌, false, List, ℕ, ◌<◌, ℤ, pos, ◌+ℤ◌, ◌-ℤ◌, ◌*ℤ◌, length, get_or}
 use Rattle.std.proofs.Common.{sym, ap, ◌∙◌, subst, arith}
 use Rattle.std.proofs.Math.Option.{none, some}
-use Rattle.std.proofs.Math.IntN.{-ℤ-+ℤ_cancel, +ℤ_comm}
+use Rattle.std.proofs.Math.IntN.{+ℤ_comm, -ℤ-+ℤ_cancel}
 use Rattle.strided.specs.Base.{nth}
 use Rattle.strided.specs.Layout.{Within, NoZero, dot, chosen, stride_row}
 use Rattle.strided.specs.Machine.{Allowed}

@@ -27,23 +27,19 @@ copy_packed-requires c =
     let from_in : PatchIn c.args.width (length c.args.source.now) c.args.n0 c.args.n1 c.args.from = let a = c.args in
     let g = c.well_formed.1.0.1 in
     lies_in a.width (length a.source.now) a.n0 a.n1 a.from c.requires.lies_2 (omega (arith, g)) c.requires.n0_bound.0 c.requires.n0_bound.1 in
-    let e : tie.Else2 = c in
-    let s = c e in
-    let a = s.args in
+    let a = c.args in
     let f : SFits w64 a.to.step0 = search rules in
     let g : SFits w64 a.from.step0 = search rules in
     let p : to_z w64 (of_z w64 a.to.step0) ≡ pos a.width = (c.both_step.ensures c.if-both_step.true).0 in
-    let q : to_z w64 (of_z w64 a.from.step0) ≡ pos a.width = (c.both_step.ensures c.if-both_step.true).1 in record { n0_nonzero = (omega arith, omega arith, sym (to_z-of_z {w = w64} f) ∙ p, sym (to_z-of_z {w = w64} g) ∙ q); patch_in = to_in s; patch_in_2 = from_in s }
+    let q : to_z w64 (of_z w64 a.from.step0) ≡ pos a.width = (c.both_step.ensures c.if-both_step.true).1 in record { n0_nonzero = (omega arith, omega arith, sym (to_z-of_z {w = w64} f) ∙ p, sym (to_z-of_z {w = w64} g) ∙ q); patch_in = to_in; patch_in_2 = from_in }
 
 pub copy_down-requires : goal.copy_down-requires
 copy_down-requires c =
-    let g3 : tie.Else3 = c in
-    let s = c g3.before.before.before.before in
-    let a = s.args in
+    let a = c.args in
     let f : SFits w64 a.to.step0 = search rules in
     let g : SFits w64 a.from.step0 = search rules in
     let p : to_z w64 (of_z w64 a.to.step0) ≡ neg_ℤ (pos a.width) = (c.both_down.ensures c.if-both_down.true).0 in
-    let q : to_z w64 (of_z w64 a.from.step0) ≡ neg_ℤ (pos a.width) = (c.both_down.ensures c.if-both_down.true).1 in record { n0_nonzero = (omega arith, omega arith, sym (to_z-of_z {w = w64} f) ∙ p, sym (to_z-of_z {w = w64} g) ∙ q); width_bound = (s.pre.0.1, s.pre.1.0.0, s.pre.1.0.1); lies = s.pre.1.1.0; lies_2 = s.pre.1.1.1.0; apart = s.pre.1.1.1.1 }
+    let q : to_z w64 (of_z w64 a.from.step0) ≡ neg_ℤ (pos a.width) = (c.both_down.ensures c.if-both_down.true).1 in record { n0_nonzero = (omega arith, omega arith, sym (to_z-of_z {w = w64} f) ∙ p, sym (to_z-of_z {w = w64} g) ∙ q); width_bound = (c.requires.le_width.1, c.requires.n0_bound.0, c.requires.n0_bound.1); lies = c.requires.lies; lies_2 = c.requires.lies_2; apart = c.requires.apart }
 
 pub copy_fours_by_width-requires : goal.copy_fours_by_width-requires
 copy_fours_by_width-requires c =
@@ -53,8 +49,7 @@ copy_fours_by_width-requires c =
     let from_in : PatchIn c.args.width (length c.args.source.now) c.args.n0 c.args.n1 c.args.from = let a = c.args in
     let g = c.well_formed.1.0.1 in
     lies_in a.width (length a.source.now) a.n0 a.n1 a.from c.requires.lies_2 (omega (arith, g)) c.requires.n0_bound.0 c.requires.n0_bound.1 in
-    let e : tie.Else4 = c in
-    let s = c e in record { width_bound = s.pre.0.1; patch_in = to_in s; patch_in_2 = from_in s; apart = s.pre.1.1.1.1 }
+    record { width_bound = c.requires.le_width.1; patch_in = to_in; patch_in_2 = from_in; apart = c.requires.apart }
 
 pub copy_runs_by_width-requires : goal.copy_runs_by_width-requires
 copy_runs_by_width-requires c =
@@ -64,5 +59,4 @@ copy_runs_by_width-requires c =
     let from_in : PatchIn c.args.width (length c.args.source.now) c.args.n0 c.args.n1 c.args.from = let a = c.args in
     let g = c.well_formed.1.0.1 in
     lies_in a.width (length a.source.now) a.n0 a.n1 a.from c.requires.lies_2 (omega (arith, g)) c.requires.n0_bound.0 c.requires.n0_bound.1 in
-    let e : tie.Else4 = c in
-    let s = c e in record { width_bound = s.pre.0.1; patch_in = to_in s; patch_in_2 = from_in s }
+    record { width_bound = c.requires.le_width.1; patch_in = to_in; patch_in_2 = from_in }

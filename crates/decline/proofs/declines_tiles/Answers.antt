@@ -43,7 +43,6 @@ slabs_share_no_line-requires c =
     let a = c.args in record { allowed = c.requires.allowed; in_reach = subst⁻¹ (λ (w : ℕ). InReach (slabs_of a.sizes.now c.first_cut-cut.result a.rank c.loop-k.k w) a.strides.now a.extents.now) c.slab_width-width.ensures near }
 
 pub loop-k-preserved : goal.loop-k-preserved
-unfolding test
 loop-k-preserved c =
     -- the test of one operand at the cut
     let test : ℕ → Bool = let a = c.args in unshared a.machine a.sizes.now a.strides.now a.extents.now c.first_cut-cut.result a.rank in
@@ -55,7 +54,7 @@ loop-k-preserved c =
     (omega arith, every_more test l.k (told true c.if-slabs_share_no_line.true) ∙ l.invariant.1)
 
 pub returns-else-slabs_share_no_line : goal.returns-else-slabs_share_no_line
-unfolding test declined
+unfolding declined
 returns-else-slabs_share_no_line c =
     let test : ℕ → Bool = let a = c.args in unshared a.machine a.sizes.now a.strides.now a.extents.now c.first_cut-cut.result a.rank in
     -- the answer of the operands
@@ -71,7 +70,7 @@ returns-else-slabs_share_no_line c =
     rest false (every_fails_at test 0 c.loop-k.k (length c.args.sizes.now) (omega arith) (omega arith) (told false c.if-slabs_share_no_line.false))
 
 pub returns : goal.returns
-unfolding test declined
+unfolding declined
 returns c =
     let test : ℕ → Bool = let a = c.args in unshared a.machine a.sizes.now a.strides.now a.extents.now c.first_cut-cut.result a.rank in
     let rest : (r : Bool) → let a = c.args in every test 0 (length a.sizes.now) ≡ r → r ≡ declined a.machine (byte_table a.sizes.now a.strides.now) a.sizes.now (length a.sizes.now) a.extents.now a.rank a.blocks.now = λ r e. let f = c.first_cut-cut in

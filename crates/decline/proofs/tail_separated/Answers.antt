@@ -13,7 +13,6 @@ pub loop-i-init : goal.loop-i-init
 loop-i-init c = (omega arith, omega arith, every_start _ _)
 
 pub loop-i-preserved : goal.loop-i-preserved
-unfolding test
 loop-i-preserved c =
     -- the test at one axis
     let test : ℕ → Bool = apart_at c.args.machine c.args.slabs c.args.strides.now c.args.extents.now in
@@ -21,7 +20,6 @@ loop-i-preserved c =
     (omega arith, omega arith, every-step test c.args.slabs.cut l.i l.invariant.0 (sym c.keeps_apart.ensures ∙ c.if-keeps_apart.true) ∙ l.invariant.2)
 
 pub returns-else-keeps_apart : goal.returns-else-keeps_apart
-unfolding test
 returns-else-keeps_apart c =
     let test : ℕ → Bool = apart_at c.args.machine c.args.slabs c.args.strides.now c.args.extents.now in
     let l = c.loop-i in

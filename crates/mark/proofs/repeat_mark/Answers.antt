@@ -25,13 +25,11 @@ module _ (es : List ℕ) (ts : List ℤ) where
   unfolding marked mark_refused
   refuses r h = ap (λ (o : Option Refusal). marked_or o (mark_of es ts)) (sym (refused_some (refused_by (mark_rows es ts)) (sym h)))
 
-module _ (es : List ℕ) (ts : List ℤ) where
   serves : (m : Mark) → Served ≡ answered (refused_by (mark_rows es ts)) → m ≡ mark_of es ts → marked_or none m ≡ marked es ts
   unfolding marked mark_refused
   serves m h e = ap₂ marked_or (sym (served_none (refused_by (mark_rows es ts)) (sym h))) e
 
--- row 3 of one operand
-module _ (es : List ℕ) (ts : List ℤ) where
+  -- row 3 of one operand
   one-row : {b : Bool} → b ≡ (row3 (length es) 1 ts).applies → b ≡ false → length ts ≡ length es
   one-row is h = let e : length ts ≡ length es * 1 = eqb-true (length ts) (length es * 1) (not-false (eqb (length ts) (length es * 1)) (sym is ∙ h)) in omega arith
 

@@ -18,12 +18,12 @@ use Rattle.laws.specs.Base.Stores.{blank-first}
 use Rattle.laws.specs.Order.Tries.{weights_long}
 use Rattle.order.proofs.fusing_order_into.Goals as goal
 
+-- the code's test b of the total decides
 module _ (es : List ℕ) (m : ℕ) (ss : List ℤ) (u : Purpose) {b : Bool} (is : b ≡ leb (total es) 1024) where
   small : b ≡ true → run 0 (length es) ≡ fusing_order es m ss u
   unfolding fusing_order
   small h = sym (ap (λ (t : Bool). cond t (run 0 (length es)) (loop_order es m ss u)) (sym is ∙ h))
 
-module _ (es : List ℕ) (m : ℕ) (ss : List ℤ) (u : Purpose) {b : Bool} (is : b ≡ leb (total es) 1024) where
   large : b ≡ false → loop_order es m ss u ≡ fusing_order es m ss u
   unfolding fusing_order
   large h = sym (ap (λ (t : Bool). cond t (run 0 (length es)) (loop_order es m ss u)) (sym is ∙ h))

@@ -14,15 +14,14 @@ use borrow.Author.Rules.{rules}
 use Rattle.region.specs.Tail.{axes}
 use Rattle.shrink.proofs.lessen_far.Goals as goal
 
+-- the blocks b clipped at the score s are t, which the single steps start from
 module _ (mc : Machine) (bytes : List ℕ) (operands : ℕ) (costs : List ℕ) (o n rank : ℕ) (b : List ℕ) (s : ℕ) {t : List ℕ} (made : t ≡ clipped_over s costs o n b b) where
   is : t ≡ clipped s costs o n b
   is = made ∙ over_itself s costs o n b
 
-module _ (mc : Machine) (bytes : List ℕ) (operands : ℕ) (costs : List ℕ) (o n rank : ℕ) (b : List ℕ) (s : ℕ) {t : List ℕ} (made : t ≡ clipped_over s costs o n b b) where
   still-fit : ScoresFit rank costs b → ScoresFit rank costs t
   still-fit h = subst⁻¹ (λ (l : List ℕ). ScoresFit rank costs l) is (clipped_scores s costs o n rank b h)
 
-module _ (mc : Machine) (bytes : List ℕ) (operands : ℕ) (costs : List ℕ) (o n rank : ℕ) (b : List ℕ) (s : ℕ) {t : List ℕ} (made : t ≡ clipped_over s costs o n b b) where
   same_end : Least mc bytes operands costs o n b s → lessened mc bytes operands costs o n t ≡ lessened mc bytes operands costs o n b
   same_end h = ap (lessened mc bytes operands costs o n) is ∙ sym (jump mc bytes operands costs o n s b h.above)
 

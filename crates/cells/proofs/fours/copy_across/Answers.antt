@@ -13,8 +13,7 @@ use Rattle.cells.proofs.Crossing.{runs_cell, runs_first, four_copied}
 use Rattle.cells.proofs.fours.copy_across.Goals as goal
 
 pub copy_cell-requires : goal.copy_cell-requires
-copy_cell-requires c =
-    let s : tie.Start = c in record { width_bound = s.requires.0.0; cell_in = runs_first s.args.width (length s.args.destination.now) (s.args.i + 1) s.args.j 4 s.args.to s.args.i s.requires.1.0 (omega arith) (omega arith); cell_in_2 = runs_first s.args.width (length s.args.source.now) (s.args.i + 1) s.args.j 4 s.args.from s.args.i s.requires.1.1 (omega arith) (omega arith) }
+copy_cell-requires c = record { width_bound = c.requires.width_bound.0; cell_in = runs_first c.args.width (length c.args.destination.now) (c.args.i + 1) c.args.j 4 c.args.to c.args.i c.requires.runs_in (omega arith) (omega arith); cell_in_2 = runs_first c.args.width (length c.args.source.now) (c.args.i + 1) c.args.j 4 c.args.from c.args.i c.requires.runs_in_2 (omega arith) (omega arith) }
 
 pub copy_cell-requires-2 : goal.copy_cell-requires-2
 copy_cell-requires-2 c =
@@ -25,8 +24,7 @@ copy_cell-requires-2 c =
     -- ---- each cell lies in its buffer
     let to_in : (k : ℕ) → k < 4 → CellIn c.args.width (length c.args.destination.now) c.args.to c.args.i (c.args.j + k) = λ k h. runs_cell c.args.width (length c.args.destination.now) (c.args.i + 1) c.args.j 4 c.args.to c.args.i k c.requires.runs_in (omega arith) h in
     let from_in : (k : ℕ) → k < 4 → CellIn c.args.width (length c.args.source.now) c.args.from c.args.i (c.args.j + k) = λ k h. runs_cell c.args.width (length c.args.source.now) (c.args.i + 1) c.args.j 4 c.args.from c.args.i k c.requires.runs_in_2 (omega arith) h in
-    let p : tie.After-copy-cell = c in
-    let s : tie.Start = c p in record { width_bound = s.pre.0.0; cell_in = subst (λ (len : ℕ). CellIn s.args.width len s.args.to s.args.i (s.args.j + 1)) (sym (long-1 p)) (to_in s 1 (omega arith)); cell_in_2 = from_in s 1 (omega arith) }
+    record { width_bound = c.requires.width_bound.0; cell_in = subst (λ (len : ℕ). CellIn c.args.width len c.args.to c.args.i (c.args.j + 1)) (sym long-1) (to_in 1 (omega arith)); cell_in_2 = from_in 1 (omega arith) }
 
 pub copy_cell-requires-3 : goal.copy_cell-requires-3
 copy_cell-requires-3 c =
@@ -39,8 +37,7 @@ copy_cell-requires-3 c =
     ap length e ∙ moved_length d _ a.source.now _ a.width ∙ long-1 in
     let to_in : (k : ℕ) → k < 4 → CellIn c.args.width (length c.args.destination.now) c.args.to c.args.i (c.args.j + k) = λ k h. runs_cell c.args.width (length c.args.destination.now) (c.args.i + 1) c.args.j 4 c.args.to c.args.i k c.requires.runs_in (omega arith) h in
     let from_in : (k : ℕ) → k < 4 → CellIn c.args.width (length c.args.source.now) c.args.from c.args.i (c.args.j + k) = λ k h. runs_cell c.args.width (length c.args.source.now) (c.args.i + 1) c.args.j 4 c.args.from c.args.i k c.requires.runs_in_2 (omega arith) h in
-    let p : tie.After-copy-cell2 = c in
-    let s : tie.Start = c (c p) in record { width_bound = s.pre.0.0; cell_in = subst (λ (len : ℕ). CellIn s.args.width len s.args.to s.args.i (s.args.j + 2)) (sym (long-2 p)) (to_in s 2 (omega arith)); cell_in_2 = from_in s 2 (omega arith) }
+    record { width_bound = c.requires.width_bound.0; cell_in = subst (λ (len : ℕ). CellIn c.args.width len c.args.to c.args.i (c.args.j + 2)) (sym long-2) (to_in 2 (omega arith)); cell_in_2 = from_in 2 (omega arith) }
 
 pub copy_cell-requires-4 : goal.copy_cell-requires-4
 copy_cell-requires-4 c =
@@ -57,16 +54,11 @@ copy_cell-requires-4 c =
     ap length e ∙ moved_length d _ a.source.now _ a.width ∙ long-2 in
     let to_in : (k : ℕ) → k < 4 → CellIn c.args.width (length c.args.destination.now) c.args.to c.args.i (c.args.j + k) = λ k h. runs_cell c.args.width (length c.args.destination.now) (c.args.i + 1) c.args.j 4 c.args.to c.args.i k c.requires.runs_in (omega arith) h in
     let from_in : (k : ℕ) → k < 4 → CellIn c.args.width (length c.args.source.now) c.args.from c.args.i (c.args.j + k) = λ k h. runs_cell c.args.width (length c.args.source.now) (c.args.i + 1) c.args.j 4 c.args.from c.args.i k c.requires.runs_in_2 (omega arith) h in
-    let p : tie.After-copy-cell3 = c in
-    let s : tie.Start = c (c (c p)) in record { width_bound = s.pre.0.0; cell_in = subst (λ (len : ℕ). CellIn s.args.width len s.args.to s.args.i (s.args.j + 3)) (sym (long-3 p)) (to_in s 3 (omega arith)); cell_in_2 = from_in s 3 (omega arith) }
+    record { width_bound = c.requires.width_bound.0; cell_in = subst (λ (len : ℕ). CellIn c.args.width len c.args.to c.args.i (c.args.j + 3)) (sym long-3) (to_in 3 (omega arith)); cell_in_2 = from_in 3 (omega arith) }
 
 pub returns : goal.returns
 returns c =
-    let p4 : tie.After-copy-cell4 = c in
-    let p3 : tie.After-copy-cell3 = c p4 in
-    let p2 : tie.After-copy-cell2 = c p3 in
-    let p1 : tie.After-copy-cell = c p2 in
-    let a = (c p1).args in
+    let a = c.args in
     four_copied a.width a.j a.to a.from a.i a.destination.now a.source.now
-    p1.copy-cell.last.0 p2.copy-cell2.last.0 p3.copy-cell3.last.0 p4.copy-cell4.new.0
-    p1.copy-cell.ensures p2.copy-cell2.ensures p3.copy-cell3.ensures p4.copy-cell4.ensures
+    c.copy_cell.last.0 c.copy_cell-2.last.0 c.copy_cell-3.last.0 c.copy_cell-4.new.destination
+    c.copy_cell.ensures c.copy_cell-2.ensures c.copy_cell-3.ensures c.copy_cell-4.ensures

@@ -6,8 +6,7 @@ use Rattle.reading.proofs.number.read_i64.Goals as goal
 
 pub returns-in-Value : goal.returns-in-Value
 returns-in-Value c =
-    let n = c.n-1.given in
-    minus_reads c.in-To.from _ _ _ (c.behind.ensures.to _ c.in-To.is) (c.read_u64.ensures.value _ _ n.1) c.minus.ensures
+    minus_reads c.in-To.from _ _ _ (c.behind.ensures.to _ c.in-To.is) (c.read_u64.ensures.value _ _ c.in-Value.is) c.minus.ensures
 
 pub returns-in-Bad-read_u64 : goal.returns-in-Bad-read_u64
 returns-in-Bad-read_u64 c =

@@ -14,7 +14,7 @@ use Rattle.summary.proofs.run.cells_behind.Given as goal
 
 abbrev pub invariant-loop-k : goal.invariant-loop-k
 invariant-loop-k l =
-    Going l.cells (to_z w64 l.stride) l.n (met l.cells l.initial.t (run_from (to_z w64 l.last +ℤ to_z w64 l.stride) (to_z w64 l.stride) l.n)) (to_z w64 l.last) l.k l.t (to_z w64 l.o)
+    Going l.cells l.stride l.n (met l.cells l.initial.t (run_from (l.last +ℤ l.stride) l.stride l.n)) l.last l.k l.t l.o
 
 abbrev pub decreases-loop-k : goal.decreases-loop-k
 decreases-loop-k l = l.n - l.k

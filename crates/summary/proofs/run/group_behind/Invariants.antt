@@ -15,7 +15,7 @@ use Rattle.summary.proofs.run.group_behind.Given as goal
 
 abbrev pub invariant-loop-k : goal.invariant-loop-k
 invariant-loop-k l =
-    Grouping l.cells (to_z w64 l.stride) group (met l.cells l.s (run_from (to_z w64 l.last +ℤ to_z w64 l.stride) (to_z w64 l.stride) group)) l.s (to_z w64 l.last) l.k l.sum l.quiet (to_z w64 l.o)
+    Grouping l.cells l.stride group (met l.cells l.s (run_from (l.last +ℤ l.stride) l.stride group)) l.s l.last l.k l.sum l.quiet l.o
 
 abbrev pub decreases-loop-k : goal.decreases-loop-k
 decreases-loop-k l = 8 - l.k

@@ -12,7 +12,7 @@ use Rattle.summary.proofs.run.with_rows.Given as goal
 
 abbrev pub invariant-loop-j : goal.invariant-loop-j
 invariant-loop-j l =
-    Rowing l.cells (to_z w64 l.by) l.count (to_z w64 l.stride) l.n (met l.cells l.initial.t (rows_from (to_z w64 l.first) (to_z w64 l.by) l.count (to_z w64 l.stride) l.n)) l.j l.t (to_z w64 l.o)
+    Rowing l.cells l.by l.count l.stride l.n (met l.cells l.initial.t (rows_from l.first l.by l.count l.stride l.n)) l.j l.t l.o
 
 abbrev pub decreases-loop-j : goal.decreases-loop-j
 decreases-loop-j l = l.count - l.j

@@ -16,7 +16,7 @@ use Rattle.summary.proofs.run.with_run.Given as goal
 -- the summary and the first cell are no part of the loop: `whole` is what the run makes of them, and the first cell's summary fixes it
 abbrev pub invariant-loop-k : goal.invariant-loop-k
 invariant-loop-k l =
-    Running l.cells (to_z w64 l.stride) l.n (met l.cells l.initial.t (run_from (to_z w64 l.first +ℤ to_z w64 l.stride) (to_z w64 l.stride) (l.n - 1))) l.k l.t (to_z w64 l.o)
+    Running l.cells l.stride l.n (met l.cells l.initial.t (run_from (l.first +ℤ l.stride) l.stride (l.n - 1))) l.k l.t l.o
 
 abbrev pub decreases-loop-k : goal.decreases-loop-k
 decreases-loop-k l = l.n - l.k

@@ -22,8 +22,8 @@ use Rattle.summary.proofs.visits.summary_on.Given as goal
 
 abbrev pub invariant-loop-more : goal.invariant-loop-more
 invariant-loop-more l =
-    Summing l.rank l.e l.b l.s (to_z w64 l.start) l.cells l.y l.w l.number l.more l.sum l.t l.c l.o
+    Summing l.rank l.e l.b l.s l.start l.cells l.y l.w l.number l.more l.sum l.t l.c l.o
 
 abbrev pub decreases-loop-more : goal.decreases-loop-more
 decreases-loop-more l =
-    length (placed_walk (plan_of l.rank 1 l.e l.b l.s) (to_z w64 l.start ∷ [])) - l.number
+    length (placed_walk (plan_of l.rank 1 l.e l.b l.s) (l.start ∷ [])) - l.number

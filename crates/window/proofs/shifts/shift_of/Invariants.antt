@@ -14,7 +14,7 @@ use Rattle.window.proofs.Sums.{Summed, summed_start, term_small, sum_fits_lem, s
 use Rattle.window.proofs.shifts.shift_of.Given as goal
 
 abbrev pub invariant-loop-i : goal.invariant-loop-i
-invariant-loop-i l = (l.i ≤ length l.firsts) × Summed l.firsts l.strides (to_z w64 l.sum) l.i
+invariant-loop-i l = (l.i ≤ length l.firsts) × Summed l.firsts l.strides l.sum l.i
 
 abbrev pub decreases-loop-i : goal.decreases-loop-i
 decreases-loop-i l = length l.firsts - l.i
