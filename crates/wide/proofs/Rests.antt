@@ -1,8 +1,7 @@
 -- Remainders, bit by bit: what the first bits of a number leave, doubled, and the next bit. Assumes nothing.
-use mathlib.Core.Path.{◌≡◌, sym, ap, ap₂, ◌∙◌}
-use mathlib.Core.Logic.{⊎_elim}
-use Prim.Native.Nat.{ℕ, suc, ◌+◌, ◌-◌, ◌*◌, ◌/◌, ◌%◌, ◌^◌, ◌≤◌, ◌<◌}
-use native.Mathlib.Nat.{mod-eq_of_lt, mod-eq-sub-mod, mod_self, add-mod, mod-mod, two-pow-succ, pow-suc, div-div-eq-div-mul, div-one, div-eq_of_lt, mul-add, mul-one, mod-add-mod, add-mod-mod}
+use mathlib.Core.Path.{◌≡◌, sym, ap, ◌∙◌}
+use Prim.Native.Nat.{ℕ, suc, ◌+◌, ◌-◌, ◌*◌, ◌/◌, ◌%◌, ◌^◌, ◌<◌}
+use native.Mathlib.Nat.{mod-eq_of_lt, mod-eq-sub-mod, two-pow-succ, pow-suc, div-div-eq-div-mul, mul-add, mod-add-mod}
 use native.Mathlib.Omega.{arith}
 
 -- a number below twice the divisor

@@ -1,9 +1,9 @@
 -- `arrange::lay_into` meets its contract. The invariant: the first j elements are there. Assumes nothing.
-use mathlib.Core.Path.{◌≡◌, ap, ◌∙◌}
+use mathlib.Core.Path.{ap, ◌∙◌}
 use mathlib.Core.List.{List}
-use Prim.Native.Nat.{ℕ, ◌-◌, ◌≤◌}
+use Prim.Native.Nat.{ℕ}
 use native.Mathlib.Omega.{arith}
-use lib.ListN.{length, get_or, take, set}
+use lib.ListN.{get_or, set}
 use lib.Seq.{take_all}
 use Rattle.strided.specs.Base.{padded}
 use Rattle.laws.specs.Base.Filling.{fill_none}

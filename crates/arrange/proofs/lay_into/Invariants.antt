@@ -1,13 +1,8 @@
 -- The invariants of `lay_into`.
-use mathlib.Core.Path.{◌≡◌, ap, ◌∙◌}
-use mathlib.Core.List.{List}
-use Prim.Native.Nat.{ℕ, ◌-◌, ◌≤◌}
-use native.Mathlib.Omega.{arith}
-use lib.ListN.{length, get_or, take, set}
-use lib.Seq.{take_all}
+use mathlib.Core.Path.{◌≡◌}
+use Prim.Native.Nat.{◌-◌, ◌≤◌}
+use lib.ListN.{length, take}
 use Rattle.strided.specs.Base.{padded}
-use Rattle.laws.specs.Base.Filling.{fill_none}
-use Rattle.laws.specs.Base.Stores.{fill_first}
 use Rattle.arrange.proofs.lay_into.Given as goal
 
 abbrev pub invariant-loop-j : goal.invariant-loop-j

@@ -1,13 +1,12 @@
 -- `arrange::pick_into` meets its contract. The invariant: the first j elements are picked, and those behind
 -- them stand as they stood. Assumes nothing.
 use mathlib.Core.Path.{◌≡◌, sym, ap, ◌∙◌}
-use mathlib.Core.List.{List, ◌++◌}
-use Prim.Native.Nat.{ℕ, ◌-◌, ◌≤◌}
+use mathlib.Core.List.{List}
+use Prim.Native.Nat.{ℕ}
 use native.Mathlib.Omega.{arith}
-use lib.ListN.{length, get_or, take, drop, set}
+use lib.ListN.{length, get_or, take, set}
 use lib.Seq.{length-take-le}
 use Rattle.strided.specs.Base.{padded}
-use Rattle.strided.specs.Order.{pick}
 use Rattle.laws.specs.Base.Arrays.{blank-ℕ, padded-take}
 use Rattle.arrange.proofs.Turns.{picked_turn, picked-over}
 use Rattle.arrange.proofs.pick_into.Goals as goal

@@ -1,14 +1,10 @@
 -- The invariants of `pick_into`.
-use mathlib.Core.Path.{◌≡◌, sym, ap, ◌∙◌}
-use mathlib.Core.List.{List, ◌++◌}
-use Prim.Native.Nat.{ℕ, ◌-◌, ◌≤◌}
-use native.Mathlib.Omega.{arith}
-use lib.ListN.{length, get_or, take, drop, set}
-use lib.Seq.{length-take-le}
+use mathlib.Core.Path.{◌≡◌}
+use mathlib.Core.List.{◌++◌}
+use Prim.Native.Nat.{◌-◌, ◌≤◌}
+use lib.ListN.{take, drop}
 use Rattle.strided.specs.Base.{padded}
 use Rattle.strided.specs.Order.{pick}
-use Rattle.laws.specs.Base.Arrays.{blank-ℕ, padded-take}
-use Rattle.arrange.proofs.Turns.{picked_turn, picked-over}
 use Rattle.arrange.proofs.pick_into.Given as goal
 
 abbrev pub invariant-loop-j : goal.invariant-loop-j

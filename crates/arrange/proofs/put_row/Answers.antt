@@ -1,15 +1,13 @@
 -- `arrange::put_row` meets its contract. The invariant: the first j strides of the row are in the table. Assumes nothing.
-use mathlib.Core.Path.{◌≡◌, ap, ◌∙◌}
-use mathlib.Core.List.{List, ◌++◌}
-use Prim.Native.Nat.{ℕ, ◌+◌, ◌-◌, ◌*◌, ◌≤◌}
+use mathlib.Core.Path.{ap, ◌∙◌}
+use mathlib.Core.List.{List}
+use Prim.Native.Nat.{ℕ, ◌+◌, ◌*◌}
 use native.Mathlib.Omega.{arith}
-use lib.ListN.{get_or, take, set}
+use lib.ListN.{get_or, set}
 use lib.IntN.{ℤ, pos}
 use mir.Syntax.{w64}
 use mir.Val.{SFits}
 use mir.Facts.{to_z-of_z}
-use Rattle.strided.specs.Base.{padded}
-use Rattle.laws.specs.Fuse.Arrays.{pick_row, pick_rows}
 use Rattle.arrange.proofs.Turns.{row_turn, row_start, row_done}
 use Rattle.arrange.proofs.put_row.Goals as goal
 

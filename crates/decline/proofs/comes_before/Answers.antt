@@ -1,7 +1,6 @@
 -- `decline::comes_before` meets its contract: the sizes that were read are the definition's, and each answer rewrites by the test that led
 -- there. Assumes nothing.
 use borrow.Author.Tests.{eq-eqb, ne_eqb}
-use borrow.Author.Rules.{rules}
 use Rattle.decline.proofs.comes_before.Goals as goal
 
 pub returns-then-a-b : goal.returns-then-a-b

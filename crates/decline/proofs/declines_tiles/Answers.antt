@@ -1,11 +1,10 @@
 -- `decline::declines_tiles` meets its contract: each way out is an answer of `declined`. The invariant: no slabs of the operands before k
 -- share a line. The table of byte strides that `declined` looks at is never made. Assumes nothing.
-use borrow.Author.Rules.{rules}
 use native.Mathlib.Nat.{le_of_eq}
 use native.Mathlib.Omega.{arith}
 use mathlib.Core.Path.{◌≡◌, sym, ap, subst⁻¹, ◌∙◌}
 use mathlib.Core.Bool.{Bool, true, false}
-use Prim.Native.Nat.{ℕ, ◌-◌, ◌≤◌}
+use Prim.Native.Nat.{ℕ}
 use lib.ListN.{length}
 use borrow.Author.Tests.{lt-ltb, le-ltb}
 use Rattle.strided.specs.Base.{every}

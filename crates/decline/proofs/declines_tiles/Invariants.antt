@@ -1,21 +1,9 @@
 -- The invariants of `declines_tiles`.
-use borrow.Author.Rules.{rules}
-use native.Mathlib.Nat.{le_of_eq}
-use native.Mathlib.Omega.{arith}
-use mathlib.Core.Path.{◌≡◌, sym, ap, subst⁻¹, ◌∙◌}
-use mathlib.Core.Bool.{Bool, true, false}
-use Prim.Native.Nat.{ℕ, ◌-◌, ◌≤◌}
-use lib.ListN.{length}
-use borrow.Author.Tests.{lt-ltb, le-ltb}
+use mathlib.Core.Path.{◌≡◌}
+use mathlib.Core.Bool.{true}
+use Prim.Native.Nat.{◌-◌, ◌≤◌}
 use Rattle.strided.specs.Base.{every}
-use Rattle.strided.specs.Region.{byte_table}
-use Rattle.strided.specs.Decline.{passes, declined}
-use Rattle.laws.specs.Cut.Ranges.{every_none, every_more, every_fails_at, every_cong}
-use Rattle.laws.specs.Cut.Elements.{slab}
-use Rattle.laws.specs.Cut.Tables.{stride_size}
-use Rattle.decline.specs.Slabs.{slabs_of, InReach, share_none}
-use Rattle.decline.proofs.Rooms.{slabs_in_reach}
-use Rattle.decline.proofs.Passes.{unshared, passes_is}
+use Rattle.decline.proofs.Passes.{unshared}
 use Rattle.decline.proofs.declines_tiles.Given as goal
 
 abbrev pub invariant-loop-k : goal.invariant-loop-k

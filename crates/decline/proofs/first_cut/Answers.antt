@@ -1,12 +1,7 @@
 -- `decline::first_cut` meets its contract. The invariant: seeking on from axis i finds what is sought. Assumes nothing.
 use native.Mathlib.Omega.{arith}
-use mathlib.Core.Bool.{Bool}
-use mathlib.Core.List.{List}
-use mathlib.Core.Path.{◌≡◌, sym, ap, ◌∙◌}
-use Prim.Native.Nat.{ℕ, ◌-◌, ◌≤◌}
+use mathlib.Core.Path.{sym, ap, ◌∙◌}
 use native.Mathlib.Nat.{sub-zero}
-use lib.Dec.{ltb}
-use lib.ListN.{get_or}
 use borrow.Author.Tests.{lt-ltb, le-ltb}
 use Rattle.strided.specs.Base.{seek}
 use Rattle.strided.specs.Decline.{first_cut}

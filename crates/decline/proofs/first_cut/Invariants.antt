@@ -1,16 +1,12 @@
 -- The invariants of `first_cut`.
-use native.Mathlib.Omega.{arith}
 use mathlib.Core.Bool.{Bool}
 use mathlib.Core.List.{List}
-use mathlib.Core.Path.{◌≡◌, sym, ap, ◌∙◌}
+use mathlib.Core.Path.{◌≡◌}
 use Prim.Native.Nat.{ℕ, ◌-◌, ◌≤◌}
-use native.Mathlib.Nat.{sub-zero}
 use lib.Dec.{ltb}
 use lib.ListN.{get_or}
-use borrow.Author.Tests.{lt-ltb, le-ltb}
 use Rattle.strided.specs.Base.{seek}
 use Rattle.strided.specs.Decline.{first_cut}
-use Rattle.laws.specs.Cut.Ranges.{seek_none, seek_hit, seek_miss}
 use Rattle.decline.proofs.first_cut.Given as goal
 
 -- whether axis j is cut

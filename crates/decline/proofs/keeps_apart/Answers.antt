@@ -1,5 +1,4 @@
 -- `decline::keeps_apart` meets its contract: the test for whole lines, and only if it holds the span. Assumes nothing.
-use borrow.Author.Rules.{rules}
 use Rattle.laws.specs.Cut.Elements.{separates}
 use Rattle.decline.proofs.keeps_apart.Goals as goal
 

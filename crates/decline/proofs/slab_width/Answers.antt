@@ -2,7 +2,7 @@
 -- Assumes nothing.
 use native.Mathlib.Omega.{arith}
 use mathlib.Core.Path.{◌≡◌, ap, ◌∙◌}
-use Prim.Native.Nat.{ℕ, ◌+◌, ◌-◌, ◌≤◌, ◌^◌}
+use Prim.Native.Nat.{ℕ, ◌+◌, ◌≤◌, ◌^◌}
 use Rattle.strided.specs.Base.{sum}
 use Rattle.laws.specs.Base.Ranges.{sum-next}
 use Rattle.laws.specs.Cut.Ranges.{sum_none}

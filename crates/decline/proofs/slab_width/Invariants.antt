@@ -1,14 +1,9 @@
 -- The invariants of `slab_width`.
-use native.Mathlib.Omega.{arith}
-use mathlib.Core.Path.{◌≡◌, ap, ◌∙◌}
-use Prim.Native.Nat.{ℕ, ◌+◌, ◌-◌, ◌≤◌, ◌^◌}
+use mathlib.Core.Path.{◌≡◌}
+use Prim.Native.Nat.{◌+◌, ◌-◌, ◌≤◌}
 use Rattle.strided.specs.Base.{sum}
-use Rattle.laws.specs.Base.Ranges.{sum-next}
-use Rattle.laws.specs.Cut.Ranges.{sum_none}
 use Rattle.laws.specs.Cut.Rising.{way_of}
-use Rattle.laws.specs.Cut.Elements.{slab}
 use Rattle.laws.specs.Cut.Tables.{stride_size}
-use Rattle.decline.proofs.Rooms.{width_room}
 use Rattle.decline.proofs.slab_width.Given as goal
 
 abbrev pub invariant-loop-i : goal.invariant-loop-i

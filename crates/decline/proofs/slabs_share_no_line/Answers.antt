@@ -1,5 +1,4 @@
 -- `decline::slabs_share_no_line` meets its contract: each way out rewrites by the tests that led there. Assumes nothing.
-use borrow.Author.Rules.{rules}
 use borrow.Author.Tests.{eq-eqb, ne_eqb}
 use Rattle.decline.proofs.slabs_share_no_line.Goals as goal
 

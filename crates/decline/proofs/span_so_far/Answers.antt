@@ -2,8 +2,7 @@
 -- leaves room for one axis more. Assumes nothing.
 use native.Mathlib.Omega.{arith}
 use mathlib.Core.Path.{◌≡◌, sym, ap, ◌∙◌}
-use mathlib.Core.Logic.{⊎_elim}
-use Prim.Native.Nat.{ℕ, ◌+◌, ◌-◌, ◌≤◌, ◌^◌}
+use Prim.Native.Nat.{ℕ, ◌+◌, ◌≤◌, ◌^◌}
 use Rattle.laws.specs.Cut.Tables.{stride_size}
 use Rattle.laws.specs.Cut.Ranges.{sum_start, sum_step, cond_true, cond_false}
 use Rattle.laws.specs.Cut.Rising.{before, way_of, adds}

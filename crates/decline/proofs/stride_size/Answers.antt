@@ -4,7 +4,6 @@ use Prim.Native.Nat.{◌+◌, ◌*◌}
 use lib.IntN.{ℤ, pos, nat_abs}
 use lib.ListN.{get_or}
 use Rattle.laws.specs.Base.Bits.{read_back}
-use borrow.Author.Rules.{rules}
 use Rattle.decline.proofs.stride_size.Goals as goal
 
 pub returns : goal.returns

@@ -1,10 +1,9 @@
 -- `decline::tail_separated` meets its contract. The invariant: the axes from the cut to i keep the slabs apart. They are tested as they stand;
 -- the definition's order by rising stride says the same (laws, Cut/Rising). Assumes nothing.
-use borrow.Author.Rules.{rules}
 use native.Mathlib.Omega.{arith}
 use mathlib.Core.Path.{◌≡◌, sym, ap, ◌∙◌}
-use mathlib.Core.Bool.{Bool, true}
-use Prim.Native.Nat.{ℕ, ◌-◌, ◌≤◌}
+use mathlib.Core.Bool.{Bool}
+use Prim.Native.Nat.{ℕ, ◌-◌}
 use Rattle.laws.specs.Cut.Ranges.{every_start, every-step, every_fails_at}
 use Rattle.decline.specs.Slabs.{apart_at, apart_to}
 use Rattle.decline.proofs.tail_separated.Goals as goal

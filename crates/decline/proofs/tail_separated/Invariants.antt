@@ -1,11 +1,8 @@
 -- The invariants of `tail_separated`.
-use borrow.Author.Rules.{rules}
-use native.Mathlib.Omega.{arith}
-use mathlib.Core.Path.{◌≡◌, sym, ap, ◌∙◌}
-use mathlib.Core.Bool.{Bool, true}
-use Prim.Native.Nat.{ℕ, ◌-◌, ◌≤◌}
-use Rattle.laws.specs.Cut.Ranges.{every_start, every-step, every_fails_at}
-use Rattle.decline.specs.Slabs.{apart_at, apart_to}
+use mathlib.Core.Path.{◌≡◌}
+use mathlib.Core.Bool.{true}
+use Prim.Native.Nat.{◌-◌, ◌≤◌}
+use Rattle.decline.specs.Slabs.{apart_to}
 use Rattle.decline.proofs.tail_separated.Given as goal
 
 abbrev pub invariant-loop-i : goal.invariant-loop-i

@@ -4,7 +4,6 @@ use mathlib.Core.Path.{◌≡◌, ap₂}
 use Prim.Native.Nat.{ℕ, ◌*◌}
 use Rattle.laws.specs.Cut.Rising.{way_of}
 use Rattle.laws.specs.Cut.Tables.{stride_size}
-use borrow.Author.Rules.{rules}
 use Rattle.decline.proofs.way_at.Goals as goal
 
 pub overflow_mul-result : goal.overflow_mul-result

@@ -8,7 +8,6 @@ use lib.Bits.{bit_and, and_mask, and_le_r}
 use Rattle.strided.specs.Machine.{Allowed}
 use Rattle.strided.specs.declared.Machine.{Machine}
 use Rattle.laws.specs.Cut.Elements.{mod_both}
-use borrow.Author.Rules.{rules}
 use Rattle.decline.proofs.whole_lines.Goals as goal
 
 -- the low bits are the remainder by the line, a power of two

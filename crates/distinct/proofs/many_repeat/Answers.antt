@@ -3,11 +3,9 @@ use mathlib.Core.Path.{◌≡◌, refl, ap, ◌∙◌}
 use Prim.Native.Nat.{ℕ, ◌-◌}
 use native.Mathlib.Omega.{arith}
 use lib.IntN.{ℤ, pos, nat_abs}
-use lib.ListN.{length, get_or, take, replicate, length-replicate}
-use borrow.Author.Rules.{rules}
+use lib.ListN.{get_or, replicate, length-replicate}
 use Rattle.laws.specs.Base.Bits.{read_back}
-use Rattle.distinct.specs.Lists.{Rising}
-use Rattle.distinct.proofs.Layouts.{Behind, Ready, behind_starts, behind_ready, behind_more, behind_one, behind_folds, behind_ends, shared_true, shared_false}
+use Rattle.distinct.proofs.Layouts.{Ready, behind_starts, behind_ready, behind_more, behind_one, behind_folds, behind_ends, shared_true, shared_false}
 use Rattle.distinct.proofs.many_repeat.Goals as goal
 
 pub loop-i-init : goal.loop-i-init

@@ -1,13 +1,8 @@
 -- The invariants of `many_repeat`.
-use mathlib.Core.Path.{◌≡◌, refl, ap, ◌∙◌}
-use Prim.Native.Nat.{ℕ, ◌-◌}
-use native.Mathlib.Omega.{arith}
-use lib.IntN.{ℤ, pos, nat_abs}
-use lib.ListN.{length, get_or, take, replicate, length-replicate}
-use borrow.Author.Rules.{rules}
-use Rattle.laws.specs.Base.Bits.{read_back}
+use mathlib.Core.Path.{◌≡◌}
+use lib.ListN.{length, take}
 use Rattle.distinct.specs.Lists.{Rising}
-use Rattle.distinct.proofs.Layouts.{Behind, Ready, behind_starts, behind_ready, behind_more, behind_one, behind_folds, behind_ends, shared_true, shared_false}
+use Rattle.distinct.proofs.Layouts.{Behind}
 use Rattle.distinct.proofs.many_repeat.Given as goal
 
 abbrev pub invariant-loop-i : goal.invariant-loop-i

@@ -1,6 +1,5 @@
 -- `distinct::repeats` meets its contract: few cells and many answer the same. Assumes nothing.
 use mathlib.Core.Path.{sym, ◌∙◌}
-use borrow.Author.Rules.{rules}
 use borrow.Author.Tests.{leb-true}
 use Rattle.strided.specs.Layout.{total}
 use Rattle.distinct.proofs.repeats.Goals as goal

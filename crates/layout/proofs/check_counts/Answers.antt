@@ -1,6 +1,5 @@
 -- `layout::check_counts` meets its contract: its tests are rows 1 to 4 of the table, one after the other. Assumes nothing.
 use Prim.Native.Nat.{ℕ}
-use borrow.Author.Rules.{rules}
 use Rattle.strided.specs.Refusals.{count_rows}
 use Rattle.laws.specs.Refusals.Rows.{past_none, past_next, past_refused, past_served, few-axes, few_operands}
 use Rattle.layout.proofs.Table.{Passed}

@@ -1,7 +1,6 @@
 -- `layout::check_layout` meets its contract: rows 1 to 4, and where they pass 5 and 6. Assumes nothing.
 use mathlib.Core.Path.{◌≡◌, sym, ◌∙◌}
 use mathlib.Core.Option.{none}
-use borrow.Author.Rules.{rules}
 use Rattle.strided.specs.Refusals.{refused_by, count_rows}
 use Rattle.laws.specs.Refusals.Rows.{served_none}
 use Rattle.layout.proofs.Table.{counts-laid, counts-few, layout_spans, layout_counts_refuse}

@@ -1,5 +1,4 @@
 -- `layout::check_spans` meets its contract: its tests are rows 5 and 6, one after the other. Assumes nothing.
-use borrow.Author.Rules.{rules}
 use Rattle.strided.specs.Refusals.{span_rows}
 use Rattle.laws.specs.Refusals.Rows.{Past, past_none, past_next, past_refused, past_served}
 use lib.ListN.{length, drop}

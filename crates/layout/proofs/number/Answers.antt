@@ -1,9 +1,6 @@
 -- `layout::number` meets its contract: in each arm the refusal is the one that the arm names. Assumes nothing.
-use mathlib.Core.Path.{◌≡◌, sym, ap}
-use borrow.Author.Rules.{rules}
+use mathlib.Core.Path.{sym, ap}
 use Rattle.strided.specs.Refusals.{number}
-use Rattle.strided.specs.declared.Refusal.{Refusal}
-use Rattle.strided.specs.declared.Refusal.TheVariants.{Rank, Operands, StrideCount, Chosen, Total, Reach, StartCount, Offsets, State, Index, Form, TextTotal, Room, Window, CopySizes, Buffer, Repeats, ByteStrides, Ninth, Leaving, Slice, Visits, Record}
 use Rattle.layout.proofs.number.Goals as goal
 
 pub returns-in-Rank : goal.returns-in-Rank

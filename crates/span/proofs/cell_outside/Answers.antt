@@ -1,7 +1,6 @@
 -- `span::cell_outside` meets its contract. Assumes nothing.
 use mathlib.Core.Path.{◌≡◌, sym, ◌∙◌}
 use mir.Facts.{to_z-of_z}
-use borrow.Author.Rules.{rules}
 use mathlib.Core.Bool.{false}
 use Rattle.strided.specs.Layout.{has_zero}
 use Rattle.span.proofs.Sums.{full, no_cell, starts_below, start_cast, too_low, down_le, top_fits, top_test}

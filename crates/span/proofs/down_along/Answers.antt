@@ -4,7 +4,6 @@ use mir.Facts.{to_z-of_z}
 use native.Mathlib.Omega.{arith}
 use mathlib.Core.Path.{◌≡◌, ap, ◌∙◌}
 use Prim.Native.Nat.{ℕ, ◌-◌, ◌*◌}
-use borrow.Author.Rules.{rules}
 use Rattle.span.proofs.Sums.{down_is, none_down}
 use Rattle.span.proofs.down_along.Goals as goal
 use mir.Syntax.{w64}

@@ -1,14 +1,13 @@
 -- `span::down_of` meets its contract. The invariant: the sum, with what is left of it from axis i on, is the whole. Assumes nothing.
-use Prim.Native.Nat.{◌<◌, ◌*◌, ◌^◌, ◌≤◌, ◌-◌}
+use Prim.Native.Nat.{◌<◌, ◌*◌, ◌^◌, ◌-◌}
 use native.Mathlib.Nat.{zero-add}
 use native.Mathlib.Omega.{arith}
 use lib.IntN.{ℤ, nat_abs, pos}
-use lib.ListN.{length, get_or}
+use lib.ListN.{get_or}
 use mathlib.Core.Path.{◌≡◌, sym, ap, subst, ◌∙◌}
-use borrow.Author.Rules.{rules}
 use Rattle.layout.proofs.Caps.{elem_read}
 use Rattle.span.specs.Ways.{down_term}
-use Rattle.span.proofs.Sums.{Left, way, some, left_turn, left_fits, left_end}
+use Rattle.span.proofs.Sums.{way, some, left_turn, left_fits, left_end}
 use Rattle.span.proofs.down_of.Goals as goal
 
 pub loop-i-init : goal.loop-i-init

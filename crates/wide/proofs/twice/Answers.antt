@@ -1,5 +1,4 @@
 -- `wide::twice` meets its contract: what is doubled is below twice the divisor. Assumes nothing.
-use borrow.Author.Rules.{rules}
 use native.Mathlib.Omega.{arith}
 use Rattle.wide.proofs.Rests.{rest_under, rest_over}
 use Rattle.wide.proofs.twice.Goals as goal

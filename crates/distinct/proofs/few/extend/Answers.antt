@@ -1,8 +1,7 @@
 -- `distinct::few::extend` meets its contract. The invariant: the places before j hold copies. Assumes nothing.
-use Prim.Native.Nat.{◌-◌, ◌*◌}
 use native.Mathlib.Omega.{arith}
 use Rattle.distinct.proofs.Doubling.{spread_true, spread_false}
-use Rattle.distinct.proofs.Extending.{Extended, extend_starts, next_low, extend_folds, extend_more, extend_ends}
+use Rattle.distinct.proofs.Extending.{extend_starts, next_low, extend_folds, extend_more, extend_ends}
 use Rattle.distinct.proofs.few.extend.Goals as goal
 
 pub loop-j-init : goal.loop-j-init

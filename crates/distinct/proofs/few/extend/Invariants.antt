@@ -1,8 +1,6 @@
 -- The invariants of `few::extend`.
 use Prim.Native.Nat.{◌-◌, ◌*◌}
-use native.Mathlib.Omega.{arith}
-use Rattle.distinct.proofs.Doubling.{spread_true, spread_false}
-use Rattle.distinct.proofs.Extending.{Extended, extend_starts, next_low, extend_folds, extend_more, extend_ends}
+use Rattle.distinct.proofs.Extending.{Extended}
 use Rattle.distinct.proofs.few.extend.Given as goal
 
 abbrev pub invariant-loop-j : goal.invariant-loop-j

@@ -1,7 +1,6 @@
 -- `distinct::few::holds` meets its contract. The invariant: x is none of the first i. Assumes nothing.
-use Prim.Native.Nat.{◌-◌, ◌≤◌}
 use native.Mathlib.Omega.{arith}
-use Rattle.distinct.proofs.Extending.{Missing, missing_none, missing_more, looked_found, looked_missing}
+use Rattle.distinct.proofs.Extending.{missing_none, missing_more, looked_found, looked_missing}
 use Rattle.distinct.proofs.few.holds.Goals as goal
 
 pub loop-i-init : goal.loop-i-init

@@ -1,7 +1,6 @@
 -- The invariants of `few::holds`.
 use Prim.Native.Nat.{◌-◌, ◌≤◌}
-use native.Mathlib.Omega.{arith}
-use Rattle.distinct.proofs.Extending.{Missing, missing_none, missing_more, looked_found, looked_missing}
+use Rattle.distinct.proofs.Extending.{Missing}
 use Rattle.distinct.proofs.few.holds.Given as goal
 
 abbrev pub invariant-loop-i : goal.invariant-loop-i

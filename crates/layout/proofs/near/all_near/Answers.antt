@@ -1,13 +1,9 @@
 -- `layout::near::all_near` meets its contract. The invariant: what is summed, with the rest, says whether all are near. Assumes nothing.
 use mathlib.Core.Path.{◌≡◌, refl, ◌∙◌, ap}
-use mathlib.Core.Bool.{◌&&◌}
-use Prim.Native.Nat.{◌≤◌, ◌<◌, ◌-◌, ◌*◌, ◌^◌}
+use Prim.Native.Nat.{◌<◌, ◌^◌}
 use native.Mathlib.Omega.{arith}
-use lib.Dec.{eqb}
 use lib.IntN.{pos, nat_abs}
-use lib.ListN.{length, get_or, drop}
-use borrow.Author.Rules.{rules}
-use Rattle.layout.specs.Near.{near}
+use lib.ListN.{get_or}
 use Rattle.layout.proofs.Caps.{elem_read}
 use Rattle.layout.proofs.Nearness.{near_turn, near_end, near-room, near_next}
 use Rattle.layout.proofs.near.all_near.Goals as goal

@@ -1,15 +1,10 @@
 -- The invariants of `near::all_near`.
-use mathlib.Core.Path.{◌≡◌, refl, ◌∙◌, ap}
+use mathlib.Core.Path.{◌≡◌}
 use mathlib.Core.Bool.{◌&&◌}
-use Prim.Native.Nat.{◌≤◌, ◌<◌, ◌-◌, ◌*◌, ◌^◌}
-use native.Mathlib.Omega.{arith}
+use Prim.Native.Nat.{◌≤◌, ◌-◌, ◌*◌, ◌^◌}
 use lib.Dec.{eqb}
-use lib.IntN.{pos, nat_abs}
-use lib.ListN.{length, get_or, drop}
-use borrow.Author.Rules.{rules}
+use lib.ListN.{length, drop}
 use Rattle.layout.specs.Near.{near}
-use Rattle.layout.proofs.Caps.{elem_read}
-use Rattle.layout.proofs.Nearness.{near_turn, near_end, near-room, near_next}
 use Rattle.layout.proofs.near.all_near.Given as goal
 
 abbrev pub invariant-loop-i : goal.invariant-loop-i

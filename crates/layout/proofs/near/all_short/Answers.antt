@@ -1,12 +1,8 @@
 -- `layout::near::all_short` meets its contract. The invariant: what is summed, with the rest, says whether all are short. Assumes nothing.
-use mathlib.Core.Path.{◌≡◌, refl}
-use mathlib.Core.Bool.{◌&&◌}
-use Prim.Native.Nat.{◌≤◌, ◌<◌, ◌-◌, ◌*◌, ◌^◌}
+use mathlib.Core.Path.{refl}
+use Prim.Native.Nat.{◌<◌, ◌^◌}
 use native.Mathlib.Omega.{arith}
-use lib.Dec.{eqb}
-use lib.ListN.{length, get_or, drop}
-use borrow.Author.Rules.{rules}
-use Rattle.layout.specs.Near.{short}
+use lib.ListN.{get_or}
 use Rattle.layout.proofs.Nearness.{short_turn, short_end, short-room, short-next}
 use Rattle.layout.proofs.near.all_short.Goals as goal
 

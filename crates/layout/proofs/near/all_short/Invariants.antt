@@ -1,13 +1,10 @@
 -- The invariants of `near::all_short`.
-use mathlib.Core.Path.{◌≡◌, refl}
+use mathlib.Core.Path.{◌≡◌}
 use mathlib.Core.Bool.{◌&&◌}
-use Prim.Native.Nat.{◌≤◌, ◌<◌, ◌-◌, ◌*◌, ◌^◌}
-use native.Mathlib.Omega.{arith}
+use Prim.Native.Nat.{◌≤◌, ◌-◌, ◌*◌, ◌^◌}
 use lib.Dec.{eqb}
-use lib.ListN.{length, get_or, drop}
-use borrow.Author.Rules.{rules}
+use lib.ListN.{length, drop}
 use Rattle.layout.specs.Near.{short}
-use Rattle.layout.proofs.Nearness.{short_turn, short_end, short-room, short-next}
 use Rattle.layout.proofs.near.all_short.Given as goal
 
 abbrev pub invariant-loop-i : goal.invariant-loop-i

@@ -1,6 +1,5 @@
 -- `layout::rows::chosen_missing` meets its contract. Assumes nothing.
 use mathlib.Core.Path.{sym, ap}
-use borrow.Author.Rules.{rules}
 use Rattle.strided.specs.Refusals.{row4}
 use Rattle.strided.specs.declared.Purpose.{Purpose}
 use Rattle.layout.proofs.rows.chosen_missing.Goals as goal

@@ -1,7 +1,6 @@
 -- `layout::rows::machine_allowed` meets its contract: its tests are those of `allowed`, one after the other. Assumes nothing.
 use mathlib.Core.Path.{refl, sym, ◌∙◌}
 use native.Mathlib.Omega.{arith}
-use borrow.Author.Rules.{rules}
 use Rattle.laws.specs.Refusals.Record.{line_true}
 use Rattle.layout.proofs.Table.{allowed_is}
 use Rattle.layout.proofs.rows.machine_allowed.Goals as goal

@@ -5,7 +5,6 @@ use Prim.Native.Nat.{ℕ, ◌+◌, ◌-◌, ◌*◌, ◌^◌, min}
 use native.Mathlib.Nat.{add-sub_cancel_left}
 use lib.IntN.{ℤ}
 use lib.ListN.{length, take, drop}
-use borrow.Author.Rules.{rules}
 use Rattle.strided.specs.Layout.{reach}
 use Rattle.layout.proofs.rows.reach_at.Goals as goal
 

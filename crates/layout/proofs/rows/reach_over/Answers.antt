@@ -1,5 +1,4 @@
 -- `layout::rows::reach_over` meets its contract. Assumes nothing.
-use borrow.Author.Rules.{rules}
 use Rattle.laws.specs.Refusals.Operands.{operands_some}
 use Rattle.layout.specs.Laid.{row_at, far_at}
 use Rattle.layout.proofs.rows.reach_over.Goals as goal

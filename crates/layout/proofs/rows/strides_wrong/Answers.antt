@@ -2,7 +2,6 @@
 use Prim.Native.Nat.{ℕ, ◌*◌, ◌^◌, ◌≤◌, ◌<◌}
 use native.Mathlib.Nat.{mul-le-mul_right}
 use native.Mathlib.Omega.{arith}
-use borrow.Author.Rules.{rules}
 use Rattle.layout.proofs.rows.strides_wrong.Goals as goal
 
 few : (rank operands : ℕ) → rank ≤ 64 → operands ≤ 8 → rank * operands < 2 ^ 64

@@ -7,7 +7,6 @@ use borrow.Author.Tests.{le-ltb, lt-ltb}
 use Rattle.strided.specs.Layout.{total, max_u}
 use Rattle.laws.specs.Refusals.Zeros.{row5-total}
 use Rattle.layout.proofs.Totals.{fits_is, over_is}
-use borrow.Author.Rules.{rules}
 use Rattle.layout.proofs.rows.total_over.Goals as goal
 
 pub returns-in-Fits : goal.returns-in-Fits

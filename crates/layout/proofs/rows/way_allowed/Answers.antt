@@ -1,6 +1,4 @@
 -- `layout::rows::way_allowed` meets its contract. Assumes nothing.
-use mathlib.Core.Path.{sym, ◌∙◌}
-use borrow.Author.Rules.{rules}
 use borrow.Author.Tests.{eq-eqb, ne_eqb}
 use Rattle.layout.proofs.rows.way_allowed.Goals as goal
 

@@ -1,9 +1,7 @@
 -- `layout::sizes::has_zero` meets its contract. Assumes nothing.
-use mathlib.Core.Path.{◌≡◌, refl, sym, ◌∙◌, ap}
-use Prim.Native.Nat.{◌≤◌, ◌-◌}
+use mathlib.Core.Path.{refl, sym, ◌∙◌, ap}
 use native.Mathlib.Omega.{arith}
-use lib.ListN.{length, drop, drop_of_length-le}
-use borrow.Author.Rules.{rules}
+use lib.ListN.{drop_of_length-le}
 use Rattle.strided.specs.Layout.{has_zero}
 use Rattle.layout.proofs.Tests.{zero-here, zero-later}
 use Rattle.layout.proofs.sizes.has_zero.Goals as goal

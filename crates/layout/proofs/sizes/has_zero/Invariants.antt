@@ -1,11 +1,8 @@
 -- The invariants of `sizes::has_zero`.
-use mathlib.Core.Path.{◌≡◌, refl, sym, ◌∙◌, ap}
+use mathlib.Core.Path.{◌≡◌}
 use Prim.Native.Nat.{◌≤◌, ◌-◌}
-use native.Mathlib.Omega.{arith}
-use lib.ListN.{length, drop, drop_of_length-le}
-use borrow.Author.Rules.{rules}
+use lib.ListN.{length, drop}
 use Rattle.strided.specs.Layout.{has_zero}
-use Rattle.layout.proofs.Tests.{zero-here, zero-later}
 use Rattle.layout.proofs.sizes.has_zero.Given as goal
 
 -- the extents before i are not 0

@@ -1,7 +1,6 @@
 -- `layout::sizes::mul_cap` meets its contract. Assumes nothing.
 use native.Mathlib.Omega.{arith}
 use Rattle.layout.proofs.Caps.{none_is, past_is, under}
-use borrow.Author.Rules.{rules}
 use Rattle.layout.proofs.sizes.mul_cap.Goals as goal
 
 pub returns-then-a-eq0 : goal.returns-then-a-eq0

@@ -1,12 +1,9 @@
 -- `layout::sizes::reach_of` meets its contract. Assumes nothing.
 use mathlib.Core.Path.{◌∙◌, ap}
-use Prim.Native.Nat.{◌≤◌, ◌-◌}
 use native.Mathlib.Nat.{le_antisymm}
 use native.Mathlib.Omega.{arith}
 use lib.IntN.{nat_abs}
-use lib.ListN.{length}
-use borrow.Author.Rules.{rules}
-use Rattle.layout.proofs.Caps.{elem_read, Summed, summed_start, summed_turn, summed_end}
+use Rattle.layout.proofs.Caps.{elem_read, summed_start, summed_turn, summed_end}
 use Rattle.layout.proofs.sizes.reach_of.Goals as goal
 
 pub loop-i-init : goal.loop-i-init

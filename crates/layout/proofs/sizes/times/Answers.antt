@@ -2,7 +2,6 @@
 use mathlib.Core.Path.{sym}
 use Rattle.layout.specs.Held.{times_of}
 use Rattle.layout.proofs.Totals.{times_none, times_over, times_fits, times_past, held_fits, held-over}
-use borrow.Author.Rules.{rules}
 use Rattle.layout.proofs.sizes.times.Goals as goal
 
 pub returns-then-e-eq0 : goal.returns-then-e-eq0

@@ -1,13 +1,11 @@
 -- `layout::sizes::total_at_most` meets its contract. The invariant: the product of the first i extents. Assumes nothing.
-use mathlib.Core.Path.{◌≡◌, refl, sym, ◌∙◌, ap}
+use mathlib.Core.Path.{◌≡◌, refl, ◌∙◌, ap}
 use mathlib.Core.List.{List}
-use Prim.Native.Nat.{ℕ, ◌+◌, ◌-◌, ◌≤◌, ◌<◌}
+use Prim.Native.Nat.{ℕ, ◌+◌}
 use native.Mathlib.Omega.{arith}
 use lib.Dec.{leb}
-use lib.ListN.{length, take, drop}
+use lib.ListN.{take}
 use lib.Seq.{take_all}
-use borrow.Author.Rules.{rules}
-use borrow.Author.Tests.{lt-leb}
 use Rattle.strided.specs.Layout.{total}
 use Rattle.layout.specs.Held.{held}
 use Rattle.layout.proofs.Totals.{fits_is, over_is, product_turn, total_past}

@@ -1,10 +1,7 @@
 -- `layout::sizes::total_len` meets its contract. Assumes nothing.
-use mathlib.Core.Path.{◌≡◌, ◌∙◌, ap}
-use Prim.Native.Nat.{◌≤◌, ◌-◌}
+use mathlib.Core.Path.{◌∙◌, ap}
 use native.Mathlib.Omega.{arith}
-use lib.ListN.{length, take}
 use lib.Seq.{take_all}
-use borrow.Author.Rules.{rules}
 use Rattle.strided.specs.Layout.{total}
 use Rattle.layout.specs.Held.{held}
 use Rattle.layout.proofs.Totals.{total_none, total_turn}

@@ -1,13 +1,9 @@
 -- The invariants of `sizes::total_len`.
-use mathlib.Core.Path.{◌≡◌, ◌∙◌, ap}
+use mathlib.Core.Path.{◌≡◌}
 use Prim.Native.Nat.{◌≤◌, ◌-◌}
-use native.Mathlib.Omega.{arith}
 use lib.ListN.{length, take}
-use lib.Seq.{take_all}
-use borrow.Author.Rules.{rules}
 use Rattle.strided.specs.Layout.{total}
 use Rattle.layout.specs.Held.{held}
-use Rattle.layout.proofs.Totals.{total_none, total_turn}
 use Rattle.layout.proofs.sizes.total_len.Given as goal
 
 -- the total of the first i extents

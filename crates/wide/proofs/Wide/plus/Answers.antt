@@ -1,5 +1,4 @@
 -- `wide::Wide::plus` meets its contract: a carry where the low words pass 64 bits. Assumes nothing.
-use borrow.Author.Rules.{rules}
 use native.Mathlib.Omega.{arith}
 use Rattle.wide.specs.Value.{word}
 use Rattle.wide.proofs.Words.{sum_fits_lem, carry_fits}

@@ -1,8 +1,7 @@
 -- `wide::Wide::product` meets its contract: one word holds the product, or it is put together from the products of the halves.
 -- Assumes nothing.
-use borrow.Author.Rules.{rules}
 use mathlib.Core.Path.{◌≡◌, sym, ap, ◌∙◌}
-use Prim.Native.Nat.{ℕ, ◌+◌, ◌*◌, ◌/◌, ◌%◌, ◌≤◌, ◌<◌}
+use Prim.Native.Nat.{ℕ, ◌+◌, ◌*◌, ◌/◌, ◌%◌, ◌<◌}
 use native.Mathlib.Nat.{zero-mul, mul_comm, mul-le-mul_right, div-mul-le_self, le_of_eq, lt_of_le_of_lt}
 use native.Mathlib.Omega.{arith}
 use Rattle.wide.specs.Value.{word, value}

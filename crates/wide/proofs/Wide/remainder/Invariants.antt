@@ -1,10 +1,7 @@
 -- The invariants of `Wide::remainder`.
-use mathlib.Core.Path.{◌≡◌, sym, ap, ◌∙◌}
-use Prim.Native.Nat.{ℕ, ◌+◌, ◌-◌, ◌*◌, ◌/◌, ◌%◌, ◌^◌, ◌≤◌, ◌<◌}
-use native.Mathlib.Nat.{mod-lt, zero-mul}
-use native.Mathlib.Omega.{arith}
-use Rattle.wide.specs.Value.{word}
-use Rattle.wide.proofs.Rests.{front, front_none, front-all, front-next, rest_twice}
+use mathlib.Core.Path.{◌≡◌}
+use Prim.Native.Nat.{◌%◌, ◌≤◌}
+use Rattle.wide.proofs.Rests.{front}
 use Rattle.wide.proofs.Wide.remainder.Given as goal
 
 abbrev pub invariant-loop-i : goal.invariant-loop-i
