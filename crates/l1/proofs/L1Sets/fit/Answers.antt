@@ -91,8 +91,8 @@ loop-n-preserved c =
     let one : List ℕ = set b (n - 1) 1 in
     let from : List ℕ → List ℕ = fit_from a.machine a.bytes.now a.sizes.now a.rank chosenBy (n - 1) in
     elim c.if-strides-chosen.branch [
-      | then-strides-chosen+else-set_block-machine w ↦ let big : a.machine.live < load a.machine a.bytes.now a.sizes.now a.rank one = omega (arith, whole-load one, w.if-set_block-machine.ensures.0, w.4.left) in
-          (omega arith, ap from (w.5 ∙ w.if-set_block-machine.ensures.1) ∙ sym (fit_on a.machine a.bytes.now a.sizes.now a.rank chosenBy b n (omega arith) (test ∙ w.if-strides-chosen.true) big) ∙ c.loop-n.invariant.1)
+      | then-strides-chosen+else-set_block-machine w ↦ let big : a.machine.live < load a.machine a.bytes.now a.sizes.now a.rank one = omega (arith, whole-load one, w.set_block.ensures.load, w.if-set_block-machine.false) in
+          (omega arith, ap from (w.blocks-is ∙ w.set_block.ensures.blocks) ∙ sym (fit_on a.machine a.bytes.now a.sizes.now a.rank chosenBy b n (omega arith) (test ∙ w.if-strides-chosen.true) big) ∙ c.loop-n.invariant.1)
       | else-strides-chosen w ↦ (omega arith, ap from w.blocks-is ∙ sym (fit_skip a.machine a.bytes.now a.sizes.now a.rank chosenBy b n (omega arith) (test ∙ w.if-strides-chosen.false)) ∙ c.loop-n.invariant.1)
     ]
 

@@ -26,7 +26,7 @@ loop-i-preserved c = let a = c.args in
     let b : ℕ = get_or a.blocks.now i 0 in
     let e = product_by_more a.live a.blocks.now i in
     elim c.if-live-i-eq1.branch [
-      | then-live-i-eq1 w ↦ (omega arith, rw (e, eq-eqb _ _ w.if-live-i-eq1.true) (w.3 ∙ w.m-is.ensures ∙ ap (λ (x : ℕ). min (x * b) top) c.loop-i.invariant.1 ∙ min-mul-left p b top))
+      | then-live-i-eq1 w ↦ (omega arith, rw (e, eq-eqb _ _ w.if-live-i-eq1.true) (w.m-is ∙ w.sat_mul-m.ensures ∙ ap (λ (x : ℕ). min (x * b) top) c.loop-i.invariant.1 ∙ min-mul-left p b top))
       | else-live-i-eq1 w ↦ (omega arith, rw (e, ne_eqb _ _ w.if-live-i-eq1.false, mul-one) (w.m-is ∙ c.loop-i.invariant.1))
     ]
 

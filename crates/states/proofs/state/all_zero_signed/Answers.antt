@@ -22,7 +22,7 @@ pub loop-i-preserved : goal.loop-i-preserved
 loop-i-preserved c =
     let l = c.loop-i in
     let v : ℤ = get_or c.args.numbers.now l.i (pos 0) in
-    let f : Fits w64 (of_z w64 v) = Fits-of_z (record { sfits = c.bits-1.given }) in
+    let f : Fits w64 (of_z w64 v) = Fits-of_z {z = v} (record { sfits = c.bits-1.given }) in
     let h = rw (of_z-to_z {w = w64} l.auto.bits) at l.invariant.1 in
     (
       omega arith,
