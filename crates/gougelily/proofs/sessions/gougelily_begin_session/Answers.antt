@@ -20,7 +20,7 @@ lent_as f e {old} {new} {a} l = subst (λ (w : Purpose). Lent (begun (f w)) old 
 pub returns : goal.returns
 returns c =
     let a = c.args in
-    let of = given (machine_of a.line a.cache a.way a.live) a.layout-extents.now a.layout-sizes.now a.layout-strides.now in
+    let of = given (machine_of a.line a.cache a.way a.live) a.layout_extents.now a.layout_sizes.now a.layout_strides.now in
     handed (λ (s : Session). begun (of (purpose_of a.wanted a.leading)))
     c.read_numbers-numbers.ensures
     c.put_numbers.ensures

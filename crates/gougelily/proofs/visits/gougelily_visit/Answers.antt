@@ -22,20 +22,20 @@ pub returns-in-Rejected : goal.returns-in-Rejected
 returns-in-Rejected c =
     -- what is visited for a purpose
     let told : Purpose → Visited = λ u. let a = c.args in
-    visited a.extents.now a.sizes.now a.strides.now u (plan_of a.rank a.operands a.plan_extents_lem.now a.blocks.now a.plan_strides.now)
+    visited a.extents.now a.sizes.now a.strides.now u (plan_of a.rank a.operands a.plan_extents.now a.blocks.now a.plan_strides.now)
     (walk_in (walk_at a.ended.now a.counters.now a.offsets.now)) in
     visit-as told c.purpose_of.ensures c.visit_into-answer.ensures c.in-Rejected.is (to_z-of_z {w = w64} (record { sfits = c.negated.type_inv }) ∙ c.negated.ensures)
 
 pub returns-in-Ended : goal.returns-in-Ended
 returns-in-Ended c =
     let told : Purpose → Visited = λ u. let a = c.args in
-    visited a.extents.now a.sizes.now a.strides.now u (plan_of a.rank a.operands a.plan_extents_lem.now a.blocks.now a.plan_strides.now)
+    visited a.extents.now a.sizes.now a.strides.now u (plan_of a.rank a.operands a.plan_extents.now a.blocks.now a.plan_strides.now)
     (walk_in (walk_at a.ended.now a.counters.now a.offsets.now)) in
     visit-as told c.purpose_of.ensures c.visit_into-answer.ensures c.in-Ended.is refl
 
 pub returns-in-Block : goal.returns-in-Block
 returns-in-Block c =
     let told : Purpose → Visited = λ u. let a = c.args in
-    visited a.extents.now a.sizes.now a.strides.now u (plan_of a.rank a.operands a.plan_extents_lem.now a.blocks.now a.plan_strides.now)
+    visited a.extents.now a.sizes.now a.strides.now u (plan_of a.rank a.operands a.plan_extents.now a.blocks.now a.plan_strides.now)
     (walk_in (walk_at a.ended.now a.counters.now a.offsets.now)) in
     visit-as told c.purpose_of.ensures c.visit_into-answer.ensures c.in-Block.is refl
