@@ -21,30 +21,36 @@ VERSION := $(MAJOR).$(call number,MINOR).$(call number,PATCH)
 SONAME = libgougelily.so.$(MAJOR)
 SHARED = libgougelily.so.$(VERSION)
 
-SOURCES := $(shell find crates crates.txt -name '*.rt' -o -name '*.antt' -o -name crates.txt)
+# What the library and the program are compiled for: every x86-64 processor. rt itself takes x86-64-v2.
+CPU = x86-64
+SOURCES := $(shell find crates crates.txt -name out -prune -o -name '*.rt' -print -o -name '*.antt' -print -o -name crates.txt -print)
 PROVED = target/staticlib
 OUT = target/lib
 
 lib: $(OUT)/libgougelily.a $(OUT)/$(SHARED) $(OUT)/libparts.so $(OUT)/gougelily.pc
 
 $(PROVED)/lib%.a: $(filter-out crates/walklist/%,$(SOURCES))
-	rt staticlib $*
-	touch $@
+	cd crates/$* && rt lib --cpu=$(CPU)
+	mkdir -p $(PROVED)
+	cp crates/$*/out/lib$*.a $@
 
+# rt builds a program to run it.
 target/bin/walklist: $(SOURCES)
-	rt check walklist
-	touch $@
+	cd crates/walklist && rt run --cpu=$(CPU) -- --help >/dev/null
+	mkdir -p target/bin
+	cp crates/walklist/out/walklist $@
 
 $(OUT)/libgougelily.a: $(PROVED)/libgougelily.a
 	mkdir -p $(OUT)
 	cp $< $@
 
-# The archive is position-independent and has no global symbol but the public ones, so that it is linked whole as it is.
+# The archive is position-independent and has no global symbol but the public ones, so that it is linked whole as it is. Its other two names are
+# copies here, since rt ci refuses links below the repository's root.
 $(OUT)/$(SHARED): $(PROVED)/libgougelily.a
 	mkdir -p $(OUT)
 	$(CC) -shared $(LDFLAGS) -Wl,-soname,$(SONAME) -Wl,-z,defs -Wl,-z,relro -Wl,-z,now -o $@ -Wl,--whole-archive $< -Wl,--no-whole-archive
-	ln -sf $(SHARED) $(OUT)/$(SONAME)
-	ln -sf $(SONAME) $(OUT)/libgougelily.so
+	cp $@ $(OUT)/$(SONAME)
+	cp $@ $(OUT)/libgougelily.so
 
 # For the Python module alone, which explains plans by it.
 $(OUT)/libparts.so: $(PROVED)/libparts.a

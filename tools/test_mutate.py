@@ -1,42 +1,43 @@
-"""Tests of mutate: what it changes, and what it leaves alone. The prover is not asked.
+"""Tests of mutate: what it changes, what it leaves alone, and how it reads what `rt` says. The prover is not asked.
 
     python3 -B tools/test_mutate.py
 """
 
 import importlib.util
-import sys
 import tempfile
 import unittest
 from importlib.machinery import SourceFileLoader
 from pathlib import Path
 
 TOOLS = Path(__file__).resolve().parent
-sys.path.insert(0, str(TOOLS))
 LOADER = SourceFileLoader("mutate", str(TOOLS / "mutate"))
 mutate = importlib.util.module_from_spec(importlib.util.spec_from_loader("mutate", LOADER))
 LOADER.exec_module(mutate)
-import prover  # noqa: E402
 
 CODE = """// a < b stands in a comment
-ghost use lib.Dec.{ltb};
+#![tactic(auto)]
+ghost use Rattle.std.specs.Prelude.{ltb};
 use layout::least;
 pub fn below(x: u64) -> bool
-    requires { ⌜ x < 3 ⌝ }
-    ensures { λ r. ⌜ (r ≡ ltb x 2)
-        × (x < 3) ⌝ }
+    requires low { x < 3 }
+    ensures { (result ≡ ltb x 2)
+        × (x < 3) }
 {
     let mut c = [0u64; 64];
     x < 2 // not above
 }
 """
 
-SPECS = """use lib.Dec.{ltb}
+SPECS = """use Rattle.std.specs.Prelude.{ltb}
 -- below 2
 abbrev pub below : ℕ → Bool
 below x = ltb x 2
 
-pub below-two : below 2 ≡ false
-below-two = refl
+pub below_two : below 2 ≡ false
+below_two = refl
+
+unfoldable pub head {ℓ} : {A : Type ℓ} → A → List A → A
+head d (x ∷ xs) = x
 """
 
 
@@ -46,7 +47,7 @@ class Lines(unittest.TestCase):
         self.assertEqual(lines, ["pub fn below(x: u64) -> bool", "{", "let mut c = [0u64; 64];", "x < 2", "}"])
 
     def test_definitions_and_no_laws(self):
-        self.assertEqual(list(mutate.spec_lines(SPECS)), [(3, "below x = ltb x 2")])
+        self.assertEqual(list(mutate.spec_lines(SPECS)), [(3, "below x = ltb x 2"), (9, "head d (x ∷ xs) = x")])
 
 
 class Changes(unittest.TestCase):
@@ -63,31 +64,29 @@ class Changes(unittest.TestCase):
         self.assertEqual(list(mutate.changes("below x = ltb x 2", mutate.SPECS)), ["below x = leb x 2", "below x = ltb x 1"])
 
 
-LOG = """/r/crates/c/proofs/near/f/Proof.antt:8:13: error: `returns`: two types differ
-note: /r/crates/c/src/near.rt:24:1: it is not proved that what the function ensures holds when it returns (`returns`)
-/r/crates/c/proofs/near/+g+h/Proof.antt:3:1: error: `x`: `y` is not in scope
-fn c::near::f: not proved
-fn c::near::k: proved
-fn c::near::l: not proved; it calls `c::near::f`, which is not proved
+SAID = """rt: c: 0 of its 5 must-fail edits were tried by an earlier run on this machine
+rt: must-fail c/change0.edit: refused, as it must be: note: src/lib.rt:8:1: it is not proved that `ensures` holds
+rt: must-fail c/change1.edit: refused, as it must be (only because a proof file names what the edit took away, so this says little of the contract)
+rt: must-fail c/change2.edit: NOT REFUSED: the crate is still proved with this edit
+rt: must-fail c/change3.edit: BAD EDIT: it did not reach the prover; the first lines of what it said:
+src/lib.rt:29:18: error[unknown-name]: cannot find value `f` in this scope
+rt: must-fail c/change10.edit: NOT TRIED: its check was killed, most likely for memory
 """
 
 
-class Rounds(unittest.TestCase):
-    def test_a_function_is_changed_once_in_a_round(self):
-        with tempfile.TemporaryDirectory() as folder:
-            crate = Path(folder)
-            (crate / "src").mkdir()
-            (crate / "src" / "lib.rt").write_text("const N: u64 = 3;\nfn f() {\n    1 + 2\n}\npub fn g() {\n    3 + 4\n}\n")
-            path = Path("src/lib.rt")
-            functions = {name: prover.function_at(crate, path, [at]) for name, at in (("constant", 1), ("f1", 3), ("f2", 3), ("g", 6))}
-            self.assertEqual((functions["constant"], functions["f1"]), (None, ("f", path, 2, 4)))
-            self.assertEqual(prover.function_at(crate, path, [3, 6]), None)
-            self.assertEqual([list(each) for each in prover.rounds(functions)], [["constant"], ["f1", "g"], ["f2"]])
+class Outcomes(unittest.TestCase):
+    def test_what_is_said_of_each(self):
+        self.assertEqual(mutate.outcomes(SAID), {0: "killed", 1: "void", 2: "survived", 3: "void"})
 
-    def test_what_the_log_says_of_each(self):
-        path = Path("src/near.rt")
-        said = [prover.judged(LOG, (name, path, first, last)) for name, first, last in (("f", 1, 9), ("n", 20, 29), ("g", 30, 39), ("k", 40, 49), ("l", 50, 59))]
-        self.assertEqual(said, ["killed", "killed", "void", "survived", None])
+    def test_a_copy_without_edits_and_what_is_built(self):
+        with tempfile.TemporaryDirectory() as folder:
+            root, place = Path(folder, "from"), Path(folder, "to")
+            for name in ("crates.txt", "crates/c/src/lib.rt", "crates/c/out/big", "crates/c/must-fail/a.edit", "docs/page"):
+                (root / name).parent.mkdir(parents=True, exist_ok=True)
+                (root / name).write_text("")
+            place.mkdir()
+            mutate.copied(root, place)
+            self.assertEqual(sorted(str(path.relative_to(place)) for path in place.rglob("*") if path.is_file()), ["crates.txt", "crates/c/src/lib.rt"])
 
 
 if __name__ == "__main__":

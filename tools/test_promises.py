@@ -18,22 +18,21 @@ RIGHT = {
 
 The public entries, none with a precondition: `kernel::plan`, `walk::begin`, and the C functions of `gougelily`.
 
-- There is a plan. `strided/src/lib: Purpose` `Plan: planned, _⊕_` `Text: Lists`
+- There is a plan. `strided/src/lib: Purpose` `Plan: planned, ◌⊕◌` `Text: Lists`
 
-*Proved*: row 9 is exact: `laws/specs/Walk/Row9: row9-exact`. Where ports go astray: `strided/must-fail: never_cut`. The contract of `kernel::plan`.
+*Proved*: row 9 is exact: `laws/specs/Walk/Row9: row9_exact`. Where ports go astray: `strided/must-fail: never_cut`. The contract of `kernel::plan`.
 """,
     "crates/strided/src/lib.rt": "pub enum Purpose {\n    Fold,\n}\n",
-    "crates/strided/specs/Plan.antt": "unfoldable pub planned : ℕ → ℕ\nplanned n = n\n\nabbrev pub _⊕_ : ℕ → ℕ → ℕ\na ⊕ b = a\n",
+    "crates/strided/specs/Plan.antt": "unfoldable pub planned : ℕ → ℕ\nplanned n = n\n\nabbrev pub ◌⊕◌ : ℕ → ℕ → ℕ\na ⊕ b = a\n",
     "crates/strided/specs/Text.antt": "pub record Lists (n : ℕ) : Type 0 where\n  pub size : ℕ\n",
     "crates/strided/must-fail/never_cut.edit": "",
-    "crates/laws/specs/Walk/Row9.antt": "module _ (n : ℕ) where\n  pub row9-exact : n ≡ n\n",
-    "crates/kernel/src/lib.rt": """ghost use mathlib.Core.Path.{_≡_};
-ghost use lib.ListN.{length};
-ghost use Rattle·strided.specs.Plan.{planned as plannedOf};
-ghost use Rattle·kernel·specs.specs.Made.{Made};
+    "crates/laws/specs/Walk/Row9.antt": "module _ (n : ℕ) where\n  pub row9_exact {ℓ} : n ≡ n\n",
+    "crates/kernel/src/lib.rt": """ghost use Rattle.std.specs.Prelude.{◌≡◌, length};
+ghost use Rattle.strided.specs.Plan.{planned as planned_of};
+ghost use Rattle.kernel.specs.Made.{Made};
 
 fn made() -> usize
-    requires { ⌜ Made 0 ⌝ }
+    requires { Made 0 }
 {
     0
 }
@@ -41,25 +40,25 @@ fn made() -> usize
 pub fn plan<'a>(
     extents: &'a [u64],
 ) -> usize
-    ensures { λ r. ⌜ r ≡ plannedOf (length (now (extents .entry))) ⌝ }
+    ensures { result ≡ planned_of (length extents.now) }
 {
     made()
 }
 """,
     "crates/walk/src/lib.rt": "pub use states::start::begin;\n",
-    "crates/states/src/start.rt": """ghost use Rattle·strided.specs.Text.{Lists};
+    "crates/states/src/start.rt": """ghost use Rattle.strided.specs.Text.{Lists};
 
 pub fn begin(n: usize) -> usize
-    ensures { λ r. ⌜ Lists r ⌝ }
+    ensures lists { Lists result }
 {
     n
 }
 """,
-    "crates/gougelily/src/plans.rt": """ghost use Rattle·strided.specs.Plan.{planned, _⊕_};
+    "crates/gougelily/src/plans.rt": """ghost use Rattle.strided.specs.Plan.{planned, ◌⊕◌};
 
-#[no_mangle]
+#[unsafe(no_mangle)]
 pub extern "C" fn gougelily_plan(n: u64) -> u64
-    ensures { λ r. ⌜ planned n ⊕ r ⌝ }
+    ensures { planned n ⊕ result }
 {
     n
 }
@@ -92,31 +91,31 @@ class Promises(unittest.TestCase):
         self.assertEqual(judged(), (0, "2 entries and 1 C functions cite 3 definitions; docs/SPECIFICATION.md names 6; 0 wrong\n", ""))
 
     def test_a_definition_of_another_crate(self):
-        self.refused("kernel::plan cites `Made` of crate kernel", ("crates/kernel/src/lib.rt", "plannedOf (length", "Made (length"))
-        self.refused("walk::begin cites `Lists` of crate text", ("crates/states/src/start.rt", "Rattle·strided.specs", "Rattle·text.specs"))
-        self.refused("cites `_⊕_` of crate model", ("crates/gougelily/src/plans.rt", "Plan.{planned, _⊕_}", "Plan.{planned};\nghost use Rattle·model.specs.Sums.{_⊕_}"))
-        self.refused("of crate walk, not of strided", ("crates/gougelily/src/plans.rt", "planned n ⊕ r", "Rattle·walk.specs.Lent.left n r"))
-        self.refused("kernel::plan cites `Made` of crate kernel", ("crates/kernel/src/lib.rt", "plannedOf (length (now (extents .entry))) ⌝ }", "plannedOf\n        (Made (length (now (extents .entry)))) ⌝ }"))
-        self.refused("kernel::plan cites `Made` of crate kernel", ("crates/kernel/src/lib.rt", "r ≡ plannedOf (length", "let p = plannedOf in record {\n        is = Made } ≡ p (length"))
-        self.refused("by code", ("crates/gougelily/src/plans.rt", "planned n ⊕ r", "planned n ⊕ ⟦made()⟧"))
-        self.refused("cites no definition", ("crates/gougelily/src/plans.rt", "planned n ⊕ r", "n ≡ r"))
+        self.refused("kernel::plan cites `Made` of crate kernel", ("crates/kernel/src/lib.rt", "planned_of (length", "Made (length"))
+        self.refused("walk::begin cites `Lists` of crate text", ("crates/states/src/start.rt", "Rattle.strided.specs", "Rattle.text.specs"))
+        self.refused("cites `◌⊕◌` of crate model", ("crates/gougelily/src/plans.rt", "Plan.{planned, ◌⊕◌}", "Plan.{planned};\nghost use Rattle.model.specs.Sums.{◌⊕◌}"))
+        self.refused("of crate walk, not of strided", ("crates/gougelily/src/plans.rt", "planned n ⊕ result", "Rattle.walk.specs.Lent.left n result"))
+        self.refused("kernel::plan cites `Made` of crate kernel", ("crates/kernel/src/lib.rt", "planned_of (length extents.now) }", "planned_of\n        (Made (length extents.now)) }"))
+        self.refused("kernel::plan cites `Made` of crate kernel", ("crates/kernel/src/lib.rt", "result ≡ planned_of (length", "let p = planned_of in record {\n        is = Made } ≡ p (length"))
+        self.refused("by an impl", ("crates/gougelily/src/plans.rt", "planned n ⊕ result", "planned n ⊕ ⟦<u64 as Made>⟧.made"))
+        self.refused("cites no definition", ("crates/gougelily/src/plans.rt", "planned n ⊕ result", "n ≡ result"))
 
     def test_a_definition_that_the_page_does_not_name(self):
-        self.refused("kernel::plan cites `planned` of strided/specs/Plan, which", (PAGE, "Plan: planned, _⊕_", "Plan: _⊕_"))
-        self.refused("gougelily::gougelily_plan cites `_⊕_` of strided/specs/Plan, which", (PAGE, "Plan: planned, _⊕_", "Plan: planned"))
+        self.refused("kernel::plan cites `planned` of strided/specs/Plan, which", (PAGE, "Plan: planned, ◌⊕◌", "Plan: ◌⊕◌"))
+        self.refused("gougelily::gougelily_plan cites `◌⊕◌` of strided/specs/Plan, which", (PAGE, "Plan: planned, ◌⊕◌", "Plan: planned"))
         self.refused("walk::begin cites `Lists` of strided/specs/Text, which", (PAGE, " `Text: Lists`", ""))
 
     def test_a_precondition(self):
-        self.refused("kernel::plan has a precondition", ("crates/kernel/src/lib.rt", "    ensures", "    requires { ⌜ 0 < 1 ⌝ }\n    ensures"))
+        self.refused("kernel::plan has a precondition", ("crates/kernel/src/lib.rt", "    ensures", "    requires { 0 < 1 }\n    ensures"))
 
     def test_no_such_function(self):
         self.refused("walk::begin: there is no such public function", ("crates/states/src/start.rt", "pub fn begin", "fn begin"))
 
     def test_a_crate_on_top_cites_its_own_specs(self):
-        cut = """ghost use Rattle·{0}.specs.Cut.{{cut}};
+        cut = """ghost use Rattle.{0}.specs.Cut.{{cut}};
 
 pub {1}fn {2}(n: u64) -> u64
-    ensures {{ λ r. ⌜ cut n r ⌝ }}
+    ensures {{ cut n result }}
 {{
     n
 }}
@@ -124,24 +123,24 @@ pub {1}fn {2}(n: u64) -> u64
         listed = (PAGE, "`walk::begin`, and", "`walk::begin`, `window::window`, and")
         named = (PAGE, "`Text: Lists`", "`Text: Lists` `window/specs/Cut: cut`")
         spec = ("crates/window/specs/Cut.antt", "", "pub cut : ℕ → ℕ → Type 0\n")
-        own = ("crates/window/src/lib.rt", "", cut.format("window·specs", "", "window"))
+        own = ("crates/window/src/lib.rt", "", cut.format("window", "", "window"))
         exported = ("crates/gougelily/src/windows.rt", "", cut.format("window", 'extern "C" ', "gougelily_window"))
         self.assertEqual(judged(listed, named, spec, own, exported)[0], 0)
         self.refused("of window/specs/Cut, which", listed, spec, own, exported)
         self.refused("of crate session", listed, ("crates/window/src/lib.rt", "", cut.format("session", "", "window")))
 
     def test_a_name_that_is_not_there(self):
-        self.refused("there is no `planned` in strided/specs/Plan", ("crates/strided/specs/Plan.antt", "unfoldable pub planned", "unfoldable pub plannedAt"))
+        self.refused("there is no `planned` in strided/specs/Plan", ("crates/strided/specs/Plan.antt", "unfoldable pub planned", "unfoldable pub planned_at"))
         self.refused("there is no `Purpose` in strided/src/lib", ("crates/strided/src/lib.rt", "pub enum Purpose", "pub enum Aim"))
         self.refused("there is no `always_cut` in strided/must-fail", (PAGE, "never_cut", "always_cut"))
-        self.refused("there is no `row9-exact` in laws/specs/Walk/Row9", ("crates/laws/specs/Walk/Row9.antt", "row9-exact", "row9-half"))
+        self.refused("there is no `row9_exact` in laws/specs/Walk/Row9", ("crates/laws/specs/Walk/Row9.antt", "row9_exact", "row9_half"))
         self.refused("there is no file strided/specs/Plans", (PAGE, "`Plan: planned", "`Plans: planned"))
         self.refused("there is no file states/src/start", (PAGE, "`Text: Lists`", "`Text: Lists` `states/src/start: begin`"))
         self.refused("`kernel::plan` is not among the public entries", (PAGE, "precondition: `kernel::plan`, ", "precondition: "))
 
     def test_a_name_out_of_form(self):
         self.refused("is not of the form", (PAGE, "`Text: Lists`", "`Text: Lists` `Text: Lists and more`"))
-        self.refused("is not of the form", (PAGE, "`Text: Lists`", "`Text: Lists` `laws/specs/Walk/Row9.row9-exact`"))
+        self.refused("is not of the form", (PAGE, "`Text: Lists`", "`Text: Lists` `laws/specs/Walk/Row9.row9_exact`"))
 
     def test_nothing_to_read(self):
         self.refused("lists no entry", (PAGE, "The public entries", "Entries"))

@@ -233,7 +233,7 @@ class Layers(unittest.TestCase):
         status, out, wrong = self.drawn(self.listed)
         self.assertEqual((status, wrong), (0, ""))
         labels = [text.text for text in ElementTree.fromstring(out).iter("{http://www.w3.org/2000/svg}text") if text.get("class") == "c"]
-        crates = [line.partition(":")[0] for line in self.listed.splitlines() if line and not line.startswith("#")]
+        crates = [line.partition(":")[0].split()[0] for line in self.listed.splitlines() if line and not line.startswith("#")]
         self.assertEqual([label for label in labels if label in crates], crates)
 
     def test_what_is_refused(self):
