@@ -526,7 +526,7 @@ class Turner:
         m = re.match(r"(?:pub )?%s : tie\.Need[^\n]*\n((?:unfolding [^\n]*\n)?)%s((?: [^\s=]+)*) =([\s\S]*)$" % (re.escape(name), re.escape(name)), text)
         if not m:
             raise ValueError(f"form of {name}: {text[:100]}")
-        if m[3].strip() in SIMPLE:
+        if m[3].strip() in SIMPLE and not m[1]:
             return None
         params = m[2].split()
         var = params[0] if params else None

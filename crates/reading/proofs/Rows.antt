@@ -36,9 +36,9 @@ module _ {A : Type 0} (g : A → List ℕ) (Fits : A → Type 0) where
 
   -- a row is longer than its numbers are many
   pub row_long : {t : List ℕ} (vs : List A) {rest : List ℕ} → RowHere g Fits t vs rest → length vs + length rest < length t
-  row_long [] h = let l = ap length h.form in omega arith
-  row_long {t} (v ∷ vs) {rest} h =
-      let l = row_long vs (other_fields h) in
+  row_long {t = t} [] h = let l = ap length h.form in omega arith
+  row_long {t = t} (v ∷ vs) {rest = rest} h =
+      let l = row_long {t = over vs (celled g) ++ (10 ∷ rest)} vs (other_fields h) in
       let f : length t ≡ length (celled g v) + length (over vs (celled g) ++ (10 ∷ rest)) = ap length (first_field h).form ∙ length-append (celled g v) _ in
       omega arith
 

@@ -10,6 +10,7 @@ use Rattle.strided.specs.Region.{byte_at}
 use Rattle.strided.specs.Cut.{least_byte}
 use Rattle.laws.specs.Cut.Ranges.{least_first, least_more}
 use Rattle.block.proofs.least_byte.Goals as goal
+use Rattle.block.proofs.least_byte.Goals.{then-x-m, else-x-m}
 use Rattle.block.proofs.least_byte.Invariants.{leastOf}
 
 pub loop-k-init : goal.loop-k-init
@@ -19,7 +20,10 @@ pub loop-k-preserved : goal.loop-k-preserved
 loop-k-preserved c = let a = c.args in
     let l = c.loop-k in
     let st = least_more (leastOf a.bytes.now a.tail.offset a.tail.rank) l.k l.invariant.0 in
-    ⊎_elim (λ w. omega (arith, c.least_byte_at-x.ensures)) (λ w. omega (arith, c.least_byte_at-x.ensures)) c.if-x-m.branch
+    elim c.if-x-m.branch [
+      | then-x-m w ↦ omega (arith, c.least_byte_at-x.ensures)
+      | else-x-m w ↦ omega (arith, c.least_byte_at-x.ensures)
+    ]
 
 pub returns : goal.returns
 unfolding least_byte

@@ -9,6 +9,7 @@ use Rattle.strided.specs.Base.{least}
 use Rattle.strided.specs.Cut.{rank_at, least_rank}
 use Rattle.laws.specs.Cut.Ranges.{least_first, least_more}
 use Rattle.block.proofs.least_rank.Goals as goal
+use Rattle.block.proofs.least_rank.Goals.{then-x-m, else-x-m}
 use Rattle.block.proofs.least_rank.Invariants.{leastOf}
 
 pub loop-k-init : goal.loop-k-init
@@ -18,7 +19,10 @@ pub loop-k-preserved : goal.loop-k-preserved
 loop-k-preserved c = let a = c.args in
     let l = c.loop-k in
     let st = least_more (leastOf a.table.now a.tail.offset a.tail.rank) l.k l.invariant.0 in
-    ⊎_elim (λ w. omega (arith, c.least_in_row-x.ensures)) (λ w. omega (arith, c.least_in_row-x.ensures)) c.if-x-m.branch
+    elim c.if-x-m.branch [
+      | then-x-m w ↦ omega (arith, c.least_in_row-x.ensures)
+      | else-x-m w ↦ omega (arith, c.least_in_row-x.ensures)
+    ]
 
 pub returns : goal.returns
 unfolding least_rank

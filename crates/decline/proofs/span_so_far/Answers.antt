@@ -10,6 +10,7 @@ use Rattle.laws.specs.Cut.Rising.{before, way_of, adds}
 use Rattle.decline.specs.Slabs.{span_to}
 use Rattle.decline.proofs.Rooms.{tail-room}
 use Rattle.decline.proofs.span_so_far.Goals as goal
+use Rattle.decline.proofs.span_so_far.Goals.{then-comes_before, else-comes_before}
 
 pub loop-j-init : goal.loop-j-init
 loop-j-init c = let a = c.args in
@@ -35,10 +36,10 @@ loop-j-preserved c = let a = c.args in
     let st = sum_step (adds f a.extents.now a.i) a.slabs.cut l.j l.invariant.0 in
     let way : ℕ = way_of f a.extents.now l.j in
     let t = c.comes_before.ensures in
-    ⊎_elim
-    (λ w. (omega arith, omega arith, omega (arith, st, w.1.ensures, cond_true (before f a.i l.j) way 0 (sym t ∙ w.0.taken))))
-    (λ w. (omega arith, omega arith, omega (arith, st, cond_false (before f a.i l.j) way 0 (sym t ∙ w.0.left))))
-    c.if-comes_before.branch
+    elim c.if-comes_before.branch [
+      | then-comes_before w ↦ (omega arith, omega arith, omega (arith, st, w.way_at-s.ensures, cond_true (before f a.i l.j) way 0 (sym t ∙ w.if-comes_before.true)))
+      | else-comes_before w ↦ (omega arith, omega arith, omega (arith, st, cond_false (before f a.i l.j) way 0 (sym t ∙ w.if-comes_before.false)))
+    ]
 
 pub returns : goal.returns
 returns c = let a = c.args in

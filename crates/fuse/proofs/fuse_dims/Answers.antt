@@ -11,6 +11,7 @@ use Rattle.strided.specs.Layout.{Axis}
 use Rattle.laws.specs.Fuse.Places.{axis_at, column_by}
 use Rattle.fuse.proofs.Fusing.{Done, done_first, turn_left, turn_taken, joined_fits}
 use Rattle.fuse.proofs.fuse_dims.Goals as goal
+use Rattle.fuse.proofs.fuse_dims.Goals.{then-can_fuse, else-can_fuse}
 
 pub loop-k-init : goal.loop-k-init
 loop-k-init c =
@@ -40,12 +41,12 @@ loop-k-preserved c =
     let long : length E ≡ c.args.rank = length-take-le c.args.rank c.args.extents.now (omega (arith, c.requires.layout.few-axes, c.requires.extents.0)) in
     let few = c.requires.layout.few-axes in (
       omega arith,
-      ⊎_elim
-          (λ w. turn_taken col E c.args.rank c.loop-k.k c.loop-k.invariant.0 c.loop-k-test.true long few c.loop-k.extents c.if-can_fuse.extents c.loop-k.invariant.1
-          c.can_fuse.result c.can_fuse.ensures w.0.taken w.1)
-          (λ w. turn_left col E c.args.rank c.loop-k.k c.loop-k.invariant.0 c.loop-k-test.true long few c.loop-k.extents c.if-can_fuse.extents c.loop-k.invariant.1
-          c.can_fuse.result c.can_fuse.ensures w.0.left w.1)
-          c.if-can_fuse.branch,
+      elim c.if-can_fuse.branch [
+        | then-can_fuse w ↦ turn_taken col E c.args.rank c.loop-k.k c.loop-k.invariant.0 c.loop-k-test.true long few c.loop-k.extents c.if-can_fuse.extents c.loop-k.invariant.1
+            c.can_fuse.result c.can_fuse.ensures w.if-can_fuse.true w.extents-is
+        | else-can_fuse w ↦ turn_left col E c.args.rank c.loop-k.k c.loop-k.invariant.0 c.loop-k-test.true long few c.loop-k.extents c.if-can_fuse.extents c.loop-k.invariant.1
+            c.can_fuse.result c.can_fuse.ensures w.if-can_fuse.false w.extents-is
+      ],
     )
 
 pub returns : goal.returns

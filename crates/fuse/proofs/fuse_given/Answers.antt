@@ -17,6 +17,7 @@ use Rattle.fuse.specs.Named.{given}
 use Rattle.fuse.proofs.Given.{fuses_given}
 use Rattle.fuse.proofs.Fusing.{Done, done_first, turn_left, turn_taken, joined_fits}
 use Rattle.fuse.proofs.fuse_given.Goals as goal
+use Rattle.fuse.proofs.fuse_given.Goals.{then-can_fuse, else-can_fuse}
 
 pub loop-k-init : goal.loop-k-init
 loop-k-init c =
@@ -51,12 +52,12 @@ loop-k-preserved c =
     fuses_given c.args.rank c.requires.layout.few-axes c.args.strides.now c.args.operands (i - 1) i (omega (arith, c.loop-k-test)) (omega (arith, c.loop-k-test, c.loop-k.invariant.0)) v _ _ e in
     let few = c.requires.layout.few-axes in (
       omega arith,
-      ⊎_elim
-          (λ w. turn_taken col E c.args.rank c.loop-k.k c.loop-k.invariant.0 c.loop-k-test.true long few c.loop-k.extents c.if-can_fuse.extents c.loop-k.invariant.1
-          c.can_fuse.result (tested c.can_fuse.result c.can_fuse.ensures) w.0.taken w.1)
-          (λ w. turn_left col E c.args.rank c.loop-k.k c.loop-k.invariant.0 c.loop-k-test.true long few c.loop-k.extents c.if-can_fuse.extents c.loop-k.invariant.1
-          c.can_fuse.result (tested c.can_fuse.result c.can_fuse.ensures) w.0.left w.1)
-          c.if-can_fuse.branch,
+      elim c.if-can_fuse.branch [
+        | then-can_fuse w ↦ turn_taken col E c.args.rank c.loop-k.k c.loop-k.invariant.0 c.loop-k-test.true long few c.loop-k.extents c.if-can_fuse.extents c.loop-k.invariant.1
+            c.can_fuse.result (tested c.can_fuse.result c.can_fuse.ensures) w.if-can_fuse.true w.extents-is
+        | else-can_fuse w ↦ turn_left col E c.args.rank c.loop-k.k c.loop-k.invariant.0 c.loop-k-test.true long few c.loop-k.extents c.if-can_fuse.extents c.loop-k.invariant.1
+            c.can_fuse.result (tested c.can_fuse.result c.can_fuse.ensures) w.if-can_fuse.false w.extents-is
+      ],
     )
 
 pub returns : goal.returns

@@ -2,14 +2,15 @@
 use mathlib.Core.Path.{◌≡◌, refl}
 use mathlib.Core.List.{List}
 use Prim.Native.Nat.{ℕ}
-use lib.ListN.{length}
+use lib.ListN.{length, take}
 use borrow.Author.Rules.{rules}
 use Rattle.strided.specs.Base.{padded}
 use Rattle.strided.specs.Layout.{extents}
 use Rattle.strided.specs.Plan.{stride_table}
 use Rattle.arrange.specs.Axes.{InOrder}
 use Rattle.fuse.specs.Named.{given}
-use Rattle.fuse.proofs.Keeping.{stand_few, stand_long, stand_inside, stand_rank, stand_extents, stand_strides}
+use Rattle.fuse.specs.Kept.{stays}
+use Rattle.fuse.proofs.Keeping.{Stand, stand_few, stand_long, stand_inside, stand_rank, stand_extents, stand_strides}
 use Rattle.fuse.proofs.Planning.{named, put_long, put-padded, made_long, as_planned}
 use Rattle.fuse.proofs.Given.{in_given, laid-given}
 use Rattle.fuse.proofs.given_axes_into.Goals as goal
@@ -34,7 +35,7 @@ pick_strides_into-requires c =
     let m : ℕ = c.args.operands in
     let put = laid-given c.args.extents.now c.requires.layout.0 c.lay_into.ensures in
     let l = made_long inside put c.fuse_given.ensures in
-    let w = (c.kept_given_into-count.ensures.count, (c.kept_given_into-count.ensures.extents, c.kept_given_into-count.ensures.axes)) in record { operands = (t.few_operands, t.rows); order = (stand_long ss n m (given n) _ n l t.few-axes w, stand_few ss n m (given n) _ n l t.few-axes w); inside = stand_inside ss n m (given n) _ n l t.few-axes w t.inside; table = c.requires.zeros.1 }
+    let w : Stand c.fuse_given.new.extents (given (length c.args.extents.now)) (stays (take (length c.args.extents.now) c.fuse_given.new.extents)) c.kept_given_into-count.new.extents c.kept_given_into-count.new.axes c.kept_given_into-count.result = (c.kept_given_into-count.ensures.count, (c.kept_given_into-count.ensures.extents, c.kept_given_into-count.ensures.axes)) in record { operands = (t.few_operands, t.rows); order = (stand_long ss n m (given n) _ n l t.few-axes w, stand_few ss n m (given n) _ n l t.few-axes w); inside = stand_inside ss n m (given n) _ n l t.few-axes w t.inside; table = c.requires.zeros.1 }
 
 pub returns : goal.returns
 returns c =
@@ -46,4 +47,4 @@ returns c =
     let put = laid-given c.args.extents.now c.requires.layout.0 c.lay_into.ensures in
     let made = c.fuse_given.ensures in
     let l = made_long inside put made in
-    let w = (c.kept_given_into-count.ensures.count, (c.kept_given_into-count.ensures.extents, c.kept_given_into-count.ensures.axes)) in record { rank = as_planned inside put made length (stand_rank ss n m (given n) _ n l t.few-axes w); extents = as_planned inside put made (λ xs. padded 64 0 (extents xs)) (stand_extents ss n m (given n) _ n l t.few-axes w); strides = as_planned inside put made (λ xs. stride_table xs m) (stand_strides ss n m (given n) _ n l t.few-axes w c.pick_strides_into.ensures) }
+    let w : Stand c.fuse_given.new.extents (given (length c.args.extents.now)) (stays (take (length c.args.extents.now) c.fuse_given.new.extents)) c.kept_given_into-count.new.extents c.kept_given_into-count.new.axes c.kept_given_into-count.result = (c.kept_given_into-count.ensures.count, (c.kept_given_into-count.ensures.extents, c.kept_given_into-count.ensures.axes)) in record { rank = as_planned inside put made length (stand_rank ss n m (given n) _ n l t.few-axes w); extents = as_planned inside put made (λ xs. padded 64 0 (extents xs)) (stand_extents ss n m (given n) _ n l t.few-axes w); strides = as_planned inside put made (λ xs. stride_table xs m) (stand_strides ss n m (given n) _ n l t.few-axes w c.pick_strides_into.ensures) }

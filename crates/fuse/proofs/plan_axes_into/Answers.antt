@@ -22,4 +22,4 @@ returns c =
     let t = c.requires.layout in
     let put = c.pick_into.ensures in
     let made = c.fuse_dims.ensures in
-    let found = (c.compress_dims.ensures.rank, (c.compress_dims.ensures.extents, c.compress_dims.ensures.strides)) in record { rank = as_planned t put made length found.0; extents = as_planned t put made (λ xs. padded 64 0 (extents xs)) found.1.0; strides = as_planned t put made (λ xs. stride_table xs m) found.1.1 }
+    let found = c.compress_dims.ensures in record { rank = as_planned t put made length found.rank; extents = as_planned t put made (λ xs. padded 64 0 (extents xs)) found.extents; strides = as_planned t put made (λ xs. stride_table xs m) found.strides }

@@ -23,4 +23,4 @@ returns c =
     let ss = a.strides.now in
     let few = c.requires.fitting.rank-few in
     let is = c.fusing_order_into.ensures.order in
-    let found = (c.plan_axes_into.ensures.rank, (c.plan_axes_into.ensures.extents, c.plan_axes_into.ensures.strides)) in record { rank = as_planned es a.operands ss a.purpose few is length found.0; extents = as_planned es a.operands ss a.purpose few is (λ xs. padded 64 0 (extents xs)) found.1.0; strides = as_planned es a.operands ss a.purpose few is (λ xs. stride_table xs a.operands) found.1.1 }
+    let found = c.plan_axes_into.ensures in record { rank = as_planned es a.operands ss a.purpose few is length found.rank; extents = as_planned es a.operands ss a.purpose few is (λ xs. padded 64 0 (extents xs)) found.extents; strides = as_planned es a.operands ss a.purpose few is (λ xs. stride_table xs a.operands) found.strides }

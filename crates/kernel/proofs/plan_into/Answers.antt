@@ -26,25 +26,25 @@ returns-then-total_at_most c =
     let ok = c.requires.accepted in
     let small = sym c.total_at_most.ensures ∙ c.if-total_at_most.true in
     let is = given_small es m ss u small in
-    let e = (c.given_axes_into-axes.ensures.rank, (c.given_axes_into-axes.ensures.extents, c.given_axes_into-axes.ensures.strides)) in
+    let e = c.given_axes_into-axes.ensures in
     made_small es a.sizes.now ss u ok c.given_axes_into-axes.result _ _
-    (as_planned es m ss u ok.axes is length e.0)
-    (as_planned es m ss u ok.axes is (λ xs. padded 64 0 (extents xs)) e.1.0)
-    (as_planned es m ss u ok.axes is (λ xs. stride_table xs m) e.1.1)
+    (as_planned es m ss u ok.axes is length e.rank)
+    (as_planned es m ss u ok.axes is (λ xs. padded 64 0 (extents xs)) e.extents)
+    (as_planned es m ss u ok.axes is (λ xs. stride_table xs m) e.strides)
     a.aim.machine small
 
 pub block_sizes_into-requires : goal.block_sizes_into-requires
 block_sizes_into-requires c =
     let a = c.args in
-    let e = (c.axes_into-rank.ensures.rank, (c.axes_into-rank.ensures.extents, c.axes_into-rank.ensures.strides)) in record {
+    let e = c.axes_into-rank.ensures in record {
       allowed = c.requires.allowed;
-      plannable = plannable a.extents.now a.sizes.now a.strides.now a.aim.purpose c.requires.accepted c.axes_into-rank.result _ _ e.0 e.1.0 e.1.1
+      plannable = plannable a.extents.now a.sizes.now a.strides.now a.aim.purpose c.requires.accepted c.axes_into-rank.result _ _ e.rank e.extents e.strides
           (leb-false (total a.extents.now) 1024 (sym c.total_at_most.ensures ∙ c.if-total_at_most.false));
     }
 
 pub returns : goal.returns
 returns c =
     let a = c.args in
-    let e = (c.axes_into-rank.ensures.rank, (c.axes_into-rank.ensures.extents, c.axes_into-rank.ensures.strides)) in
-    made-cut a.extents.now a.sizes.now a.strides.now a.aim.purpose c.requires.accepted c.axes_into-rank.result _ _ e.0 e.1.0 e.1.1 a.aim.machine
+    let e = c.axes_into-rank.ensures in
+    made-cut a.extents.now a.sizes.now a.strides.now a.aim.purpose c.requires.accepted c.axes_into-rank.result _ _ e.rank e.extents e.strides a.aim.machine
     (sym c.total_at_most.ensures ∙ c.if-total_at_most.false) _ c.block_sizes_into.ensures

@@ -61,7 +61,7 @@ returns-then-declines_tiles c =
     let bytes-are : let a = c.args in Images a.machine (length a.sizes.now) a.rank c.byte_table_into.new.table (byte_table a.sizes.now a.table.now) = let a = c.args in
     rows_read a.machine a.sizes.now a.table.now a.rank (length a.sizes.now) _ refl c.requires.plannable.few c.requires.plannable.axes c.byte_table_into.ensures in
     -- where the axes are cut there is no exit
-    let on : let a = c.args in exits a.machine c.byte_table_into.last.1.1.1.1.0 a.sizes.now a.es.now a.table.now a.rank ≡ false = let a = c.args in
+    let on : let a = c.args in exits a.machine c.byte_table_into.new.table a.sizes.now a.es.now a.table.now a.rank ≡ false = let a = c.args in
     exits-not a.machine _ a.sizes.now a.es.now a.table.now a.rank (sym c.keeps_order.ensures ∙ c.if-keeps_order.false) (sym c.fits_whole.ensures ∙ c.if-fits_whole.false) in
     let a = c.args in
     whole-declined a.machine a.sizes.now a.es.now a.table.now a.rank a.purpose c.requires.allowed _ bytes-are _ c.cut_axes.ensures on
@@ -71,7 +71,7 @@ pub returns : goal.returns
 returns c =
     let bytes-are : let a = c.args in Images a.machine (length a.sizes.now) a.rank c.byte_table_into.new.table (byte_table a.sizes.now a.table.now) = let a = c.args in
     rows_read a.machine a.sizes.now a.table.now a.rank (length a.sizes.now) _ refl c.requires.plannable.few c.requires.plannable.axes c.byte_table_into.ensures in
-    let on : let a = c.args in exits a.machine c.byte_table_into.last.1.1.1.1.0 a.sizes.now a.es.now a.table.now a.rank ≡ false = let a = c.args in
+    let on : let a = c.args in exits a.machine c.byte_table_into.new.table a.sizes.now a.es.now a.table.now a.rank ≡ false = let a = c.args in
     exits-not a.machine _ a.sizes.now a.es.now a.table.now a.rank (sym c.keeps_order.ensures ∙ c.if-keeps_order.false) (sym c.fits_whole.ensures ∙ c.if-fits_whole.false) in
     let a = c.args in
     whole-fitted a.machine a.sizes.now a.es.now a.table.now a.rank a.purpose c.requires.allowed _ bytes-are _ c.cut_axes.ensures on

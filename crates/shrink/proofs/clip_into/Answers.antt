@@ -11,6 +11,7 @@ use Rattle.strided.specs.Cut.{score}
 use Rattle.laws.specs.Cut.Picks.{pos_right}
 use Rattle.laws.specs.Cut.Jump.{clipped_over, over_start, over-step}
 use Rattle.shrink.proofs.clip_into.Goals as goal
+use Rattle.shrink.proofs.clip_into.Goals.{then-level-less_one, else-level-less_one}
 
 pub loop-i-init : goal.loop-i-init
 loop-i-init c = (omega arith, omega arith, sym (over_start _ _ _ _ _))
@@ -41,10 +42,10 @@ loop-i-preserved c =
     let sc : ℕ = score a.blocks.now a.costs.now i in
     let e = the-score in
     let st = over-step a.level a.costs.now a.tail.offset i a.blocks.now a.out.now c.loop-i.invariant.0 in
-    ⊎_elim
-    (λ w. let above : a.level < sc = omega (arith, e, w.0.taken) in (omega arith, omega arith, rw (w.1, c.loop-i.invariant.2, st, lt-ltb a.level sc above)))
-    (λ w. let within : sc ≤ a.level = omega (arith, e, w.0.left) in (omega arith, omega arith, rw (w.1, c.loop-i.invariant.2, st, le-ltb a.level sc within)))
-    c.if-level-less_one.branch
+    elim c.if-level-less_one.branch [
+      | then-level-less_one w ↦ let above : a.level < sc = omega (arith, e, w.if-level-less_one.true) in (omega arith, omega arith, rw (w.out-is, c.loop-i.invariant.2, st, lt-ltb a.level sc above))
+      | else-level-less_one w ↦ let within : sc ≤ a.level = omega (arith, e, w.if-level-less_one.false) in (omega arith, omega arith, rw (w.out-is, c.loop-i.invariant.2, st, le-ltb a.level sc within))
+    ]
 
 pub returns : goal.returns
 returns c = let a = c.args in

@@ -10,6 +10,7 @@ use Rattle.strided.specs.Cut.{score, greatest_score}
 use Rattle.laws.specs.Cut.Picks.{bar_of, pick_start, pick_wins, pick_loses}
 use Rattle.shrink.specs.Picked.{picked}
 use Rattle.shrink.proofs.last_argmax_weighted.Goals as goal
+use Rattle.shrink.proofs.last_argmax_weighted.Goals.{then-s-top, else-s-top}
 
 pub loop-i-init : goal.loop-i-init
 loop-i-init c = (omega arith, omega arith, sym (pick_start _ _ _), refl)
@@ -32,14 +33,12 @@ loop-i-preserved c =
     let old : Option ℕ = greatest_score a.blocks.now a.costs.now a.tail.offset (i - a.tail.offset) in
     let sc = the-score in
     let e : bar_of s old ≡ c.loop-i.top = sym (c.loop-i.invariant.3 ∙ ap (bar_of s) c.loop-i.invariant.2) in
-    ⊎_elim
-    (λ w.
-    let wins : bar_of s old ≤ s i = omega (arith, e, sc, w.0.taken) in
-    (omega arith, omega arith, rw (w.1, pick_wins a.blocks.now a.costs.now a.tail.offset i c.loop-i.invariant.0 wins), rw (w.1, w.2) sc))
-    (λ w.
-    let loses : s i < bar_of s old = omega (arith, e, sc, w.0.left) in
-    (omega arith, omega arith, rw (w.1, pick_loses a.blocks.now a.costs.now a.tail.offset i c.loop-i.invariant.0 loses) c.loop-i.invariant.2, rw (w.1, w.2) c.loop-i.invariant.3))
-    c.if-s-top.branch
+    elim c.if-s-top.branch [
+      | then-s-top w ↦ let wins : bar_of s old ≤ s i = omega (arith, e, sc, w.if-s-top.true) in
+          (omega arith, omega arith, rw (w.best-is, pick_wins a.blocks.now a.costs.now a.tail.offset i c.loop-i.invariant.0 wins), rw (w.best-is, w.top-is) sc)
+      | else-s-top w ↦ let loses : s i < bar_of s old = omega (arith, e, sc, w.if-s-top.false) in
+          (omega arith, omega arith, rw (w.best-is, pick_loses a.blocks.now a.costs.now a.tail.offset i c.loop-i.invariant.0 loses) c.loop-i.invariant.2, rw (w.best-is, w.top-is) c.loop-i.invariant.3)
+    ]
 
 pub returns : goal.returns
 returns c = let a = c.args in

@@ -7,32 +7,22 @@ use Rattle.states.proofs.Table.{begun-refused, served_axes, served_starts, begun
 use native.Mathlib.Omega.{arith}
 use mathlib.Core.Path.{◌≡◌, sym, ◌∙◌}
 use borrow.Author.Rules.{rules}
-use Rattle.states.proofs.begin_on.Reads as reads
-use Rattle.states.proofs.begin_on.Lts as lts
-use Rattle.states.proofs.check_begin.Reads as check-begin-reads
-use Rattle.states.proofs.no_block.Reads as no-block-reads
-use Rattle.states.proofs.offsets_of.Reads as offsets-of-reads
-use Rattle.states.proofs.refused.Reads as refused-reads
 use Rattle.states.proofs.begin_on.Goals as goal
-
--- the plan that the arrays are
-abbrev plan : lts.Start (check-begin-reads.Asked, check-begin-reads.Learnt, refused-reads.Asked, refused-reads.Learnt, no-block-reads.Asked, no-block-reads.Learnt, offsets-of-reads.Asked, offsets-of-reads.Learnt) reads.Pre reads.Post → Plan
-plan s = plan_of s.args.rank s.args.operands s.args.e.now s.args.b.now s.args.s.now
 
 pub no_block-ended-requires : goal.no_block-ended-requires
 no_block-ended-requires c =
-    let h : c.args.rank ≤ 64 = served_axes (plan c) c.args.starts.now (sym c.in-Served.is ∙ c.check_begin-answer.ensures) in
+    let h : c.args.rank ≤ 64 = served_axes (plan_of c.args.rank c.args.operands c.args.e.now c.args.b.now c.args.s.now) c.args.starts.now (sym c.in-Served.is ∙ c.check_begin-answer.ensures) in
     let l : length c.args.e.now ≡ 64 = search rules in
     omega (arith, l, h)
 
 pub offsets_of-offsets-requires : goal.offsets_of-offsets-requires
 offsets_of-offsets-requires c =
-    served_starts (plan c) c.args.starts.now (sym c.in-Served.is ∙ c.check_begin-answer.ensures)
+    served_starts (plan_of c.args.rank c.args.operands c.args.e.now c.args.b.now c.args.s.now) c.args.starts.now (sym c.in-Served.is ∙ c.check_begin-answer.ensures)
 
 pub returns-in-Refused : goal.returns-in-Refused
 returns-in-Refused c =
-    begun-refused (plan c) c.args.starts.now (sym c.in-Refused.is ∙ c.check_begin-answer.ensures) c.refused.ensures
+    begun-refused (plan_of c.args.rank c.args.operands c.args.e.now c.args.b.now c.args.s.now) c.args.starts.now (sym c.in-Refused.is ∙ c.check_begin-answer.ensures) c.refused.ensures
 
 pub returns-in-Served : goal.returns-in-Served
 returns-in-Served c =
-    begun_served (plan c) c.args.starts.now (sym c.in-Served.is ∙ c.check_begin-answer.ensures) c.no_block-ended.ensures c.offsets_of-offsets.ensures
+    begun_served (plan_of c.args.rank c.args.operands c.args.e.now c.args.b.now c.args.s.now) c.args.starts.now (sym c.in-Served.is ∙ c.check_begin-answer.ensures) c.no_block-ended.ensures c.offsets_of-offsets.ensures

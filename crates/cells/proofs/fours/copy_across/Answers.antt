@@ -60,5 +60,5 @@ pub returns : goal.returns
 returns c =
     let a = c.args in
     four_copied a.width a.j a.to a.from a.i a.destination.now a.source.now
-    c.copy_cell.last.0 c.copy_cell-2.last.0 c.copy_cell-3.last.0 c.copy_cell-4.new.destination
+    c.copy_cell.new.destination c.copy_cell-2.new.destination c.copy_cell-3.new.destination c.copy_cell-4.new.destination
     c.copy_cell.ensures c.copy_cell-2.ensures c.copy_cell-3.ensures c.copy_cell-4.ensures

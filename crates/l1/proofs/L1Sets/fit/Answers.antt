@@ -19,6 +19,7 @@ use Rattle.laws.specs.Cut.Cases.{shortens_above, fit_none, fit_skip, fit_on, fit
 use Rattle.l1.specs.Live.{load_by, most_by, chosen_size}
 use Rattle.l1.proofs.Loads.{load_by_lem, enters_by_lem, most_by_lem}
 use Rattle.l1.proofs.L1Sets.fit.Goals as goal
+use Rattle.l1.proofs.L1Sets.fit.Goals.{then-strides-chosen+else-set_block-machine, else-strides-chosen}
 
 pub load-requires : goal.load-requires
 load-requires c = c.of-sets.ensures.few
@@ -89,12 +90,11 @@ loop-n-preserved c =
     let n : ℕ = c.loop-n.n in
     let one : List ℕ = set b (n - 1) 1 in
     let from : List ℕ → List ℕ = fit_from a.machine a.bytes.now a.sizes.now a.rank chosenBy (n - 1) in
-    ⊎_elim
-    (λ w.
-    let big : a.machine.live < load a.machine a.bytes.now a.sizes.now a.rank one = omega (arith, whole-load one, w.2.ensures.0, w.4.left) in
-    (omega arith, ap from (w.5 ∙ w.2.ensures.1) ∙ sym (fit_on a.machine a.bytes.now a.sizes.now a.rank chosenBy b n (omega arith) (test ∙ w.0.taken) big) ∙ c.loop-n.invariant.1))
-    (λ w. (omega arith, ap from w.1 ∙ sym (fit_skip a.machine a.bytes.now a.sizes.now a.rank chosenBy b n (omega arith) (test ∙ w.0.left)) ∙ c.loop-n.invariant.1))
-    c.if-strides-chosen.branch
+    elim c.if-strides-chosen.branch [
+      | then-strides-chosen+else-set_block-machine w ↦ let big : a.machine.live < load a.machine a.bytes.now a.sizes.now a.rank one = omega (arith, whole-load one, w.set_block.ensures.load, w.if-set_block-machine.false) in
+          (omega arith, ap from (w.blocks-is ∙ w.set_block.ensures.blocks) ∙ sym (fit_on a.machine a.bytes.now a.sizes.now a.rank chosenBy b n (omega arith) (test ∙ w.if-strides-chosen.true) big) ∙ c.loop-n.invariant.1)
+      | else-strides-chosen w ↦ (omega arith, ap from w.blocks-is ∙ sym (fit_skip a.machine a.bytes.now a.sizes.now a.rank chosenBy b n (omega arith) (test ∙ w.if-strides-chosen.false)) ∙ c.loop-n.invariant.1)
+    ]
 
 pub returns : goal.returns
 returns c =

@@ -11,6 +11,7 @@ use Rattle.laws.specs.Cut.Saturate.{min-mul-left}
 use Rattle.l1.proofs.Loads.{product_by_none, product_by_more}
 use Rattle.l1.specs.Live.{top, product_by}
 use Rattle.l1.proofs.L1Sets.operand_load.Goals as goal
+use Rattle.l1.proofs.L1Sets.operand_load.Goals.{then-live-i-eq1, else-live-i-eq1}
 
 pub overflow_cast-m : goal.overflow_cast-m
 overflow_cast-m c = tt
@@ -24,10 +25,10 @@ loop-i-preserved c = let a = c.args in
     let p : ℕ = product_by a.live a.blocks.now i in
     let b : ℕ = get_or a.blocks.now i 0 in
     let e = product_by_more a.live a.blocks.now i in
-    ⊎_elim
-    (λ w. (omega arith, rw (e, eq-eqb _ _ w.0.taken) (w.3 ∙ w.2.ensures ∙ ap (λ (x : ℕ). min (x * b) top) c.loop-i.invariant.1 ∙ min-mul-left p b top)))
-    (λ w. (omega arith, rw (e, ne_eqb _ _ w.0.left, mul-one) (w.1 ∙ c.loop-i.invariant.1)))
-    c.if-live-i-eq1.branch
+    elim c.if-live-i-eq1.branch [
+      | then-live-i-eq1 w ↦ (omega arith, rw (e, eq-eqb _ _ w.if-live-i-eq1.true) (w.m-is ∙ w.sat_mul-m.ensures ∙ ap (λ (x : ℕ). min (x * b) top) c.loop-i.invariant.1 ∙ min-mul-left p b top))
+      | else-live-i-eq1 w ↦ (omega arith, rw (e, ne_eqb _ _ w.if-live-i-eq1.false, mul-one) (w.m-is ∙ c.loop-i.invariant.1))
+    ]
 
 pub returns : goal.returns
 returns c = let l = c.loop-i in

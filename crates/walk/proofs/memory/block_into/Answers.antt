@@ -19,4 +19,4 @@ pub returns : goal.returns
 returns c =
     let last = c.advance_on-more.new in
     steps_of (block_step _ _ c.requires refl _ refl c.length_on-bl.ensures c.firsts-bs.ensures c.advance_on-more.ensures.1) refl
-    (step_block refl (λ i. record { walk = record { ended = c.flag-e.ensures i ∷ []; counters = last.1.1.1.1.1.0; offsets = last.1.1.1.1.1.1.0 }; counters = c.args.counters.now; length = c.length_on-bl.result ∷ []; offsets = c.args.offsets.now; strides = c.firsts-bs.result }))
+    (step_block refl (λ i. record { walk = record { ended = c.flag-e.ensures i ∷ []; counters = last.c; offsets = last.o }; counters = c.args.counters.now; length = c.length_on-bl.result ∷ []; offsets = c.args.offsets.now; strides = c.firsts-bs.result }))

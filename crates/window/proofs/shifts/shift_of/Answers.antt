@@ -21,7 +21,7 @@ term-sum-requires c =
     let a = c.args in
     let t : ℤ = get_or a.strides.now c.loop-i.i (pos 0) in
     rw (read_back t c.term-arg-1.given)
-    (term_small a.firsts.now a.strides.now c.loop-i.sum c.loop-i.i c.loop-i-test.true c.requires.strides_len c.loop-i.invariant.1)
+    (term_small a.firsts.now a.strides.now (to_z w64 c.loop-i.sum-bits) c.loop-i.i c.loop-i-test.true c.requires.strides_len c.loop-i.invariant.1)
 
 pub overflow_add-sum : goal.overflow_add-sum
 overflow_add-sum c =
@@ -32,7 +32,7 @@ overflow_add-sum c =
     ∙ ap (λ (z : ℤ). pos (get_or a.firsts.now c.loop-i.i 0) *ℤ z) (read_back t c.term-arg-1.given) in
     let a = c.args in
     rw added
-    (sum_fits_lem a.firsts.now a.strides.now c.loop-i.sum c.loop-i.i c.loop-i-test.true c.requires.strides_len c.loop-i.invariant.1)
+    (sum_fits_lem a.firsts.now a.strides.now (to_z w64 c.loop-i.sum-bits) c.loop-i.i c.loop-i-test.true c.requires.strides_len c.loop-i.invariant.1)
 
 pub loop-i-preserved : goal.loop-i-preserved
 loop-i-preserved c =
@@ -42,13 +42,13 @@ loop-i-preserved c =
     ∙ ap (λ (z : ℤ). pos (get_or a.firsts.now c.loop-i.i 0) *ℤ z) (read_back t c.term-arg-1.given) in
     let a = c.args in
     let h = c.loop-i-test.true in
-    let z : ℤ = c.loop-i.sum +ℤ (pos (get_or a.firsts.now c.loop-i.i 0) *ℤ get_or a.strides.now c.loop-i.i (pos 0)) in
-    let f = sum_fits_lem a.firsts.now a.strides.now c.loop-i.sum c.loop-i.i h c.requires.strides_len c.loop-i.invariant.1 in (
+    let z : ℤ = (to_z w64 c.loop-i.sum-bits) +ℤ (pos (get_or a.firsts.now c.loop-i.i 0) *ℤ get_or a.strides.now c.loop-i.i (pos 0)) in
+    let f = sum_fits_lem a.firsts.now a.strides.now (to_z w64 c.loop-i.sum-bits) c.loop-i.i h c.requires.strides_len c.loop-i.invariant.1 in (
       omega arith,
-      rw (added, back z f) (summed_turn a.firsts.now a.strides.now c.loop-i.sum c.loop-i.i h c.requires.strides_len c.loop-i.invariant.1),
+      rw (added, back z f) (summed_turn a.firsts.now a.strides.now (to_z w64 c.loop-i.sum-bits) c.loop-i.i h c.requires.strides_len c.loop-i.invariant.1),
     )
 
 pub returns : goal.returns
 returns c =
     let a = c.args in
-    summed_end a.firsts.now a.strides.now c.loop-i.sum c.loop-i.i (le_antisymm c.loop-i.invariant.0 c.loop-i-test.false) c.loop-i.invariant.1
+    summed_end a.firsts.now a.strides.now (to_z w64 c.loop-i.sum-bits) c.loop-i.i (le_antisymm c.loop-i.invariant.0 c.loop-i-test.false) c.loop-i.invariant.1

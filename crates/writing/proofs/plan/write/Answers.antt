@@ -37,4 +37,4 @@ returns c =
     let p : Plan = plan in
     let l = printed-length p in
     let behind = wrote_then {t = over (run 0 p.rank) (line_at p)} {u = rest_from p 0} c.put_axes-then.ensures c.put_walk.ensures (omega arith) in
-    wrote_first (wrote_is (wrote_then c.put_rank-first.ensures behind (omega arith)) (sym (printed_parts p)))
+    let done = wrote_first (wrote_is (wrote_then c.put_rank-first.ensures behind (omega arith)) (sym (printed_parts p))) in record { value = done.0; out_after = done.1 }

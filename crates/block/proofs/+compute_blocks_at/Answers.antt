@@ -1,0 +1,41 @@
+-- `block::compute_blocks_at` meets its contract. Each way out is a case of `cutting` (laws, Cut/Cases), whose tests are those of the code.
+-- Assumes nothing.
+use native.Mathlib.Omega.{arith}
+use mathlib.Core.Path.{sym, subst, ◌∙◌}
+use Prim.Native.Nat.{ℕ, ◌<◌, ◌≤◌, ◌-◌, ◌+◌}
+use Rattle.strided.specs.Region.{region}
+use Rattle.laws.specs.Cut.Cases.{cut_empty, cut_fits, cut_keeps, cut_flat, cut_less}
+use Rattle.region.specs.Tail.{axes}
+use Rattle.block.proofs.+compute_blocks_at.Goals as goal
+
+pub returns-then-tail : goal.returns-then-tail
+returns-then-tail t c =
+    let a = c.args in
+    sym (cut_empty a.machine a.bytes.now a.tail.operands a.costs.now a.table a.tail.offset a.tail.rank a.blocks.now c.if-tail.true)
+
+pub returns-then-memory_region-machine : goal.returns-then-memory_region-machine
+returns-then-memory_region-machine t c =
+    let a = c.args in
+    let small : region a.machine a.bytes.now a.tail.operands a.blocks.now a.tail.offset (axes a.tail) ≤ a.machine.cache = omega arith in
+    sym (cut_fits a.machine a.bytes.now a.tail.operands a.costs.now a.table a.tail.offset a.tail.rank a.blocks.now (omega arith) small)
+
+pub returns-then-keeps_first : goal.returns-then-keeps_first
+returns-then-keeps_first t c =
+    let a = c.args in
+    c.compute_blocks_at.ensures
+    ∙ sym (cut_keeps a.machine a.bytes.now a.tail.operands a.costs.now a.table a.tail.offset a.tail.rank a.blocks.now (omega arith) (omega arith)
+    (sym c.keeps_first.ensures ∙ c.if-keeps_first.true))
+
+pub returns-then-machine-wide : goal.returns-then-machine-wide
+returns-then-machine-wide t c =
+    let a = c.args in
+    c.set_ones.ensures
+    ∙ sym (cut_flat a.machine a.bytes.now a.tail.operands a.costs.now a.table a.tail.offset a.tail.rank a.blocks.now (omega arith) (omega arith)
+    (sym c.keeps_first.ensures ∙ c.if-keeps_first.false) (subst (λ (x : ℕ). a.machine.cache < x) (c.wide.ensures ∙ c.least_byte.ensures) c.if-machine-wide.true))
+
+pub returns : goal.returns
+returns t c =
+    let a = c.args in
+    c.shrink.ensures
+    ∙ sym (cut_less a.machine a.bytes.now a.tail.operands a.costs.now a.table a.tail.offset a.tail.rank a.blocks.now (omega arith) (omega arith)
+    (sym c.keeps_first.ensures ∙ c.if-keeps_first.false) (subst (λ (x : ℕ). x ≤ a.machine.cache) (c.wide.ensures ∙ c.least_byte.ensures) c.if-machine-wide.false))
