@@ -6,5 +6,5 @@ pub plan_by_into-requires : goal.plan_by_into-requires
 plan_by_into-requires c = record { arrays = c.requires.arrays; rank = c.requires.rank_is }
 
 pub returns : goal.returns
-returns c =
+returns c m ss u t =
     same-told (tells_plan c.requires.arrays t.arrays c.args.original.now) c.plan_by_into.ensures

@@ -6,5 +6,5 @@ pub original_by_into-requires : goal.original_by_into-requires
 original_by_into-requires c = c.requires.arrays
 
 pub returns : goal.returns
-returns c =
+returns c m ss u t =
     same-told (tells_original c.requires.arrays t.arrays c.args.counters.now) c.original_by_into.ensures

@@ -79,7 +79,7 @@ returns-then-not-joins c =
     ) at c.joins.ensures in
     join_turn a.e a.pitch a.i a.h k a.strides.now c.joins.result c.loop-k-test.true seen in
     let a = c.args in
-    let v : c.joins.result ≡ false = not-true c.joins.result c.if-not-joins.true-raw in
+    let v : c.joins.result ≡ false = c.if-not-joins.true in
     let b : Bool = all_join a.e (stride_column a.strides.now a.pitch a.h 0 (c.loop-k.k - 1)) (stride_column a.strides.now a.pitch a.i 0 (c.loop-k.k - 1)) in
     sym (turned ∙ ap (λ (w : Bool). b && w) v ∙ and-false b) ∙ c.loop-k.invariant.1
 
@@ -94,7 +94,7 @@ loop-k-preserved c =
     ) at c.joins.ensures in
     join_turn a.e a.pitch a.i a.h k a.strides.now c.joins.result c.loop-k-test.true seen in
     let a = c.args in
-    let v : c.joins.result ≡ true = not-false c.joins.result c.if-not-joins.false-raw in
+    let v : c.joins.result ≡ true = c.if-not-joins.false in
     let b : Bool = all_join a.e (stride_column a.strides.now a.pitch a.h 0 (c.loop-k.k - 1)) (stride_column a.strides.now a.pitch a.i 0 (c.loop-k.k - 1)) in
     (omega (arith, c.loop-k.invariant.0), sym (turned ∙ ap (λ (w : Bool). b && w) v ∙ and-true b) ∙ c.loop-k.invariant.1)
 

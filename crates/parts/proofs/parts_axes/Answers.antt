@@ -38,4 +38,4 @@ returns-in-Served c =
     let ss = a.strides.now in
     let o = counts_refused es a.sizes.now ss (purpose_of a.kind a.chosen) in
     let e = c.purpose_of-purpose.ensures in
-    let found = (c.axes_into-rank.ensures.rank, (c.axes_into-rank.ensures.extents, c.axes_into-rank.ensures.strides)) in record { rank = part_served o served (ap (λ n. n ∷ []) (found.0 ∙ ap (λ u. length (plan_axes es m ss u)) e)); extents = part_served o served (found.1.0 ∙ ap (λ u. padded 64 0 (extents (plan_axes es m ss u))) e); strides = part_served o served (found.1.1 ∙ ap (λ u. stride_table (plan_axes es m ss u) m) e) }
+    let found = c.axes_into-rank.ensures in record { rank = part_served o served (ap (λ n. n ∷ []) (found.rank ∙ ap (λ u. length (plan_axes es m ss u)) e)); extents = part_served o served (found.extents ∙ ap (λ u. padded 64 0 (extents (plan_axes es m ss u))) e); strides = part_served o served (found.strides ∙ ap (λ u. stride_table (plan_axes es m ss u) m) e) }

@@ -6,6 +6,7 @@ use native.Mathlib.Omega.{arith}
 use lib.ListN.{length}
 use Rattle.finding.proofs.Kept.{Passed, pass_none, pass_one, pass_other, pass_stays, pass_count}
 use Rattle.finding.proofs.radix.plan_rank.Goals as goal
+use Rattle.finding.proofs.radix.plan_rank.Goals.{then-fused-i-ne1, else-fused-i-ne1}
 
 pub loop-i-init : goal.loop-i-init
 loop-i-init c = pass_none c.args.fused.now c.args.rank
@@ -16,10 +17,10 @@ loop-i-preserved c =
     let fs = c.args.fused.now in
     let n = c.args.rank in
     let i = c.loop-i.i in
-    ⊎_elim
-    (λ w. subst (Passed fs n (i + 1)) (sym w.1) (pass_other fs n i c.loop-i.count c.requires.0 c.requires.1 c.loop-i.invariant t.true w.0.taken))
-    (λ w. subst (Passed fs n (i + 1)) (sym w.1) (pass_one fs n i c.loop-i.count c.requires.0 c.requires.1 c.loop-i.invariant t.true w.0.left))
-    c.if-fused-i-ne1.branch
+    elim c.if-fused-i-ne1.branch [
+      | then-fused-i-ne1 w ↦ subst (Passed fs n (i + 1)) (sym w.count-is) (pass_other fs n i c.loop-i.count c.requires.0 c.requires.1 c.loop-i.invariant t.true w.if-fused-i-ne1.true)
+      | else-fused-i-ne1 w ↦ subst (Passed fs n (i + 1)) (sym w.count-is) (pass_one fs n i c.loop-i.count c.requires.0 c.requires.1 c.loop-i.invariant t.true w.if-fused-i-ne1.false)
+    ]
 
 pub returns-then-rank-gt0 : goal.returns-then-rank-gt0
 returns-then-rank-gt0 c =

@@ -10,6 +10,7 @@ use lib.ListN.{length, get_or, drop}
 use borrow.Author.Rules.{rules}
 use Rattle.finding.proofs.Turns.{Telling, tell_none, tell_turn, tell_end, next_counter, same_counter, axis_there, extent_positive}
 use Rattle.finding.proofs.radix.unravel_index.Goals as goal
+use Rattle.finding.proofs.radix.unravel_index.Goals.{then-fused-i-ne1, else-fused-i-ne1}
 
 pub loop-i-init : goal.loop-i-init
 loop-i-init c = tell_none c.requires.arrays c.args.counters.now c.args.out.now c.requires.zeros
@@ -59,10 +60,10 @@ loop-i-preserved c =
     let C : List ℕ = c.args.counters.now in
     let f : ℕ = get_or c.args.fused.now c.loop-i.i 0 in
     let way : (k.j ≤ c.loop-i.i + 1) × (k.x ≡ cond (eqb f 1) c.loop-i.x (get_or C c.loop-i.j 0)) × (drop k.j C ≡ cond (eqb f 1) (drop c.loop-i.j C) (drop (suc c.loop-i.j) C)) =
-    ⊎_elim
-    (λ w. next_counter f c.loop-i.x (get_or C c.loop-i.j 0) c.loop-i.j k.x k.j c.loop-i.i C w.0.taken (w.2 ∙ w.1.ensures) w.3 c.loop-i.invariant.fewer)
-    (λ w. same_counter f c.loop-i.x (get_or C c.loop-i.j 0) c.loop-i.j k.x k.j c.loop-i.i C w.0.left w.1 w.2 c.loop-i.invariant.fewer)
-    k.branch in
+    elim k.branch [
+      | then-fused-i-ne1 w ↦ next_counter f c.loop-i.x (get_or C c.loop-i.j 0) c.loop-i.j k.x k.j c.loop-i.i C w.if-fused-i-ne1.true (w.x-is ∙ w.counter-x.ensures) w.j-is c.loop-i.invariant.fewer
+      | else-fused-i-ne1 w ↦ same_counter f c.loop-i.x (get_or C c.loop-i.j 0) c.loop-i.j k.x k.j c.loop-i.i C w.if-fused-i-ne1.false w.x-is w.j-is c.loop-i.invariant.fewer
+    ] in
     tell_turn c.requires.arrays C c.loop-i.i c.loop-i.j c.loop-i.x k.x k.j c.loop-i.out c.loop-i.invariant c.loop-i-test.true way c.quotient-x.result c.remainder.result c.quotient-x.ensures c.remainder.ensures
 
 pub returns : goal.returns

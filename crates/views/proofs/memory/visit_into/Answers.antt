@@ -18,7 +18,7 @@ use Rattle.views.proofs.memory.visit_into.Goals as goal
 pub found_into-requires : goal.found_into-requires
 found_into-requires c =
     -- the plan and the state lent
-    let P : Plan = plan_of c.args.rank c.args.operands c.args.plan_extents_lem.now c.args.blocks.now c.args.plan_strides.now in
+    let P : Plan = plan_of c.args.rank c.args.operands c.args.plan_extents.now c.args.blocks.now c.args.plan_strides.now in
     let W : Walk = walk_in (walk_at c.args.ended.now c.args.counters.now c.args.offsets.now) in
     let answers : (r : Outcome) → c.answer_of-answer.result ≡ r → Answers P W r = λ r h. subst (Answers P W) h c.answer_of-answer.ensures in
     let passed : let a = c.args in visit_refused a.extents.now a.sizes.now a.strides.now a.purpose a.rank a.operands ≡ none = served_none _ (sym c.check_visit-checked.ensures ∙ c.in-Served.is) in
@@ -27,14 +27,14 @@ found_into-requires c =
 
 pub returns-in-Refused : goal.returns-in-Refused
 returns-in-Refused c =
-    let P : Plan = plan_of c.args.rank c.args.operands c.args.plan_extents_lem.now c.args.blocks.now c.args.plan_strides.now in
+    let P : Plan = plan_of c.args.rank c.args.operands c.args.plan_extents.now c.args.blocks.now c.args.plan_strides.now in
     let W : Walk = walk_in (walk_at c.args.ended.now c.args.counters.now c.args.offsets.now) in
     let a = c.args in
     entry_refused a.extents.now a.sizes.now a.strides.now a.purpose P W (refused_some _ (sym c.check_visit-checked.ensures ∙ c.in-Refused.is))
 
 pub returns-in-Rejected : goal.returns-in-Rejected
 returns-in-Rejected c =
-    let P : Plan = plan_of c.args.rank c.args.operands c.args.plan_extents_lem.now c.args.blocks.now c.args.plan_strides.now in
+    let P : Plan = plan_of c.args.rank c.args.operands c.args.plan_extents.now c.args.blocks.now c.args.plan_strides.now in
     let W : Walk = walk_in (walk_at c.args.ended.now c.args.counters.now c.args.offsets.now) in
     let passed : let a = c.args in visit_refused a.extents.now a.sizes.now a.strides.now a.purpose a.rank a.operands ≡ none = served_none _ (sym c.check_visit-checked.ensures ∙ c.in-Served.is) in
     let answers : (r : Outcome) → c.answer_of-answer.result ≡ r → Answers P W r = λ r h. subst (Answers P W) h c.answer_of-answer.ensures in
@@ -43,7 +43,7 @@ returns-in-Rejected c =
 
 pub returns-in-Ended : goal.returns-in-Ended
 returns-in-Ended c =
-    let P : Plan = plan_of c.args.rank c.args.operands c.args.plan_extents_lem.now c.args.blocks.now c.args.plan_strides.now in
+    let P : Plan = plan_of c.args.rank c.args.operands c.args.plan_extents.now c.args.blocks.now c.args.plan_strides.now in
     let W : Walk = walk_in (walk_at c.args.ended.now c.args.counters.now c.args.offsets.now) in
     let passed : let a = c.args in visit_refused a.extents.now a.sizes.now a.strides.now a.purpose a.rank a.operands ≡ none = served_none _ (sym c.check_visit-checked.ensures ∙ c.in-Served.is) in
     let answers : (r : Outcome) → c.answer_of-answer.result ≡ r → Answers P W r = λ r h. subst (Answers P W) h c.answer_of-answer.ensures in
@@ -52,7 +52,7 @@ returns-in-Ended c =
 
 pub returns-in-Block : goal.returns-in-Block
 returns-in-Block c =
-    let P : Plan = plan_of c.args.rank c.args.operands c.args.plan_extents_lem.now c.args.blocks.now c.args.plan_strides.now in
+    let P : Plan = plan_of c.args.rank c.args.operands c.args.plan_extents.now c.args.blocks.now c.args.plan_strides.now in
     let W : Walk = walk_in (walk_at c.args.ended.now c.args.counters.now c.args.offsets.now) in
     let answers : (r : Outcome) → c.answer_of-answer.result ≡ r → Answers P W r = λ r h. subst (Answers P W) h c.answer_of-answer.ensures in
     let passed : let a = c.args in visit_refused a.extents.now a.sizes.now a.strides.now a.purpose a.rank a.operands ≡ none = served_none _ (sym c.check_visit-checked.ensures ∙ c.in-Served.is) in
