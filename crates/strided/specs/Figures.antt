@@ -50,7 +50,7 @@ pub data Figure : Type 0 where
   -- the region of one operand: extents, strides, size
   region_is : List ℕ → List ℤ → ℕ → ℕ → Figure
   -- planning: extents, sizes, strides, purpose; the plan's extents, blocks, and operand 0's strides
-  plan_is_lem : List ℕ → List ℕ → List ℤ → Purpose → List ℕ → List ℕ → List ℤ → Figure
+  plan_is : List ℕ → List ℕ → List ℤ → Purpose → List ℕ → List ℕ → List ℤ → Figure
   -- planning refuses with this number
   refused_is : List ℕ → List ℕ → List ℤ → Purpose → ℕ → Figure
   -- the same with another machine record than the fixed four
@@ -61,12 +61,12 @@ pub data Figure : Type 0 where
   -- index finding: extents, sizes, strides, purpose; the counters and the original index, told both ways
   index_is : List ℕ → List ℕ → List ℤ → Purpose → List ℕ → List ℕ → Figure
   -- a walk of one operand to its end: extents, blocks, strides, start; the offsets and the lengths of its blocks
-  walk_is_lem : List ℕ → List ℕ → List ℤ → ℤ → List ℤ → List ℕ → Figure
+  walk_is : List ℕ → List ℕ → List ℤ → ℤ → List ℤ → List ℕ → Figure
   -- many steps a call: a plan, starts, and for how many blocks each call has room; the blocks that each wrote, and the lengths and offsets in
   -- the slices of all calls, lent full of 9
-  calls_are_lem : Plan → List ℤ → List ℕ → List ℕ → List ℕ → List ℤ → Figure
+  calls_are : Plan → List ℤ → List ℕ → List ℕ → List ℕ → List ℤ → Figure
   -- the repeat mark: extents, strides; and the number that it refuses with
-  mark_is_lem : List ℕ → List ℤ → Mark → Figure
+  mark_is : List ℕ → List ℤ → Mark → Figure
   mark_refuses : List ℕ → List ℤ → ℕ → Figure
   -- what a text says, and the room lent: the text, and what is printed
   text_is : Parsed → ℕ → List ℕ → List ℕ → Figure
@@ -116,63 +116,63 @@ figures =
     ranks_are (pos 0 ∷ pos 4 ∷ negsuc 1 ∷ pos 4 ∷ []) (1 ∷ 2 ∷ 1 ∷ 2 ∷ [])
     ∷ weights_are (4 ∷ 4 ∷ []) 2 (whole (1 ∷ 4 ∷ 4 ∷ 1 ∷ [])) (33 ∷ 12 ∷ [])
     -- 2 to 4: fused axes
-    ∷ plan_is_lem (2 ∷ 3 ∷ 4 ∷ []) (8 ∷ []) (whole (1 ∷ 2 ∷ 6 ∷ [])) Pointwise (24 ∷ []) (24 ∷ []) (whole (1 ∷ []))
-    ∷ plan_is_lem (3 ∷ 2 ∷ []) (8 ∷ []) (negsuc 0 ∷ negsuc 2 ∷ []) Pointwise (6 ∷ []) (6 ∷ []) (negsuc 0 ∷ [])
-    ∷ plan_is_lem (1 ∷ 1 ∷ []) (8 ∷ []) (whole (5 ∷ 7 ∷ [])) Pointwise (1 ∷ []) (1 ∷ []) (whole (5 ∷ []))
+    ∷ plan_is (2 ∷ 3 ∷ 4 ∷ []) (8 ∷ []) (whole (1 ∷ 2 ∷ 6 ∷ [])) Pointwise (24 ∷ []) (24 ∷ []) (whole (1 ∷ []))
+    ∷ plan_is (3 ∷ 2 ∷ []) (8 ∷ []) (negsuc 0 ∷ negsuc 2 ∷ []) Pointwise (6 ∷ []) (6 ∷ []) (negsuc 0 ∷ [])
+    ∷ plan_is (1 ∷ 1 ∷ []) (8 ∷ []) (whole (5 ∷ 7 ∷ [])) Pointwise (1 ∷ []) (1 ∷ []) (whole (5 ∷ []))
     -- 5 and 6: regions
     ∷ region_is (64 ∷ 64 ∷ []) (whole (1 ∷ 64 ∷ [])) 8 32768
     ∷ region_is (64 ∷ 65 ∷ []) (whole (1 ∷ 64 ∷ [])) 8 33280
     -- 7 to 9: blocks; a copy is fitted, a sum is not
-    ∷ plan_is_lem (64 ∷ 64 ∷ []) (8 ∷ 8 ∷ []) (whole (1 ∷ 64 ∷ 64 ∷ 1 ∷ [])) (PointwiseInto 0) (64 ∷ 64 ∷ []) (64 ∷ 32 ∷ []) (whole (1 ∷ 64 ∷ []))
-    ∷ plan_is_lem (64 ∷ 64 ∷ []) (8 ∷ 8 ∷ []) (whole (1 ∷ 64 ∷ 512 ∷ 1 ∷ [])) (PointwiseInto 0) (64 ∷ 64 ∷ []) (6 ∷ 32 ∷ []) (whole (1 ∷ 64 ∷ []))
-    ∷ plan_is_lem (64 ∷ 64 ∷ []) (8 ∷ 8 ∷ []) (whole (1 ∷ 64 ∷ 512 ∷ 1 ∷ [])) (Fold 0) (64 ∷ 64 ∷ []) (64 ∷ 32 ∷ []) (whole (1 ∷ 64 ∷ []))
+    ∷ plan_is (64 ∷ 64 ∷ []) (8 ∷ 8 ∷ []) (whole (1 ∷ 64 ∷ 64 ∷ 1 ∷ [])) (PointwiseInto 0) (64 ∷ 64 ∷ []) (64 ∷ 32 ∷ []) (whole (1 ∷ 64 ∷ []))
+    ∷ plan_is (64 ∷ 64 ∷ []) (8 ∷ 8 ∷ []) (whole (1 ∷ 64 ∷ 512 ∷ 1 ∷ [])) (PointwiseInto 0) (64 ∷ 64 ∷ []) (6 ∷ 32 ∷ []) (whole (1 ∷ 64 ∷ []))
+    ∷ plan_is (64 ∷ 64 ∷ []) (8 ∷ 8 ∷ []) (whole (1 ∷ 64 ∷ 512 ∷ 1 ∷ [])) (Fold 0) (64 ∷ 64 ∷ []) (64 ∷ 32 ∷ []) (whole (1 ∷ 64 ∷ []))
     -- 10 to 12: walks, the last one at rank 9
-    ∷ walk_is_lem (5 ∷ []) (2 ∷ []) (whole (3 ∷ [])) (pos 10) (whole (10 ∷ 16 ∷ 22 ∷ [])) (2 ∷ 2 ∷ 1 ∷ [])
-    ∷ walk_is_lem (3 ∷ 3 ∷ []) (2 ∷ 2 ∷ []) (whole (1 ∷ 10 ∷ [])) (pos 0) (whole (0 ∷ 10 ∷ 2 ∷ 12 ∷ 20 ∷ 22 ∷ [])) (2 ∷ 2 ∷ 1 ∷ 1 ∷ 2 ∷ 1 ∷ [])
-    ∷ walk_is_lem (3 ∷ 3 ∷ replicate 7 1) (2 ∷ 2 ∷ replicate 7 1) (whole (1 ∷ 10 ∷ replicate 7 0)) (pos 0)
+    ∷ walk_is (5 ∷ []) (2 ∷ []) (whole (3 ∷ [])) (pos 10) (whole (10 ∷ 16 ∷ 22 ∷ [])) (2 ∷ 2 ∷ 1 ∷ [])
+    ∷ walk_is (3 ∷ 3 ∷ []) (2 ∷ 2 ∷ []) (whole (1 ∷ 10 ∷ [])) (pos 0) (whole (0 ∷ 10 ∷ 2 ∷ 12 ∷ 20 ∷ 22 ∷ [])) (2 ∷ 2 ∷ 1 ∷ 1 ∷ 2 ∷ 1 ∷ [])
+    ∷ walk_is (3 ∷ 3 ∷ replicate 7 1) (2 ∷ 2 ∷ replicate 7 1) (whole (1 ∷ 10 ∷ replicate 7 0)) (pos 0)
     (whole (0 ∷ 2 ∷ 10 ∷ 12 ∷ 20 ∷ 22 ∷ [])) (2 ∷ 1 ∷ 2 ∷ 1 ∷ 2 ∷ 1 ∷ [])
     -- 13 on are not marked: they were found with the Rust. One operand, strides 32, 1: 32, 32 stay and 33, 32 fuse
-    ∷ plan_is_lem (32 ∷ 32 ∷ []) (8 ∷ []) (whole (32 ∷ 1 ∷ [])) (Fold 0) (32 ∷ 32 ∷ []) (32 ∷ 32 ∷ []) (whole (32 ∷ 1 ∷ []))
-    ∷ plan_is_lem (33 ∷ 32 ∷ []) (8 ∷ []) (whole (32 ∷ 1 ∷ [])) (Fold 0) (1056 ∷ []) (1056 ∷ []) (whole (1 ∷ []))
+    ∷ plan_is (32 ∷ 32 ∷ []) (8 ∷ []) (whole (32 ∷ 1 ∷ [])) (Fold 0) (32 ∷ 32 ∷ []) (32 ∷ 32 ∷ []) (whole (32 ∷ 1 ∷ []))
+    ∷ plan_is (33 ∷ 32 ∷ []) (8 ∷ []) (whole (32 ∷ 1 ∷ [])) (Fold 0) (1056 ∷ []) (1056 ∷ []) (whole (1 ∷ []))
     -- 15: ranks are taken once, and not afresh on the tail
-    ∷ plan_is_lem (2 ∷ 16 ∷ 33 ∷ []) (16 ∷ 0 ∷ []) (whole (2 ∷ 64 ∷ 100 ∷ 5 ∷ 2 ∷ 8 ∷ [])) (Fold 0)
+    ∷ plan_is (2 ∷ 16 ∷ 33 ∷ []) (16 ∷ 0 ∷ []) (whole (2 ∷ 64 ∷ 100 ∷ 5 ∷ 2 ∷ 8 ∷ [])) (Fold 0)
     (2 ∷ 16 ∷ 33 ∷ []) (2 ∷ 16 ∷ 31 ∷ []) (whole (2 ∷ 64 ∷ 100 ∷ []))
     -- 16: the last axis wins ties of the score
-    ∷ plan_is_lem (4 ∷ 4 ∷ 5 ∷ 16 ∷ []) (64 ∷ 16 ∷ []) (whole (3 ∷ 4 ∷ 1 ∷ 4 ∷ 32 ∷ 5 ∷ 5 ∷ 4 ∷ [])) (PointwiseInto 1)
+    ∷ plan_is (4 ∷ 4 ∷ 5 ∷ 16 ∷ []) (64 ∷ 16 ∷ []) (whole (3 ∷ 4 ∷ 1 ∷ 4 ∷ 32 ∷ 5 ∷ 5 ∷ 4 ∷ [])) (PointwiseInto 1)
     (16 ∷ 5 ∷ 4 ∷ 4 ∷ []) (4 ∷ 5 ∷ 3 ∷ 4 ∷ []) (whole (4 ∷ 1 ∷ 4 ∷ 3 ∷ []))
     -- 17: the region of the tail, not of all axes
-    ∷ plan_is_lem (16 ∷ 8 ∷ 65 ∷ []) (64 ∷ 64 ∷ []) (whole (2048 ∷ 128 ∷ 2048 ∷ 32 ∷ 5 ∷ 2048 ∷ [])) Pointwise
+    ∷ plan_is (16 ∷ 8 ∷ 65 ∷ []) (64 ∷ 64 ∷ []) (whole (2048 ∷ 128 ∷ 2048 ∷ 32 ∷ 5 ∷ 2048 ∷ [])) Pointwise
     (8 ∷ 16 ∷ 65 ∷ []) (8 ∷ 16 ∷ 65 ∷ []) (whole (128 ∷ 2048 ∷ 2048 ∷ []))
     -- 18: halving rounds up
-    ∷ plan_is_lem (33 ∷ 8 ∷ 8 ∷ []) (1 ∷ 16 ∷ []) (whole (3 ∷ 5 ∷ 128 ∷ 100 ∷ 32 ∷ 5 ∷ [])) Pointwise
+    ∷ plan_is (33 ∷ 8 ∷ 8 ∷ []) (1 ∷ 16 ∷ []) (whole (3 ∷ 5 ∷ 128 ∷ 100 ∷ 32 ∷ 5 ∷ [])) Pointwise
     (33 ∷ 8 ∷ 8 ∷ []) (9 ∷ 8 ∷ 7 ∷ []) (whole (3 ∷ 5 ∷ 128 ∷ []))
     -- 19: an operand of size 0 has ranks all 1
-    ∷ plan_is_lem (16 ∷ 8 ∷ 16 ∷ []) (0 ∷ 16 ∷ []) (whole (8 ∷ 4 ∷ 1 ∷ 4 ∷ 3 ∷ 64 ∷ [])) (PointwiseInto 1)
+    ∷ plan_is (16 ∷ 8 ∷ 16 ∷ []) (0 ∷ 16 ∷ []) (whole (8 ∷ 4 ∷ 1 ∷ 4 ∷ 3 ∷ 64 ∷ [])) (PointwiseInto 1)
     (8 ∷ 16 ∷ 16 ∷ []) (8 ∷ 16 ∷ 16 ∷ []) (whole (4 ∷ 8 ∷ 1 ∷ []))
     -- 20 and 21: tiles declined; not where the first cut axis is axis 0
-    ∷ plan_is_lem (128 ∷ 64 ∷ 16 ∷ []) (4 ∷ 2 ∷ 2 ∷ []) (whole (1 ∷ 2064 ∷ 128 ∷ 1 ∷ 128 ∷ 8192 ∷ 1 ∷ 128 ∷ 8192 ∷ [])) Pointwise
+    ∷ plan_is (128 ∷ 64 ∷ 16 ∷ []) (4 ∷ 2 ∷ 2 ∷ []) (whole (1 ∷ 2064 ∷ 128 ∷ 1 ∷ 128 ∷ 8192 ∷ 1 ∷ 128 ∷ 8192 ∷ [])) Pointwise
     (128 ∷ 16 ∷ 64 ∷ []) (128 ∷ 16 ∷ 64 ∷ []) (whole (1 ∷ 128 ∷ 2064 ∷ []))
-    ∷ plan_is_lem (32 ∷ 64 ∷ []) (0 ∷ 64 ∷ []) (whole (100 ∷ 8 ∷ 2 ∷ 64 ∷ [])) (PointwiseInto 0)
+    ∷ plan_is (32 ∷ 64 ∷ []) (0 ∷ 64 ∷ []) (whole (100 ∷ 8 ∷ 2 ∷ 64 ∷ [])) (PointwiseInto 0)
     (64 ∷ 32 ∷ []) (15 ∷ 32 ∷ []) (whole (8 ∷ 100 ∷ []))
     -- 22 to 24: the fit: exactly two operands, from the outermost axis, and not where the chosen stride is 0
-    ∷ plan_is_lem (16 ∷ 33 ∷ 5 ∷ []) (16 ∷ []) (whole (4 ∷ 512 ∷ 0 ∷ [])) (PointwiseInto 0)
+    ∷ plan_is (16 ∷ 33 ∷ 5 ∷ []) (16 ∷ []) (whole (4 ∷ 512 ∷ 0 ∷ [])) (PointwiseInto 0)
     (16 ∷ 33 ∷ 5 ∷ []) (16 ∷ 33 ∷ 5 ∷ []) (whole (4 ∷ 512 ∷ 0 ∷ []))
-    ∷ plan_is_lem (64 ∷ 5 ∷ 2 ∷ 4 ∷ []) (64 ∷ 8 ∷ []) (whole (256 ∷ 2 ∷ 0 ∷ 128 ∷ 4 ∷ 128 ∷ 5 ∷ 2 ∷ [])) (PointwiseInto 1)
+    ∷ plan_is (64 ∷ 5 ∷ 2 ∷ 4 ∷ []) (64 ∷ 8 ∷ []) (whole (256 ∷ 2 ∷ 0 ∷ 128 ∷ 4 ∷ 128 ∷ 5 ∷ 2 ∷ [])) (PointwiseInto 1)
     (4 ∷ 64 ∷ 5 ∷ 2 ∷ []) (4 ∷ 1 ∷ 5 ∷ 2 ∷ []) (whole (128 ∷ 256 ∷ 2 ∷ 0 ∷ []))
-    ∷ plan_is_lem (128 ∷ 64 ∷ 8 ∷ 4 ∷ []) (64 ∷ 4 ∷ []) (whole (0 ∷ 16 ∷ 1024 ∷ 128 ∷ 0 ∷ 512 ∷ 0 ∷ 4096 ∷ [])) (PointwiseInto 1)
+    ∷ plan_is (128 ∷ 64 ∷ 8 ∷ 4 ∷ []) (64 ∷ 4 ∷ []) (whole (0 ∷ 16 ∷ 1024 ∷ 128 ∷ 0 ∷ 512 ∷ 0 ∷ 4096 ∷ [])) (PointwiseInto 1)
     (64 ∷ 4 ∷ 8 ∷ 128 ∷ []) (64 ∷ 1 ∷ 8 ∷ 128 ∷ []) (whole (16 ∷ 128 ∷ 1024 ∷ 0 ∷ []))
     -- 25 and 26: the refusal table's own cases of rows 5 and 6; 27: that of row 7 has a plan; 28: a zero extent passes them
     ∷ refused_is (2 ^ 32 ∷ 2 ^ 32 ∷ []) (1 ∷ []) (whole (0 ∷ 0 ∷ [])) Pointwise 5
     ∷ refused_is (3 ∷ []) (1 ∷ []) (whole (2 ^ 62 ∷ [])) Pointwise 6
-    ∷ plan_is_lem (2 ∷ []) (8 ∷ []) (whole (2 ^ 60 ∷ [])) Pointwise (2 ∷ []) (2 ∷ []) (whole (2 ^ 60 ∷ []))
-    ∷ plan_is_lem (0 ∷ 3 ∷ []) (8 ∷ []) (whole (1 ∷ 2 ^ 62 ∷ [])) Pointwise (0 ∷ 3 ∷ []) (0 ∷ 3 ∷ []) (whole (1 ∷ 2 ^ 62 ∷ []))
+    ∷ plan_is (2 ∷ []) (8 ∷ []) (whole (2 ^ 60 ∷ [])) Pointwise (2 ∷ []) (2 ∷ []) (whole (2 ^ 60 ∷ []))
+    ∷ plan_is (0 ∷ 3 ∷ []) (8 ∷ []) (whole (1 ∷ 2 ^ 62 ∷ [])) Pointwise (0 ∷ 3 ∷ []) (0 ∷ 3 ∷ []) (whole (1 ∷ 2 ^ 62 ∷ []))
     -- 29 and 30: on a fused axis the one that came first in the order of fusing is quickest: as given, and in loop order
     ∷ index_is (2 ∷ 3 ∷ 4 ∷ []) (8 ∷ []) (whole (1 ∷ 2 ∷ 6 ∷ [])) Pointwise (11 ∷ []) (1 ∷ 2 ∷ 1 ∷ [])
     ∷ index_is (33 ∷ 32 ∷ []) (8 ∷ []) (whole (32 ∷ 1 ∷ [])) (Fold 0) (70 ∷ []) (2 ∷ 6 ∷ [])
     -- 31 to 33: the repeat mark
-    ∷ mark_is_lem (3 ∷ 2 ∷ []) (whole (1 ∷ 0 ∷ [])) Yes
-    ∷ mark_is_lem (3 ∷ 1 ∷ []) (whole (1 ∷ 0 ∷ [])) No
-    ∷ mark_is_lem (0 ∷ 2 ∷ []) (whole (1 ∷ 0 ∷ [])) No
+    ∷ mark_is (3 ∷ 2 ∷ []) (whole (1 ∷ 0 ∷ [])) Yes
+    ∷ mark_is (3 ∷ 1 ∷ []) (whole (1 ∷ 0 ∷ [])) No
+    ∷ mark_is (0 ∷ 2 ∷ []) (whole (1 ∷ 0 ∷ [])) No
     -- 34 and 35: the text's worked example, in a room that is just enough, and in one of a byte less
     ∷ text_is example 64 example_text example_out
     ∷ text_is example 63 example_text (82 ∷ 44 ∷ 49 ∷ 52 ∷ 10 ∷ [])
@@ -193,10 +193,10 @@ figures =
     ∷ 69 ∷ 44 ∷ 52 ∷ 54 ∷ 49 ∷ 49 ∷ 54 ∷ 56 ∷ 54 ∷ 48 ∷ 49 ∷ 56 ∷ 52 ∷ 50 ∷ 55 ∷ 51 ∷ 56 ∷ 55 ∷ 57 ∷ 48 ∷ 52 ∷ 10 ∷ 79 ∷ 44 ∷ 50 ∷ 44 ∷ 51 ∷ 10 ∷ [])
     (82 ∷ 44 ∷ 54 ∷ 10 ∷ [])
     -- 40 to 42: walks 10 and 11 in one call and in three, the last of which finds the walk ended; and the text's example in two, two operands a block
-    ∷ calls_are_lem (plan_of (5 ∷ []) (2 ∷ []) (whole (3 ∷ []))) (pos 10 ∷ []) (4 ∷ []) (3 ∷ []) (2 ∷ 2 ∷ 1 ∷ 9 ∷ []) (whole (10 ∷ 16 ∷ 22 ∷ 9 ∷ []))
-    ∷ calls_are_lem (plan_of (3 ∷ 3 ∷ []) (2 ∷ 2 ∷ []) (whole (1 ∷ 10 ∷ []))) (pos 0 ∷ []) (4 ∷ 3 ∷ 1 ∷ []) (4 ∷ 2 ∷ 0 ∷ [])
+    ∷ calls_are (plan_of (5 ∷ []) (2 ∷ []) (whole (3 ∷ []))) (pos 10 ∷ []) (4 ∷ []) (3 ∷ []) (2 ∷ 2 ∷ 1 ∷ 9 ∷ []) (whole (10 ∷ 16 ∷ 22 ∷ 9 ∷ []))
+    ∷ calls_are (plan_of (3 ∷ 3 ∷ []) (2 ∷ 2 ∷ []) (whole (1 ∷ 10 ∷ []))) (pos 0 ∷ []) (4 ∷ 3 ∷ 1 ∷ []) (4 ∷ 2 ∷ 0 ∷ [])
     (2 ∷ 2 ∷ 1 ∷ 1 ∷ 2 ∷ 1 ∷ 9 ∷ 9 ∷ []) (whole (0 ∷ 10 ∷ 2 ∷ 12 ∷ 20 ∷ 22 ∷ 9 ∷ 9 ∷ []))
-    ∷ calls_are_lem (planned fixed_four (2 ∷ 3 ∷ []) (8 ∷ 8 ∷ []) (whole (1 ∷ 2 ∷ 3 ∷ 1 ∷ [])) Pointwise).plan (whole (0 ∷ 0 ∷ [])) (2 ∷ 2 ∷ []) (2 ∷ 1 ∷ [])
+    ∷ calls_are (planned fixed_four (2 ∷ 3 ∷ []) (8 ∷ 8 ∷ []) (whole (1 ∷ 2 ∷ 3 ∷ 1 ∷ [])) Pointwise).plan (whole (0 ∷ 0 ∷ [])) (2 ∷ 2 ∷ []) (2 ∷ 1 ∷ [])
     (2 ∷ 2 ∷ 2 ∷ 9 ∷ []) (whole (0 ∷ 0 ∷ 2 ∷ 1 ∷ 4 ∷ 2 ∷ 9 ∷ 9 ∷ []))
     -- 43 to 45: row 8 with other records: each of the four is read; in a cache that holds it all nothing is cut
     ∷ plan_on (machine_of 32 4096 4096 6) (64 ∷ 64 ∷ []) (8 ∷ 8 ∷ []) (whole (1 ∷ 64 ∷ 512 ∷ 1 ∷ [])) (PointwiseInto 0) (64 ∷ 64 ∷ []) (6 ∷ 16 ∷ []) (whole (1 ∷ 64 ∷ []))
@@ -215,70 +215,70 @@ figures =
     -- 53 to 57: equal weights, from the words of ask 9. Axis 2 weighs most; the other three weigh the same, and of those of extent 9 the lower
     -- comes first. Two operands that lie across each other, summed into one cell: the longer axis runs inside, but up to a total of 1,024 the
     -- axes are as given. Where nothing moves, the axis of extent 1 comes last, the other two fuse, and the longer one is quickest
-    ∷ plan_is_lem (3 ∷ 9 ∷ 5 ∷ 9 ∷ []) (8 ∷ []) (pos 2 ∷ pos 2 ∷ pos 1 ∷ negsuc 1 ∷ []) Pointwise
+    ∷ plan_is (3 ∷ 9 ∷ 5 ∷ 9 ∷ []) (8 ∷ []) (pos 2 ∷ pos 2 ∷ pos 1 ∷ negsuc 1 ∷ []) Pointwise
     (5 ∷ 9 ∷ 9 ∷ 3 ∷ []) (5 ∷ 9 ∷ 9 ∷ 3 ∷ []) (pos 1 ∷ pos 2 ∷ negsuc 1 ∷ pos 2 ∷ [])
-    ∷ plan_is_lem (4 ∷ 257 ∷ []) (8 ∷ 8 ∷ 8 ∷ []) (whole (1 ∷ 4 ∷ 257 ∷ 1 ∷ 0 ∷ 0 ∷ [])) (Fold 2) (257 ∷ 4 ∷ []) (257 ∷ 4 ∷ []) (whole (4 ∷ 1 ∷ []))
-    ∷ plan_is_lem (4 ∷ 256 ∷ []) (8 ∷ 8 ∷ 8 ∷ []) (whole (1 ∷ 4 ∷ 256 ∷ 1 ∷ 0 ∷ 0 ∷ [])) (Fold 2) (4 ∷ 256 ∷ []) (4 ∷ 256 ∷ []) (whole (1 ∷ 4 ∷ []))
-    ∷ plan_is_lem (2 ∷ 1 ∷ 600 ∷ []) (8 ∷ []) (whole (0 ∷ 5 ∷ 0 ∷ [])) Pointwise (1200 ∷ []) (1200 ∷ []) (whole (0 ∷ []))
+    ∷ plan_is (4 ∷ 257 ∷ []) (8 ∷ 8 ∷ 8 ∷ []) (whole (1 ∷ 4 ∷ 257 ∷ 1 ∷ 0 ∷ 0 ∷ [])) (Fold 2) (257 ∷ 4 ∷ []) (257 ∷ 4 ∷ []) (whole (4 ∷ 1 ∷ []))
+    ∷ plan_is (4 ∷ 256 ∷ []) (8 ∷ 8 ∷ 8 ∷ []) (whole (1 ∷ 4 ∷ 256 ∷ 1 ∷ 0 ∷ 0 ∷ [])) (Fold 2) (4 ∷ 256 ∷ []) (4 ∷ 256 ∷ []) (whole (1 ∷ 4 ∷ []))
+    ∷ plan_is (2 ∷ 1 ∷ 600 ∷ []) (8 ∷ []) (whole (0 ∷ 5 ∷ 0 ∷ [])) Pointwise (1200 ∷ []) (1200 ∷ []) (whole (0 ∷ []))
     ∷ index_is (2 ∷ 1 ∷ 600 ∷ []) (8 ∷ []) (whole (0 ∷ 5 ∷ 0 ∷ [])) Pointwise (700 ∷ []) (1 ∷ 0 ∷ 100 ∷ [])
     -- 58 to 63: an axis that nobody moves along stays whole; of any length; for a sum, and for a copy whose other blocks are fitted. An axis along
     -- which one operand does not move is cut, and so is one along which only an operand of size 0 moves
-    ∷ plan_is_lem (16 ∷ 16 ∷ 17 ∷ []) (16 ∷ 4 ∷ 16 ∷ []) (whole (0 ∷ 0 ∷ 0 ∷ 0 ∷ 1024 ∷ 64 ∷ 0 ∷ 64 ∷ 100 ∷ [])) Pointwise
+    ∷ plan_is (16 ∷ 16 ∷ 17 ∷ []) (16 ∷ 4 ∷ 16 ∷ []) (whole (0 ∷ 0 ∷ 0 ∷ 0 ∷ 1024 ∷ 64 ∷ 0 ∷ 64 ∷ 100 ∷ [])) Pointwise
     (17 ∷ 16 ∷ 16 ∷ []) (16 ∷ 15 ∷ 16 ∷ []) (whole (0 ∷ 0 ∷ 0 ∷ []))
-    ∷ plan_is_lem (2 ∷ 600 ∷ 2 ^ 40 ∷ []) (8 ∷ []) (whole (1 ∷ 1000 ∷ 0 ∷ [])) Pointwise
+    ∷ plan_is (2 ∷ 600 ∷ 2 ^ 40 ∷ []) (8 ∷ []) (whole (1 ∷ 1000 ∷ 0 ∷ [])) Pointwise
     (2 ∷ 600 ∷ 2 ^ 40 ∷ []) (2 ∷ 512 ∷ 2 ^ 40 ∷ []) (whole (1 ∷ 1000 ∷ 0 ∷ []))
-    ∷ plan_is_lem (33 ∷ 16 ∷ 17 ∷ []) (64 ∷ 64 ∷ []) (whole (0 ∷ 512 ∷ 1 ∷ 0 ∷ 1 ∷ 64 ∷ [])) (Fold 0)
+    ∷ plan_is (33 ∷ 16 ∷ 17 ∷ []) (64 ∷ 64 ∷ []) (whole (0 ∷ 512 ∷ 1 ∷ 0 ∷ 1 ∷ 64 ∷ [])) (Fold 0)
     (17 ∷ 16 ∷ 33 ∷ []) (16 ∷ 16 ∷ 33 ∷ []) (whole (1 ∷ 512 ∷ 0 ∷ []))
-    ∷ plan_is_lem (33 ∷ 16 ∷ 17 ∷ []) (64 ∷ 64 ∷ []) (whole (0 ∷ 512 ∷ 1 ∷ 0 ∷ 1 ∷ 64 ∷ [])) (PointwiseInto 0)
+    ∷ plan_is (33 ∷ 16 ∷ 17 ∷ []) (64 ∷ 64 ∷ []) (whole (0 ∷ 512 ∷ 1 ∷ 0 ∷ 1 ∷ 64 ∷ [])) (PointwiseInto 0)
     (17 ∷ 16 ∷ 33 ∷ []) (5 ∷ 1 ∷ 33 ∷ []) (whole (1 ∷ 512 ∷ 0 ∷ []))
-    ∷ plan_is_lem (32 ∷ 33 ∷ []) (64 ∷ 1 ∷ 16 ∷ []) (whole (0 ∷ 0 ∷ 32 ∷ 2 ∷ 16 ∷ 512 ∷ [])) Pointwise
+    ∷ plan_is (32 ∷ 33 ∷ []) (64 ∷ 1 ∷ 16 ∷ []) (whole (0 ∷ 0 ∷ 32 ∷ 2 ∷ 16 ∷ 512 ∷ [])) Pointwise
     (33 ∷ 32 ∷ []) (17 ∷ 29 ∷ []) (whole (0 ∷ 0 ∷ []))
-    ∷ plan_is_lem (16 ∷ 16 ∷ 32 ∷ []) (0 ∷ 64 ∷ 8 ∷ []) (whole (0 ∷ 1 ∷ 3 ∷ 5 ∷ 32 ∷ 0 ∷ 8 ∷ 8 ∷ 0 ∷ [])) Pointwise
+    ∷ plan_is (16 ∷ 16 ∷ 32 ∷ []) (0 ∷ 64 ∷ 8 ∷ []) (whole (0 ∷ 1 ∷ 3 ∷ 5 ∷ 32 ∷ 0 ∷ 8 ∷ 8 ∷ 0 ∷ [])) Pointwise
     (16 ∷ 32 ∷ 16 ∷ []) (15 ∷ 30 ∷ 16 ∷ []) (whole (1 ∷ 3 ∷ 0 ∷ []))
     -- 64 to 66: how good the fit is (ask 14). Rows 9 and 8: the load of the model's blocks, of the fitted ones, and of one more
     ∷ load_is (64 ∷ 64 ∷ []) (8 ∷ 8 ∷ []) (whole (1 ∷ 64 ∷ 512 ∷ 1 ∷ [])) (Fold 0) (64 ∷ 32 ∷ []) 64
     ∷ load_is (64 ∷ 64 ∷ []) (8 ∷ 8 ∷ []) (whole (1 ∷ 64 ∷ 512 ∷ 1 ∷ [])) (Fold 0) (6 ∷ 32 ∷ []) 6
     ∷ load_is (64 ∷ 64 ∷ []) (8 ∷ 8 ∷ []) (whole (1 ∷ 64 ∷ 512 ∷ 1 ∷ [])) (Fold 0) (7 ∷ 32 ∷ []) 7
     -- 67 to 70: the load stays above 6, and the one axis that may be shortened has block 1; on axis 1 the chosen stride is 0
-    ∷ plan_is_lem (16 ∷ 32 ∷ 3 ∷ []) (8 ∷ 8 ∷ []) (whole (64 ∷ 512 ∷ 0 ∷ 2048 ∷ 0 ∷ 0 ∷ [])) (Fold 1) (16 ∷ 32 ∷ 3 ∷ []) (16 ∷ 32 ∷ 3 ∷ []) (whole (64 ∷ 512 ∷ 0 ∷ []))
-    ∷ plan_is_lem (16 ∷ 32 ∷ 3 ∷ []) (8 ∷ 8 ∷ []) (whole (64 ∷ 512 ∷ 0 ∷ 2048 ∷ 0 ∷ 0 ∷ [])) (PointwiseInto 1) (16 ∷ 32 ∷ 3 ∷ []) (1 ∷ 32 ∷ 3 ∷ []) (whole (64 ∷ 512 ∷ 0 ∷ []))
+    ∷ plan_is (16 ∷ 32 ∷ 3 ∷ []) (8 ∷ 8 ∷ []) (whole (64 ∷ 512 ∷ 0 ∷ 2048 ∷ 0 ∷ 0 ∷ [])) (Fold 1) (16 ∷ 32 ∷ 3 ∷ []) (16 ∷ 32 ∷ 3 ∷ []) (whole (64 ∷ 512 ∷ 0 ∷ []))
+    ∷ plan_is (16 ∷ 32 ∷ 3 ∷ []) (8 ∷ 8 ∷ []) (whole (64 ∷ 512 ∷ 0 ∷ 2048 ∷ 0 ∷ 0 ∷ [])) (PointwiseInto 1) (16 ∷ 32 ∷ 3 ∷ []) (1 ∷ 32 ∷ 3 ∷ []) (whole (64 ∷ 512 ∷ 0 ∷ []))
     ∷ load_is (16 ∷ 32 ∷ 3 ∷ []) (8 ∷ 8 ∷ []) (whole (64 ∷ 512 ∷ 0 ∷ 2048 ∷ 0 ∷ 0 ∷ [])) (Fold 1) (16 ∷ 32 ∷ 3 ∷ []) 48
     ∷ load_is (16 ∷ 32 ∷ 3 ∷ []) (8 ∷ 8 ∷ []) (whole (64 ∷ 512 ∷ 0 ∷ 2048 ∷ 0 ∷ 0 ∷ [])) (Fold 1) (1 ∷ 32 ∷ 3 ∷ []) 33
     -- 71 to 75: axes 2 and 1 are shortened, one after the other. One more on axis 2 is too many with axis 1 as in the model, and would fit
     -- with axis 1 as fitted
-    ∷ plan_is_lem (2 ∷ 33 ∷ 4 ∷ 5 ∷ []) (8 ∷ 16 ∷ []) (whole (2048 ∷ 2048 ∷ 0 ∷ 4096 ∷ 1024 ∷ 2048 ∷ 2048 ∷ 0 ∷ [])) (Fold 1)
+    ∷ plan_is (2 ∷ 33 ∷ 4 ∷ 5 ∷ []) (8 ∷ 16 ∷ []) (whole (2048 ∷ 2048 ∷ 0 ∷ 4096 ∷ 1024 ∷ 2048 ∷ 2048 ∷ 0 ∷ [])) (Fold 1)
     (2 ∷ 33 ∷ 4 ∷ 5 ∷ []) (2 ∷ 33 ∷ 4 ∷ 5 ∷ []) (whole (2048 ∷ 2048 ∷ 0 ∷ 4096 ∷ []))
-    ∷ plan_is_lem (2 ∷ 33 ∷ 4 ∷ 5 ∷ []) (8 ∷ 16 ∷ []) (whole (2048 ∷ 2048 ∷ 0 ∷ 4096 ∷ 1024 ∷ 2048 ∷ 2048 ∷ 0 ∷ [])) (PointwiseInto 1)
+    ∷ plan_is (2 ∷ 33 ∷ 4 ∷ 5 ∷ []) (8 ∷ 16 ∷ []) (whole (2048 ∷ 2048 ∷ 0 ∷ 4096 ∷ 1024 ∷ 2048 ∷ 2048 ∷ 0 ∷ [])) (PointwiseInto 1)
     (2 ∷ 33 ∷ 4 ∷ 5 ∷ []) (2 ∷ 1 ∷ 1 ∷ 5 ∷ []) (whole (2048 ∷ 2048 ∷ 0 ∷ 4096 ∷ []))
     ∷ load_is (2 ∷ 33 ∷ 4 ∷ 5 ∷ []) (8 ∷ 16 ∷ []) (whole (2048 ∷ 2048 ∷ 0 ∷ 4096 ∷ 1024 ∷ 2048 ∷ 2048 ∷ 0 ∷ [])) (Fold 1) (2 ∷ 1 ∷ 1 ∷ 5 ∷ []) 4
     ∷ load_is (2 ∷ 33 ∷ 4 ∷ 5 ∷ []) (8 ∷ 16 ∷ []) (whole (2048 ∷ 2048 ∷ 0 ∷ 4096 ∷ 1024 ∷ 2048 ∷ 2048 ∷ 0 ∷ [])) (Fold 1) (2 ∷ 33 ∷ 2 ∷ 5 ∷ []) 198
     ∷ load_is (2 ∷ 33 ∷ 4 ∷ 5 ∷ []) (8 ∷ 16 ∷ []) (whole (2048 ∷ 2048 ∷ 0 ∷ 4096 ∷ 1024 ∷ 2048 ∷ 2048 ∷ 0 ∷ [])) (Fold 1) (2 ∷ 1 ∷ 2 ∷ 5 ∷ []) 6
     -- 76 and 77: up to a total of 1,024 nothing is fitted, and the load is what it is
-    ∷ plan_is_lem (16 ∷ 16 ∷ []) (8 ∷ 8 ∷ []) (whole (1 ∷ 16 ∷ 512 ∷ 1 ∷ [])) (PointwiseInto 0) (16 ∷ 16 ∷ []) (16 ∷ 16 ∷ []) (whole (1 ∷ 16 ∷ []))
+    ∷ plan_is (16 ∷ 16 ∷ []) (8 ∷ 8 ∷ []) (whole (1 ∷ 16 ∷ 512 ∷ 1 ∷ [])) (PointwiseInto 0) (16 ∷ 16 ∷ []) (16 ∷ 16 ∷ []) (whole (1 ∷ 16 ∷ []))
     ∷ load_is (16 ∷ 16 ∷ []) (8 ∷ 8 ∷ []) (whole (1 ∷ 16 ∷ 512 ∷ 1 ∷ [])) (Fold 0) (16 ∷ 16 ∷ []) 16
     -- 78 and 79: byte strides of two words, ask 6: 2 ^ 64 is not below a line; and the remainder by a way that divides no power of two
-    ∷ plan_is_lem (64 ∷ 33 ∷ []) (1 ∷ 2 ^ 40 ∷ []) (whole (2 ∷ 1 ∷ 1 ∷ 2 ^ 24 ∷ [])) (PointwiseInto 0) (33 ∷ 64 ∷ []) (17 ∷ 30 ∷ []) (whole (1 ∷ 2 ∷ []))
+    ∷ plan_is (64 ∷ 33 ∷ []) (1 ∷ 2 ^ 40 ∷ []) (whole (2 ∷ 1 ∷ 1 ∷ 2 ^ 24 ∷ [])) (PointwiseInto 0) (33 ∷ 64 ∷ []) (17 ∷ 30 ∷ []) (whole (1 ∷ 2 ∷ []))
     ∷ plan_on (machine_of 32 8192 96 1) (31 ∷ 64 ∷ 16 ∷ []) (63 ∷ 1 ∷ []) (whole (1 ∷ 0 ∷ 576460752303423424 ∷ 2 ∷ 64 ∷ 1 ∷ [])) (PointwiseInto 0)
     (31 ∷ 16 ∷ 64 ∷ []) (14 ∷ 1 ∷ 28 ∷ []) (whole (1 ∷ 576460752303423424 ∷ 0 ∷ []))
     -- 80 to 84: the layout of ask 2, which folds onto itself; one that only looks so; signs do not matter; a layout without an axis; a zero
     -- extent beside a total that would be decided quickly
-    ∷ mark_is_lem (3 ∷ 3 ∷ []) (whole (1 ∷ 1 ∷ [])) Yes
-    ∷ mark_is_lem (3 ∷ 2 ∷ []) (whole (2 ∷ 3 ∷ [])) No
-    ∷ mark_is_lem (3 ∷ 3 ∷ []) (pos 1 ∷ negsuc 1 ∷ []) Yes
-    ∷ mark_is_lem [] [] No
-    ∷ mark_is_lem (5000 ∷ 0 ∷ []) (whole (0 ∷ 1 ∷ [])) No
+    ∷ mark_is (3 ∷ 3 ∷ []) (whole (1 ∷ 1 ∷ [])) Yes
+    ∷ mark_is (3 ∷ 2 ∷ []) (whole (2 ∷ 3 ∷ [])) No
+    ∷ mark_is (3 ∷ 3 ∷ []) (pos 1 ∷ negsuc 1 ∷ []) Yes
+    ∷ mark_is [] [] No
+    ∷ mark_is (5000 ∷ 0 ∷ []) (whole (0 ∷ 1 ∷ [])) No
     -- 85 to 90: totals above 4,096. A zero stride, at an extent of 1 too; a size that exceeds the reach before it, one that equals it, and one
     -- that would exceed it by its sign; a layout that does not fold, and is not decided
-    ∷ mark_is_lem (4097 ∷ 2 ∷ []) (whole (1 ∷ 0 ∷ [])) Yes
-    ∷ mark_is_lem (4097 ∷ 1 ∷ []) (whole (1 ∷ 0 ∷ [])) No
-    ∷ mark_is_lem (2 ∷ 4097 ∷ []) (negsuc 4096 ∷ pos 1 ∷ []) No
-    ∷ mark_is_lem (2 ∷ 4097 ∷ []) (negsuc 4095 ∷ pos 1 ∷ []) Undecided
-    ∷ mark_is_lem (65 ∷ 65 ∷ []) (pos 1 ∷ negsuc 0 ∷ []) Undecided
-    ∷ mark_is_lem (3 ∷ 2 ∷ 4097 ∷ []) (whole (2 ∷ 3 ∷ 8 ∷ [])) Undecided
+    ∷ mark_is (4097 ∷ 2 ∷ []) (whole (1 ∷ 0 ∷ [])) Yes
+    ∷ mark_is (4097 ∷ 1 ∷ []) (whole (1 ∷ 0 ∷ [])) No
+    ∷ mark_is (2 ∷ 4097 ∷ []) (negsuc 4096 ∷ pos 1 ∷ []) No
+    ∷ mark_is (2 ∷ 4097 ∷ []) (negsuc 4095 ∷ pos 1 ∷ []) Undecided
+    ∷ mark_is (65 ∷ 65 ∷ []) (pos 1 ∷ negsuc 0 ∷ []) Undecided
+    ∷ mark_is (3 ∷ 2 ∷ 4097 ∷ []) (whole (2 ∷ 3 ∷ 8 ∷ [])) Undecided
     -- 91 to 93: rows 5 and 6 hold for the mark, and 6 passes at a zero extent
     ∷ mark_refuses (2 ^ 32 ∷ 2 ^ 32 ∷ []) (whole (1 ∷ 0 ∷ [])) 5
     ∷ mark_refuses (3 ∷ []) (whole (2 ^ 62 ∷ [])) 6
-    ∷ mark_is_lem (3 ∷ 0 ∷ []) (whole (2 ^ 62 ∷ 1 ∷ [])) No
+    ∷ mark_is (3 ∷ 0 ∷ []) (whole (2 ^ 62 ∷ 1 ∷ [])) No
     ∷ []
 
 -- ---- what the definitions give
@@ -342,7 +342,7 @@ unfoldable pub right : Figure → Bool
 right (ranks_are ss rs) = same (ranks ss) rs
 right (weights_are es operands ss ws) = same (weights es operands ss 0) ws
 right (region_is es ss size r) = eqb (region fixed_four (byte_table (size ∷ []) ss) 1 es 0 (length es)) r
-right (plan_is_lem es sizes ss u fs bs ts) = let a : Planned = planned fixed_four es sizes ss u in plan_right a (length sizes) fs bs ts
+right (plan_is es sizes ss u fs bs ts) = let a : Planned = planned fixed_four es sizes ss u in plan_right a (length sizes) fs bs ts
 right (refused_is es sizes ss u n) = let a : Planned = planned fixed_four es sizes ss u in refused_right a n
 right (plan_on mc es sizes ss u fs bs ts) = let a : Planned = planned mc es sizes ss u in plan_right a (length sizes) fs bs ts
 right (refused_on mc es sizes ss u n) = let a : Planned = planned mc es sizes ss u in refused_right a n
@@ -354,15 +354,15 @@ right (index_is es sizes ss u cs x) =
     let b : Told = told_plan es sizes ss u x in
     eqb (number_of a.answer) 0 && (eqb a.count (length x) && (same a.index (padded 64 0 x)
     && (eqb (number_of b.answer) 0 && (eqb b.count (length cs) && same b.index (padded 64 0 cs)))))
-right (walk_is_lem es bs ts z zs ns) =
+right (walk_is es bs ts z zs ns) =
     let a : Begun = begun_at (plan_of es bs ts) (z ∷ []) in
     let s : Seen = seen 100 (plan_of es bs ts) a.walk in
     eqb (number_of a.answer) 0 && (same_z s.offsets zs && (same s.lengths ns && eqb s.fault 0))
-right (calls_are_lem p starts rooms counts ns zs) =
+right (calls_are p starts rooms counts ns zs) =
     let a : Begun = begun_at p starts in
     let c : Calls = called rooms p a.walk in
     eqb (number_of a.answer) 0 && (same c.counts counts && (same c.lengths ns && same_z c.offsets zs))
-right (mark_is_lem es ts m) = let a : Marked = marked es ts in eqb (number_of a.answer) 0 && eqb (mark_number a.mark) (mark_number m)
+right (mark_is es ts m) = let a : Marked = marked es ts in eqb (number_of a.answer) 0 && eqb (mark_number a.mark) (mark_number m)
 right (mark_refuses es ts n) = let a : Marked = marked es ts in eqb (number_of a.answer) n && eqb (mark_number a.mark) 0
 right (text_is p room t out) = same (written p) t && same (printed_by (listed p (replicate room 0))) out
 

@@ -79,12 +79,18 @@ sum_int (negsuc k) true (suc q) = alike true (suc k + suc q) (suc (suc (k + q)))
 
 add_val : (x y : Float) (s t : Bool) (p q : ℕ) → HasValue x s p 1 → HasValue y t q 1 → add binary64 x y ≡ sum binary64 s p t q 1
 unfolding add
+add_val nan y s t p q v w = elim v [ ]
+add_val (inf b) y s t p q v w = elim v [ ]
+add_val (fin s' m e) nan s t p q v w = elim w [ ]
+add_val (fin s' m e) (inf b) s t p q v w = elim w [ ]
 add_val (fin s' m e) (fin t' n d) s t p q v w =
     let a : m * up e * down d ≡ p * (down e * down d) = cc (mul-one (m * up e), v.1, mul_assoc p (down e) (down d)) in
     let b : n * up d * down e ≡ q * (down e * down d) = cc (mul-one (n * up d), w.1, mul_assoc q (down d) (down e), mul_comm (down d) (down e)) in
     rw (a, b, v.0, w.0) (sum_over s p t q (down e * down d) (mul-pos (down_pos e) (down_pos d)))
 
 of_whole : (y : Float) (z : ℤ) → Whole y z → (t : Bool) × HasValue y t (nat_abs z) 1 × (signed t (nat_abs z) ≡ z)
+of_whole nan z w = elim w [ ]
+of_whole (inf b) z w = elim w [ ]
 of_whole (fin t m e) z w = (t, (refl, mul-one (m * up e) ∙ w.0), w.1)
 
 -- a float that holds the integer a, and a whole number: their sum is rounded once, from the exact one
@@ -113,6 +119,8 @@ added x (y ∷ ys) = added (add binary64 x y) ys
 
 pub added_exact : (a : ℤ) (xs : List Float) (zs : List ℤ) → Wholes xs zs → nat_abs a + sizes_of zs ≤ 2 ^ 53 → added (of_int binary64 a) xs ≡ of_int binary64 (a +ℤ exact_sum zs)
 added_exact a [] [] w h = ap (of_int binary64) (sym (+ℤ_idr a))
+added_exact a [] (z ∷ zs) w h = elim w [ ]
+added_exact a (x ∷ xs) [] w h = elim w [ ]
 added_exact a (x ∷ xs) (z ∷ zs) w h =
     let k : nat_abs a ≤ 2 ^ 53 = omega arith in
     let t = abs_add a z in
@@ -142,6 +150,8 @@ sign_back (pos n) = refl
 sign_back (negsuc n) = refl
 
 value-whole : (x : Float) (a : ℤ) → HasValue x (below a) (nat_abs a) 1 → Whole x a
+value-whole nan a v = elim v [ ]
+value-whole (inf b) a v = elim v [ ]
 value-whole (fin s m e) a v = (sym (mul-one (m * up e)) ∙ v.1, rw v.0 (sign_back a))
 
 pub of_int_whole : (a : ℤ) → nat_abs a ≤ 2 ^ 53 → Whole (of_int binary64 a) a
@@ -162,5 +172,7 @@ unsign true zero = refl
 unsign true (suc n) = refl
 
 pub whole-one : (x : Float) (a b : ℤ) → Whole x a → Whole x b → a ≡ b
+whole-one nan a b v w = elim v [ ]
+whole-one (inf s) a b v w = elim v [ ]
 whole-one (fin s m e) a b v w =
     sym v.1 ∙ ap (signed s) (eq_of_mul-eq-mul_right (down e) (down_pos e) (nat_abs a) (nat_abs b) (sym v.0 ∙ w.0)) ∙ w.1

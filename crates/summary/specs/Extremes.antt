@@ -154,6 +154,7 @@ bounded_after y s [] p = p
 bounded_after y s (x ∷ xs) p = bounded_after y (with_cell s x) xs (bounded_on y s x p)
 
 bounded_in : (y : Float) (s : Summary) (xs : List Float) → is_nan y ≡ false → In y xs → Bounded y (with_cells s xs)
+bounded_in y s [] h i = elim i [ ]
 bounded_in y s (x ∷ xs) h (inl e) = bounded_after y (with_cell s x) xs (rw (sym e) (bounded_at s y h))
 bounded_in y s (x ∷ xs) h (inr i) = bounded_in y (with_cell s x) xs h i
 

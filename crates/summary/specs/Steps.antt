@@ -9,6 +9,7 @@ use Rattle.summary.specs.Sums.{with_sum, with_nan, with_number, with_cell, with_
 
 same_true : (p : Bool) → T p → not (p && true) ≡ false
 same_true true t = refl
+same_true false t = elim t [ ]
 
 -- a float differs from itself exactly if it is not a number
 pub ne_is : (x : Float) → ne x x ≡ is_nan x

@@ -2,13 +2,18 @@
 // plan and its blocks, or the number of its refusal, are printed. A file, a read or a write that fails is told on standard error.
 #![tactic(auto)]
 
+mod words;
+
 ghost use Rattle.std.specs.Prelude.{◌≡◌, length, replicate};
 ghost use Rattle.strided.specs.Text.{Prints};
 ghost use Rattle.walklist.specs.Asking.{Asks};
 ghost use Rattle.walklist.specs.Printing.{Received, Printing};
 
 use layout::magnitude;
-use libc::{STDERR_FILENO, STDIN_FILENO, STDOUT_FILENO};
+use std::env::{Env, FillError};
+use std::fs::File;
+use std::io::Read;
+use words::system_words;
 use writing::line::put_refusal;
 
 // One byte more than a text may have: a longer one is told by that byte alone.
@@ -17,6 +22,9 @@ const TEXT: usize = 16385;
 // "The program lends 65,536 bytes for output".
 const ROOM: usize = 65536;
 
+// The longest argument that is looked at: one byte more than the name of a file can have.
+const ARGUMENT: usize = 4096;
+
 // How many bytes were read, or that a read failed.
 #[derive(Clone, Copy)]
 enum Input {
@@ -24,20 +32,17 @@ enum Input {
     Failed,
 }
 
-// Reads a descriptor to its end, or until the bytes lent are full.
-fn read_input(fd: i32, text: &mut [u8]) -> Input
+// Reads to the end, or until the bytes lent are full.
+fn read_input<R: Read>(reader: &mut R, text: &mut [u8]) -> Input
     ensures { Received (length text.old) result }
 {
     let mut n: usize = 0;
     while n < text.len() {
-        let got = libc::read(fd, &mut text[n..]);
-        if got < 0 {
-            return Input::Failed;
+        match reader.read(&mut text[n..]) {
+            Err(_) => return Input::Failed,
+            Ok(0) => return Input::Bytes(n),
+            Ok(got) => n += got,
         }
-        if got == 0 {
-            return Input::Bytes(n);
-        }
-        n += got as usize;
     }
     Input::Bytes(n)
 }
@@ -54,71 +59,94 @@ fn list_text(text: &[u8], out: &mut [u8]) -> usize
     answer as usize
 }
 
-fn complain(message: &[u8]) {
-    io::write_all(STDERR_FILENO, message);
+fn complain(rt: &HostRuntime, message: &[u8]) {
+    let _ = rt.stderr().write_all(message);
 }
 
 // Hands the lines that are printed for a text to `write`. Nothing else is written to standard output but the lines of help, and a text is
 // asked for so that no other bytes can be handed over.
-fn write_lines<'a>(text: &'a [u8], lines: &'a [u8])
+fn write_lines<'a>(rt: &HostRuntime, text: &'a [u8], lines: &'a [u8])
     requires { Prints text.now lines.now }
 {
-    if io::write_all(STDOUT_FILENO, lines) {
+    if rt.stdout().write_all(lines).is_ok() {
         return;
     }
-    complain(b"walklist: cannot write standard output\n");
+    complain(rt, b"walklist: cannot write standard output\n");
 }
 
 // Prints what is printed for a text.
-fn print_text(text: &[u8], out: &mut [u8])
+fn print_text(rt: &HostRuntime, text: &[u8], out: &mut [u8])
     requires { out.old ≡ replicate 65536 0 }
 {
     let n = list_text(text, out);
-    write_lines(text, &out[..n]);
+    write_lines(rt, text, &out[..n]);
 }
 
-// Prints what is printed for the text that a descriptor holds.
-fn print_input(fd: i32) {
+// Prints what is printed for the text that is read.
+fn print_input<R: Read>(rt: &HostRuntime, reader: &mut R) {
     let mut text = [0u8; TEXT];
     let mut out = [0u8; ROOM];
-    match read_input(fd, &mut text) {
-        Input::Bytes(n) => print_text(&text[..n], &mut out),
-        Input::Failed => complain(b"walklist: cannot read the layout\n"),
+    match read_input(reader, &mut text) {
+        Input::Bytes(n) => print_text(rt, &text[..n], &mut out),
+        Input::Failed => complain(rt, b"walklist: cannot read the layout\n"),
     }
 }
 
 // A line of help on standard output: of what is written there, all that is no listing.
-fn help_line(line: &[u8]) {
-    if io::write_all(STDOUT_FILENO, line) {
+fn help_line(rt: &HostRuntime, line: &[u8]) {
+    if rt.stdout().write_all(line).is_ok() {
         return;
     }
-    complain(b"walklist: cannot write standard output\n");
+    complain(rt, b"walklist: cannot write standard output\n");
 }
 
 // The form of the texts.
-fn print_help() {
-    help_line(b"walklist [FILE]\n");
+fn print_help(rt: &HostRuntime) {
+    help_line(rt, b"walklist [FILE]\n");
     help_line(
+        rt,
         b"Prints the plan of a layout and the blocks of its walk. The layout is read from FILE, or from standard input:\n",
     );
     help_line(
+        rt,
         b"  L,purpose,rank,operands,chosen   P or F; the number of the chosen operand, or - for none (P only)\n",
     );
-    help_line(b"  E,extents                        one for each axis\n");
     help_line(
+        rt,
+        b"  E,extents                        one for each axis\n",
+    );
+    help_line(
+        rt,
         b"  O,size,strides                   for each operand its bytes, and a stride in elements for each axis\n",
     );
     help_line(
+        rt,
         b"Numbers are decimal, lines end in LF, and a text has at most 16,384 bytes. It prints:\n",
     );
-    help_line(b"  K,rank                           the axes of the plan\n");
     help_line(
+        rt,
+        b"  K,rank                           the axes of the plan\n",
+    );
+    help_line(
+        rt,
         b"  A,axis,extent,block,strides      for each axis, the innermost first; a stride for each operand\n",
     );
-    help_line(b"  B,number,length,offsets          for each block; an offset for each operand\n");
-    help_line(b"  Z,blocks,cells                   how many there are\n");
-    help_line(b"  R,number                         and nothing else, if the layout is refused\n");
-    help_line(b"For instance: printf 'L,P,2,2,-\\nE,2,3\\nO,8,1,2\\nO,8,3,1\\n' | walklist\n");
+    help_line(
+        rt,
+        b"  B,number,length,offsets          for each block; an offset for each operand\n",
+    );
+    help_line(
+        rt,
+        b"  Z,blocks,cells                   how many there are\n",
+    );
+    help_line(
+        rt,
+        b"  R,number                         and nothing else, if the layout is refused\n",
+    );
+    help_line(
+        rt,
+        b"For instance: printf 'L,P,2,2,-\\nE,2,3\\nO,8,1,2\\nO,8,3,1\\n' | walklist\n",
+    );
 }
 
 // Whether an argument asks for help.
@@ -139,32 +167,56 @@ fn is_help(word: &[u8]) -> bool
     true
 }
 
-// Prints what is printed for the text in a file. The file is closed by the program's end, which is next.
-fn print_file(name: &[u8]) {
-    let fd = os::open_read(name);
-    if fd < 0 {
-        complain(b"walklist: ");
-        os::fail(name);
-        return;
-    }
-    print_input(fd);
+// Says why a file is not opened.
+fn complain_of(rt: &HostRuntime, name: &[u8], why: &str) {
+    complain(rt, b"walklist: ");
+    complain(rt, name);
+    complain(rt, b": ");
+    complain(rt, why.as_bytes());
+    complain(rt, b"\n");
 }
 
-fn main() {
-    let count = os::arg_count();
-    if count < 2 {
-        print_input(STDIN_FILENO);
+// Prints what is printed for the text in a file. std opens a file by a name in UTF-8 alone.
+fn print_file(rt: &HostRuntime, name: &[u8]) {
+    let Ok(path) = str::from_utf8(name) else {
+        complain_of(
+            rt,
+            name,
+            "the name is not UTF-8; hand the file over as standard input",
+        );
+        return;
+    };
+    match File::open(rt, path) {
+        Ok(mut file) => print_input(rt, &mut file),
+        Err(error) => {
+            let mut room = [0u8; 256];
+            complain_of(rt, name, system_words(&error, &mut room));
+        }
+    }
+}
+
+// Prints what one argument asks for.
+fn print_asked(rt: &HostRuntime, word: &[u8]) {
+    if is_help(word) {
+        print_help(rt);
         return;
     }
-    let mut word = io::buffer();
-    let length = os::arg(1, &mut word);
-    if count > 2 || os::errno() != 0 {
-        complain(b"walklist: one argument at most, a file's name; --help tells the form\n");
-        return;
+    print_file(rt, word);
+}
+
+// Whether there is no second argument.
+fn is_alone(rt: &HostRuntime) -> bool {
+    matches!(rt.arg(2, &mut []), Err(FillError::NotPresent))
+}
+
+fn main(rt: HostRuntime) {
+    let mut word = [0u8; ARGUMENT];
+    match rt.arg(1, &mut word) {
+        Err(FillError::NotPresent) => print_input(&rt, &mut rt.stdin()),
+        Ok(length) if is_alone(&rt) => print_asked(&rt, &word[..length]),
+        _ => complain(
+            &rt,
+            b"walklist: one argument at most, a file's name; --help tells the form\n",
+        ),
     }
-    if is_help(&word[..length]) {
-        print_help();
-        return;
-    }
-    print_file(&word[..length]);
 }

@@ -12,11 +12,11 @@ use Rattle.session.proofs.check_leave.Goals as goal
 
 pub returns-then-holds : goal.returns-then-holds
 returns-then-holds c =
-    let session : Session = let a = c.args in session_at a.numbers a.extents.now a.sizes.now a.strides.now a.ranks.now a.weights.now a.costs.now a.plan_extents_lem.now a.blocks.now a.plan_strides.now in
+    let session : Session = let a = c.args in session_at a.numbers a.extents.now a.sizes.now a.strides.now a.ranks.now a.weights.now a.costs.now a.plan_extents.now a.blocks.now a.plan_strides.now in
     let a = c.args in
-    let h = (c.holds.ensures.told, c.holds.ensures.table) in record { told = c.check_leaving.ensures ∙ sym (past_10 session h.0 (row21 a.numbers.operands a.operand ∷ []) c.if-holds.true); table = (λ e. h.1 c.if-holds.true) }
+    let h = c.holds.ensures in record { told = c.check_leaving.ensures ∙ sym (past_10 session h.told (row21 a.numbers.operands a.operand ∷ []) c.if-holds.true); table = (λ e. h.table c.if-holds.true) }
 
 pub returns : goal.returns
 returns c =
-    let session : Session = let a = c.args in session_at a.numbers a.extents.now a.sizes.now a.strides.now a.ranks.now a.weights.now a.costs.now a.plan_extents_lem.now a.blocks.now a.plan_strides.now in
+    let session : Session = let a = c.args in session_at a.numbers a.extents.now a.sizes.now a.strides.now a.ranks.now a.weights.now a.costs.now a.plan_extents.now a.blocks.now a.plan_strides.now in
     let a = c.args in record { told = sym (at_10 session c.holds.ensures.told (row21 a.numbers.operands a.operand ∷ []) c.if-holds.false); table = (λ e. let z : ◌≡◌ {A = ℕ} 0 1 = cc e in absurd (omega arith)) }

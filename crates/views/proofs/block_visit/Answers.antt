@@ -19,12 +19,12 @@ pub returns-in-Refused : goal.returns-in-Refused
 returns-in-Refused c =
     let a = c.args in
     c.not_visited.ensures
-    ∙ value-refused a.extents.now a.sizes.now a.strides.now a.purpose a.t5 a.stepped c.requires.block
-    (told_as a.extents.now a.sizes.now a.strides.now a.purpose c.requires.layout (take a.t5.rank a.stepped.counters) c.in-Refused.is c.original_of_into-told.ensures)
+    ∙ value-refused a.extents.now a.sizes.now a.strides.now a.purpose a.plan a.stepped c.requires.block
+    (told_as a.extents.now a.sizes.now a.strides.now a.purpose c.requires.layout (take a.plan.rank a.stepped.counters) c.in-Refused.is c.original_of_into-told.ensures)
 
 pub returns-in-Served : goal.returns-in-Served
 returns-in-Served c =
     let a = c.args in
-    value_block a.extents.now a.sizes.now a.strides.now a.purpose a.t5 a.stepped c.requires.block
-    (told_as a.extents.now a.sizes.now a.strides.now a.purpose c.requires.layout (take a.t5.rank a.stepped.counters) c.in-Served.is c.original_of_into-told.ensures)
+    value_block a.extents.now a.sizes.now a.strides.now a.purpose a.plan a.stepped c.requires.block
+    (told_as a.extents.now a.sizes.now a.strides.now a.purpose c.requires.layout (take a.plan.rank a.stepped.counters) c.in-Served.is c.original_of_into-told.ensures)
     c.number_of-number.ensures

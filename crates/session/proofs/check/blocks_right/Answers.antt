@@ -12,27 +12,27 @@ compute_costs-c-requires c = let t = c.requires in (t.one, (t.few, t.plan))
 pub same-requires : goal.same-requires
 same-requires c =
     -- the fresh costs and blocks, and their places
-    let laid : let a = c.args in BlocksAt a.numbers a.extents.now a.sizes.now a.plan_extents_lem.now a.plan_strides.now c.compute_costs-c.result c.blocks_kept_into.new.blocks = record { costs = c.compute_costs-c.ensures; blocks = c.blocks_kept_into.ensures } in
+    let laid : let a = c.args in BlocksAt a.numbers a.extents.now a.sizes.now a.plan_extents.now a.plan_strides.now c.compute_costs-c.result c.blocks_kept_into.new.blocks = record { costs = c.compute_costs-c.ensures; blocks = c.blocks_kept_into.ensures } in
     let places : (length c.compute_costs-c.result ≡ 64) × (length c.blocks_kept_into.new.blocks ≡ 64) = let a = c.args in
-    blocks_places a.numbers a.extents.now a.sizes.now a.plan_extents_lem.now a.plan_strides.now c.requires.places laid in
-    places.0 ∙ sym c.same-arg-1.given.0
+    blocks_places a.numbers a.extents.now a.sizes.now a.plan_extents.now a.plan_strides.now c.requires.places laid in
+    places.0 ∙ sym c.same-arg-1.given
 
 pub slice_bounds-same-end-3 : goal.slice_bounds-same-end-3
 slice_bounds-same-end-3 c =
-    let laid : let a = c.args in BlocksAt a.numbers a.extents.now a.sizes.now a.plan_extents_lem.now a.plan_strides.now c.compute_costs-c.result c.blocks_kept_into.new.blocks = record { costs = c.compute_costs-c.ensures; blocks = c.blocks_kept_into.ensures } in
+    let laid : let a = c.args in BlocksAt a.numbers a.extents.now a.sizes.now a.plan_extents.now a.plan_strides.now c.compute_costs-c.result c.blocks_kept_into.new.blocks = record { costs = c.compute_costs-c.ensures; blocks = c.blocks_kept_into.ensures } in
     let places : (length c.compute_costs-c.result ≡ 64) × (length c.blocks_kept_into.new.blocks ≡ 64) = let a = c.args in
-    blocks_places a.numbers a.extents.now a.sizes.now a.plan_extents_lem.now a.plan_strides.now c.requires.places laid in
+    blocks_places a.numbers a.extents.now a.sizes.now a.plan_extents.now a.plan_strides.now c.requires.places laid in
     sym places.1
 
 pub same-requires-2 : goal.same-requires-2
 same-requires-2 c =
-    let laid : let a = c.args in BlocksAt a.numbers a.extents.now a.sizes.now a.plan_extents_lem.now a.plan_strides.now c.compute_costs-c.result c.blocks_kept_into.new.blocks = record { costs = c.compute_costs-c.ensures; blocks = c.blocks_kept_into.ensures } in
+    let laid : let a = c.args in BlocksAt a.numbers a.extents.now a.sizes.now a.plan_extents.now a.plan_strides.now c.compute_costs-c.result c.blocks_kept_into.new.blocks = record { costs = c.compute_costs-c.ensures; blocks = c.blocks_kept_into.ensures } in
     let places : (length c.compute_costs-c.result ≡ 64) × (length c.blocks_kept_into.new.blocks ≡ 64) = let a = c.args in
-    blocks_places a.numbers a.extents.now a.sizes.now a.plan_extents_lem.now a.plan_strides.now c.requires.places laid in
-    places.1 ∙ sym c.same-arg-2-1.given.0
+    blocks_places a.numbers a.extents.now a.sizes.now a.plan_extents.now a.plan_strides.now c.requires.places laid in
+    places.1 ∙ sym c.same-arg-2-1.given
 
 pub returns : goal.returns
 returns c =
-    let laid : let a = c.args in BlocksAt a.numbers a.extents.now a.sizes.now a.plan_extents_lem.now a.plan_strides.now c.compute_costs-c.result c.blocks_kept_into.new.blocks = record { costs = c.compute_costs-c.ensures; blocks = c.blocks_kept_into.ensures } in
+    let laid : let a = c.args in BlocksAt a.numbers a.extents.now a.sizes.now a.plan_extents.now a.plan_strides.now c.compute_costs-c.result c.blocks_kept_into.new.blocks = record { costs = c.compute_costs-c.ensures; blocks = c.blocks_kept_into.ensures } in
     let a = c.args in
-    blocks_decide a.numbers a.extents.now a.sizes.now a.plan_extents_lem.now a.plan_strides.now laid a.costs.now a.blocks.now c.same.ensures c.same-2.ensures
+    blocks_decide a.numbers a.extents.now a.sizes.now a.plan_extents.now a.plan_strides.now laid a.costs.now a.blocks.now c.same.ensures c.same-2.ensures

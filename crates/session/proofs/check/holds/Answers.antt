@@ -5,11 +5,11 @@ use borrow.Author.Rules.{rules}
 use Rattle.session.proofs.check.holds.Goals as goal
 
 pub layout_right-requires : goal.layout_right-requires
-layout_right-requires c = (c.layout_right-arg-1.given.0, (c.layout_right-arg-2-1.given.0, c.layout_right-arg-3-1.given.0))
+layout_right-requires c = (c.layout_right-arg-1.given, (c.layout_right-arg-2-1.given, c.layout_right-arg-3-1.given))
 
 pub parts_right-requires : goal.parts_right-requires
 parts_right-requires c = record { table_value = c.requires; layout_right = c.layout_right.ensures.yes c.if-layout_right.true }
 
 pub returns : goal.returns
 returns c =
-    let a = c.args in record { told = decides_not (λ r. c.layout_right.ensures.no c.if-layout_right.false (right_layout a.numbers a.extents.now a.sizes.now a.strides.now a.ranks.now a.weights.now a.costs.now a.plan_extents_lem.now a.blocks.now a.plan_strides.now r)); table = (λ h. absurd (false≢true h)) }
+    let a = c.args in record { told = decides_not (λ r. c.layout_right.ensures.no c.if-layout_right.false (right_layout a.numbers a.extents.now a.sizes.now a.strides.now a.ranks.now a.weights.now a.costs.now a.plan_extents.now a.blocks.now a.plan_strides.now r)); table = (λ h. absurd (false≢true h)) }

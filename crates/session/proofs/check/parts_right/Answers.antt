@@ -17,7 +17,7 @@ table_into-requires c =
 pub ranks_right-requires : goal.ranks_right-requires
 ranks_right-requires c =
     let right : LayoutRight c.args.numbers c.args.extents.now c.args.sizes.now c.args.strides.now = c.requires.layout_right in
-    let l = right in record { operands_bound = (l.few, table_even _ c.args.numbers.rank c.args.numbers.operands l.axes _ c.table_into.ensures.is); ranks_len = c.ranks-right-arg2.given.0 }
+    let l = right in record { operands_bound = (l.few, table_even _ c.args.numbers.rank c.args.numbers.operands l.axes _ c.table_into.ensures.is); ranks_len = c.told-ranks }
 
 pub kept_right-requires : goal.kept_right-requires
 kept_right-requires c =
@@ -31,8 +31,8 @@ returns-then-ranks_right c =
     let same : let a = c.args in ranks_in c.table_into.new.table a.numbers.operands ≡ ranks_of (given_in a.numbers a.extents.now a.sizes.now a.strides.now) = let a = c.args in own_ranks a.numbers a.extents.now a.sizes.now a.strides.now right _ c.table_into.ensures in
     let a = c.args in record {
       told = decides_as c.kept_right.ensures
-          (λ k. all_right a.numbers a.extents.now a.sizes.now a.strides.now a.ranks.now a.weights.now a.costs.now a.plan_extents_lem.now a.blocks.now a.plan_strides.now right (c.ranks_right.ensures.yes c.if-ranks_right.true ∙ same) k)
-          (λ h. right_keeps a.numbers a.extents.now a.sizes.now a.strides.now a.ranks.now a.weights.now a.costs.now a.plan_extents_lem.now a.blocks.now a.plan_strides.now h);
+          (λ k. all_right a.numbers a.extents.now a.sizes.now a.strides.now a.ranks.now a.weights.now a.costs.now a.plan_extents.now a.blocks.now a.plan_strides.now right (c.ranks_right.ensures.yes c.if-ranks_right.true ∙ same) k)
+          (λ h. right_keeps a.numbers a.extents.now a.sizes.now a.strides.now a.ranks.now a.weights.now a.costs.now a.plan_extents.now a.blocks.now a.plan_strides.now h);
       table = (λ h. c.table_into.ensures);
     }
 
@@ -40,4 +40,4 @@ pub returns : goal.returns
 returns c =
     let right : LayoutRight c.args.numbers c.args.extents.now c.args.sizes.now c.args.strides.now = c.requires.layout_right in
     let same : let a = c.args in ranks_in c.table_into.new.table a.numbers.operands ≡ ranks_of (given_in a.numbers a.extents.now a.sizes.now a.strides.now) = let a = c.args in own_ranks a.numbers a.extents.now a.sizes.now a.strides.now right _ c.table_into.ensures in
-    let a = c.args in record { told = decides_not (λ h. c.ranks_right.ensures.no c.if-ranks_right.false (right-ranks a.numbers a.extents.now a.sizes.now a.strides.now a.ranks.now a.weights.now a.costs.now a.plan_extents_lem.now a.blocks.now a.plan_strides.now h ∙ sym same)); table = (λ h. absurd (false≢true h)) }
+    let a = c.args in record { told = decides_not (λ h. c.ranks_right.ensures.no c.if-ranks_right.false (right-ranks a.numbers a.extents.now a.sizes.now a.strides.now a.ranks.now a.weights.now a.costs.now a.plan_extents.now a.blocks.now a.plan_strides.now h ∙ sym same)); table = (λ h. absurd (false≢true h)) }

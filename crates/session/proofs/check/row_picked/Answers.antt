@@ -5,7 +5,8 @@ use Prim.Native.Nat.{ℕ, ◌+◌, ◌-◌, ◌≤◌, ◌<◌}
 use native.Mathlib.Nat.{le_antisymm}
 use native.Mathlib.Omega.{arith}
 use mir.Syntax.{w64}
-use mir.Val.{of_z}
+use mir.Val.{Fits, of_z}
+use Rattle.std.proofs.Math.Facts.{Fits-or, Fits-xor, Fits-of_z, of_z-to_z}
 use lib.Dec.{eqb}
 use lib.IntN.{ℤ, pos}
 use lib.ListN.{length, get_or, drop}
@@ -45,16 +46,20 @@ loop-i-preserved c =
     let few = l.invariant.1 in
     let e = l.invariant.2 in
     let f = fresh_long a.strides.now a.from a.axes.now a.count c.requires.axes_len.0 c.requires.axes_len.1.0 in
+    let h = rw (of_z-to_z {w = w64} l.auto.differing-fits) at l.invariant.5 in
     let x : ℤ = get_or a.strides.now (a.from + get_or a.axes.now l.i 0) (pos 0) in
-    let y : ℤ = get_or a.row.now l.i (pos 0) in (
+    let y : ℤ = get_or a.row.now l.i (pos 0) in
+    let p : Fits w64 (of_z w64 x) = Fits-of_z {z = x} (record { sfits = c.differing-1.given }) in
+    let q : Fits w64 (of_z w64 y) = Fits-of_z {z = y} (record { sfits = c.differing-in-loop-i-1.given }) in (
       l.invariant.0,
       few,
       e,
       l.invariant.3,
       omega (arith, t),
-      same_z-next (fresh a.strides.now a.from a.axes.now a.count) a.row.now l.i l.differing _ (omega (arith, f, few, t)) (omega (arith, e, few, t))
+      rw (of_z-to_z {w = w64} (Fits-or l.auto.differing-fits (Fits-xor p q)))
+          (same_z-next (fresh a.strides.now a.from a.axes.now a.count) a.row.now l.i l.differing-bits _ (omega (arith, f, few, t)) (omega (arith, e, few, t))
           (xor_none (of_z w64 x) (of_z w64 y) ∙ eqb_bits x y (record { sfits = c.differing-1.given }) (record { sfits = c.differing-in-loop-i-1.given })
-          ∙ ap (λ (v : ℤ). eq_z v y) (sym (fresh_at a.strides.now a.from a.axes.now a.count c.requires.axes_len.0 c.requires.axes_len.1.0 l.i t))) l.invariant.5,
+          ∙ ap (λ (v : ℤ). eq_z v y) (sym (fresh_at a.strides.now a.from a.axes.now a.count c.requires.axes_len.0 c.requires.axes_len.1.0 l.i t))) h),
     )
 
 pub returns : goal.returns
@@ -62,6 +67,6 @@ returns c =
     let l = c.loop-i in
     let a = c.args in
     let e : l.i ≡ a.count = le_antisymm l.invariant.4 c.loop-i-test.false in
-    row-over a.strides.now a.from a.axes.now a.count c.requires.axes_len.0 c.requires.axes_len.1.0 a.row.now c.requires.axes_len.1.1 (eqb l.differing 0) c.all_zero_signed-rest.result
+    row-over a.strides.now a.from a.axes.now a.count c.requires.axes_len.0 c.requires.axes_len.1.0 a.row.now c.requires.axes_len.1.1 (eqb l.differing-bits 0) c.all_zero_signed-rest.result
     (c.all_zero_signed-rest.ensures ∙ ap blank_z (rest_is a.count a.row.now))
-    (ap (λ (n : ℕ). eqb l.differing 0 && same_ints (drop n (fresh a.strides.now a.from a.axes.now a.count)) (drop n a.row.now)) (sym e) ∙ l.invariant.5)
+    (ap (λ (n : ℕ). eqb l.differing-bits 0 && same_ints (drop n (fresh a.strides.now a.from a.axes.now a.count)) (drop n a.row.now)) (sym e) ∙ rw (of_z-to_z {w = w64} l.auto.differing-fits) at l.invariant.5)

@@ -22,7 +22,7 @@ use Rattle.session.proofs.check.row_picked.Given as goal
 abbrev pub invariant-loop-i : goal.invariant-loop-i
 invariant-loop-i l =
     (length l.axes ≡ 64) × (l.count ≤ 64) × (length l.row ≡ 64) × ((j : ℕ) → j < l.count → l.from + get_or l.axes j 0 < length l.strides) × (l.i ≤ l.count)
-    × ((eqb l.differing 0 && same_ints (drop l.i (fresh l.strides l.from l.axes l.count)) (drop l.i l.row)) ≡ same_ints (fresh l.strides l.from l.axes l.count) l.row)
+    × ((eqb (of_z w64 l.differing) 0 && same_ints (drop l.i (fresh l.strides l.from l.axes l.count)) (drop l.i l.row)) ≡ same_ints (fresh l.strides l.from l.axes l.count) l.row)
 
 abbrev pub decreases-loop-i : goal.decreases-loop-i
 decreases-loop-i l = l.count - l.i

@@ -28,10 +28,10 @@ returns c =
     let es = a.extents.now in
     let ss = a.strides.now in
     let few = c.requires.fitting.rank-few in
-    let found = (c.plan_axes_into.ensures.rank, (c.plan_axes_into.ensures.extents, c.plan_axes_into.ensures.strides)) in
+    let found = c.plan_axes_into.ensures in
     record {
       weights = c.requires.weights_value;
-      count = as_planned es a.operands ss a.purpose few ordered length found.0;
-      extents = as_planned es a.operands ss a.purpose few ordered (λ xs. padded 64 0 (extents xs)) found.1.0;
-      strides = as_planned es a.operands ss a.purpose few ordered (λ xs. stride_table xs a.operands) found.1.1;
+      count = as_planned es a.operands ss a.purpose few ordered length found.rank;
+      extents = as_planned es a.operands ss a.purpose few ordered (λ xs. padded 64 0 (extents xs)) found.extents;
+      strides = as_planned es a.operands ss a.purpose few ordered (λ xs. stride_table xs a.operands) found.strides;
     }

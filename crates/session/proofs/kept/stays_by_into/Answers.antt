@@ -11,7 +11,8 @@ use Rattle.strided.specs.Plan.{stride_table}
 use Rattle.laws.specs.Fuse.Arrays.{pick_rows}
 use Rattle.arrange.specs.Axes.{InOrder}
 use Rattle.arrange.specs.Fusing.{in_order_lem, as_planned}
-use Rattle.fuse.proofs.Keeping.{stand_few, stand_long, stand_inside, stand_rank, stand_extents, stand_strides}
+use Rattle.fuse.specs.Kept.{stays}
+use Rattle.fuse.proofs.Keeping.{Stand, stand_few, stand_long, stand_inside, stand_rank, stand_extents, stand_strides}
 use Rattle.fuse.proofs.Planning.{zeros_behind, named, put_long, put-padded, made_long, as_planned as as-fused}
 use Rattle.session.proofs.Keeping.{order_is}
 use borrow.Author.Rules.{rules}
@@ -72,7 +73,7 @@ returns c =
     let O = c.order_into.new.out in
     let F = c.fuse_dims.new.extents in
     let n = length es in
-    let w = (c.kept_axes_into.ensures.count, (c.kept_axes_into.ensures.extents, c.kept_axes_into.ensures.axes)) in
+    let w : Stand F O (stays (take n F)) c.kept_axes_into.new.extents c.kept_axes_into.new.axes c.kept_axes_into.result = (c.kept_axes_into.ensures.count, (c.kept_axes_into.ensures.extents, c.kept_axes_into.ensures.axes)) in
     record {
       count = as_planned es m ss a.purpose few ordered length (as-fused r put made length (stand_rank ss n m O F n l few w));
       few = stand_few ss n m O F n l few w;

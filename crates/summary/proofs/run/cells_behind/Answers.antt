@@ -20,12 +20,12 @@ pub moved-o-requires : goal.moved-o-requires
 moved-o-requires c =
     let n = length c.args.cells.now in
     let room : n * 8 < 2 ^ 63 = omega arith in
-    in_fits n (c.loop-k.o +ℤ to_z w64 (of_z w64 c.args.stride)) (omega (arith, room)) (running_in c.loop-k.invariant.runs c.loop-k-test.true)
+    in_fits n (to_z w64 c.loop-k.o-bits +ℤ to_z w64 (of_z w64 c.args.stride)) (omega (arith, room)) (running_in c.loop-k.invariant.runs c.loop-k-test.true)
 
 pub cell_at-x-requires : goal.cell_at-x-requires
 cell_at-x-requires c =
     -- the offset moves on
-    let moved-is : to_z w64 (of_z w64 c.moved-o.result) ≡ c.loop-k.o +ℤ to_z w64 (of_z w64 c.args.stride) = to_z-of_z {w = w64} (record { sfits = c.moved-o.type_inv }) ∙ c.moved-o.ensures in
+    let moved-is : to_z w64 (of_z w64 c.moved-o.result) ≡ to_z w64 c.loop-k.o-bits +ℤ to_z w64 (of_z w64 c.args.stride) = to_z-of_z {w = w64} (record { sfits = c.moved-o.type_inv }) ∙ c.moved-o.ensures in
     rw moved-is (running_in c.loop-k.invariant.runs c.loop-k-test.true)
 
 pub with_cell-t-requires : goal.with_cell-t-requires
@@ -33,7 +33,7 @@ with_cell-t-requires c = running_room c.loop-k.invariant.runs c.loop-k-test.true
 
 pub loop-k-preserved : goal.loop-k-preserved
 loop-k-preserved c =
-    let moved-is : to_z w64 (of_z w64 c.moved-o.result) ≡ c.loop-k.o +ℤ to_z w64 (of_z w64 c.args.stride) = to_z-of_z {w = w64} (record { sfits = c.moved-o.type_inv }) ∙ c.moved-o.ensures in
+    let moved-is : to_z w64 (of_z w64 c.moved-o.result) ≡ to_z w64 c.loop-k.o-bits +ℤ to_z w64 (of_z w64 c.args.stride) = to_z-of_z {w = w64} (record { sfits = c.moved-o.type_inv }) ∙ c.moved-o.ensures in
     going_next c.loop-k.invariant c.loop-k-test.true moved-is (c.with_cell-t.ensures ∙ ap (with_cell c.loop-k.t) c.cell_at-x.ensures)
 
 pub anew-requires : goal.anew-requires

@@ -23,19 +23,19 @@ moved-o-requires c =
     let more : c.loop-k.k < group = rw group_is c.loop-k-test.true in
     let n = length c.args.cells.now in
     let room : n * 8 < 2 ^ 63 = omega arith in
-    in_fits n (c.loop-k.o +ℤ to_z w64 (of_z w64 c.args.stride)) (omega (arith, room)) (grouping_in c.loop-k.invariant more)
+    in_fits n (to_z w64 c.loop-k.o-bits +ℤ to_z w64 (of_z w64 c.args.stride)) (omega (arith, room)) (grouping_in c.loop-k.invariant more)
 
 pub cell_at-x-requires : goal.cell_at-x-requires
 cell_at-x-requires c =
     -- the offset moves on
-    let moved-is : to_z w64 (of_z w64 c.moved-o.result) ≡ c.loop-k.o +ℤ to_z w64 (of_z w64 c.args.stride) = to_z-of_z {w = w64} (record { sfits = c.moved-o.type_inv }) ∙ c.moved-o.ensures in
+    let moved-is : to_z w64 (of_z w64 c.moved-o.result) ≡ to_z w64 c.loop-k.o-bits +ℤ to_z w64 (of_z w64 c.args.stride) = to_z-of_z {w = w64} (record { sfits = c.moved-o.type_inv }) ∙ c.moved-o.ensures in
     let more : c.loop-k.k < group = rw group_is c.loop-k-test.true in
     rw moved-is (grouping_in c.loop-k.invariant more)
 
 pub loop-k-preserved : goal.loop-k-preserved
 loop-k-preserved c =
     let more : c.loop-k.k < group = rw group_is c.loop-k-test.true in
-    let moved-is : to_z w64 (of_z w64 c.moved-o.result) ≡ c.loop-k.o +ℤ to_z w64 (of_z w64 c.args.stride) = to_z-of_z {w = w64} (record { sfits = c.moved-o.type_inv }) ∙ c.moved-o.ensures in
+    let moved-is : to_z w64 (of_z w64 c.moved-o.result) ≡ to_z w64 c.loop-k.o-bits +ℤ to_z w64 (of_z w64 c.args.stride) = to_z-of_z {w = w64} (record { sfits = c.moved-o.type_inv }) ∙ c.moved-o.ensures in
     grouping_next c.loop-k.invariant more moved-is c.cell_at-x.ensures c.between-lies.ensures
 
 pub returns : goal.returns

@@ -13,7 +13,7 @@ returns-then-n-eq0 c =
 pub with_rows-requires : goal.with_rows-requires
 with_rows-requires c =
     let n = c.if-n-eq0.false in
-    rw (to_z-of_z {w = w64} c.ranges.first, to_z-of_z {w = w64} c.ranges.by, to_z-of_z {w = w64} c.ranges.stride) (c.requires.runs_fit, (c.requires.ahead, omega (arith, n)))
+    rw (to_z-of_z {w = w64} c.ranges.first, to_z-of_z {w = w64} c.ranges.by, to_z-of_z {w = w64} c.ranges.stride) (record { runs_fit = c.requires.runs_fit; ahead = (c.requires.ahead, omega (arith, n)) })
 
 pub returns : goal.returns
 returns c =

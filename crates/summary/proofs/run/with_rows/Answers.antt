@@ -23,7 +23,7 @@ moved-o-requires c =
 
 pub loop-j-preserved-then-j-count : goal.loop-j-preserved-then-j-count
 loop-j-preserved-then-j-count c =
-    let z : ℤ = c.loop-j.o +ℤ to_z w64 (of_z w64 c.args.by) in
+    let z : ℤ = to_z w64 c.loop-j.o-bits +ℤ to_z w64 (of_z w64 c.args.by) in
     let e : c.moved-o.result ≡ z = c.moved-o.ensures in
     rowing_next c.loop-j.invariant c.loop-j-test.true c.with_run-t.ensures (to_z-of_z {w = w64} (record { sfits = c.moved-o.type_inv }) ∙ e)
 

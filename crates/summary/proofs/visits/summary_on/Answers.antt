@@ -75,7 +75,7 @@ with_blocks-sum-requires c =
     let widthsIn : List ℕ = c.widths_into.new.w in
     let runs : Summing c.args.rank c.args.e.now c.args.b.now c.args.s.now (to_z w64 (of_z w64 c.args.start)) c.args.cells.now c.way_of-y.result widthsIn c.loop-more.number true c.loop-more.sum c.loop-more.t c.loop-more.c c.loop-more.o = summing_while c.loop-more.invariant c.loop-more-test.true in
     let d = c.moves_of-d.ensures in
-    rw (from_is, by-is, stride-is) (summing_fit runs c.take_stretch-x.ensures d, summing_rows runs c.take_stretch-x.ensures d)
+    rw (from_is, by-is, stride-is) (record { runs_fit = summing_fit runs c.take_stretch-x.ensures d; ahead = summing_rows runs c.take_stretch-x.ensures d })
 
 pub overflow_add-number : goal.overflow_add-number
 overflow_add-number c =

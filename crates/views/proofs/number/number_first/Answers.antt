@@ -7,7 +7,7 @@ use Rattle.views.specs.Tally.{numbered}
 use Rattle.views.proofs.number.number_first.Goals as goal
 
 pub tiles_under-before-requires : goal.tiles_under-before-requires
-tiles_under-before-requires c = record { 0 = record { 0 = c.requires.wide; 1 = omega (arith, c.requires.below) }; 1 = omega (arith, c.requires.number) }
+tiles_under-before-requires c = record { width_nonzero = (c.requires.wide, omega (arith, c.requires.below)); indices_bound = omega (arith, c.requires.number) }
 
 pub overflow_mul-result : goal.overflow_mul-result
 overflow_mul-result c =

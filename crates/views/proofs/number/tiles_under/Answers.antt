@@ -9,7 +9,7 @@ use Rattle.views.proofs.number.tiles_under.Goals as goal
 pub overflow_add-tiles : goal.overflow_add-tiles
 overflow_add-tiles c =
     let a = c.args in
-    record { fits = omega (arith, div-le_self (a.extent - 1) a.width, (c.requires.width_nonzero, c.requires.indices_bound), c.ranges.extent.fits) }
+    record { fits = omega (arith, div-le_self (a.extent - 1) a.width, c.requires.width_nonzero, c.requires.indices_bound, c.ranges.extent.fits) }
 
 pub returns-then-indices-eq0 : goal.returns-then-indices-eq0
 returns-then-indices-eq0 c =
