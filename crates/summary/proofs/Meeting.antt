@@ -11,12 +11,12 @@ use Rattle.laws.specs.Base.Lists.{All}
 use Rattle.laws.specs.Base.Tests.{and_both}
 use Rattle.summary.specs.declared.cell.Summary.{Summary}
 use Rattle.summary.specs.Sums.{with_sum, with_cell, with_cells}
-use Rattle.summary.specs.Steps.{step_count, step-few, cells-append, cells_count, cells-few}
+use Rattle.summary.proofs.Steps.{step_count, step-few, cells-append, cells_count, cells-few}
 use Rattle.span.specs.Span.{in_cells}
 use Rattle.summary.specs.Visits.{cell_of}
 use Rattle.summary.specs.Ahead.{run_from, rows_from, AllIn, Ahead, met, RunsFit}
 use Rattle.summary.specs.Parts.{between, grown}
-use Rattle.summary.specs.Quiet.{quiet_none, quiet_next}
+use Rattle.summary.proofs.Quiet.{quiet_none, quiet_next}
 
 -- ---- an offset in the slice
 

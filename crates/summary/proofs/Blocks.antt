@@ -19,7 +19,7 @@ use Rattle.walker.specs.declared.Next.{Next}
 use Rattle.walker.specs.Stretch.{Stretch, block_in, laid, told}
 use Rattle.summary.specs.Visits.{indices_in, indices_of, offset_at, visits_of}
 use Rattle.summary.specs.Ahead.{run_from, rows_from}
-use Rattle.summary.specs.Meeting.{move_none, move_last}
+use Rattle.summary.proofs.Meeting.{move_none, move_last}
 
 -- the run of a block, as its user has it
 abbrev pub run_in : ℤ → Placed → List ℤ

@@ -6,7 +6,7 @@ use Rattle.std.specs.Float.{nan, inf, fin, binary64}
 use Rattle.std.specs.Float.Ieee.{add, is_nan}
 use Rattle.summary.specs.declared.cell.Summary.{Summary}
 use Rattle.summary.specs.Sums.{with_sum, with_cell, with_cells, nothing_met, summary_of}
-use Rattle.summary.specs.Steps.{step_nans, step_sum, cells_count}
+use Rattle.summary.proofs.Steps.{step_nans, step_sum, cells_count}
 
 -- how many cells are not a number
 abbrev pub nans_in : List Float → ℕ

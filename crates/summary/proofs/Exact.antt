@@ -11,7 +11,7 @@ use Rattle.std.specs.Float.Ieee.Back.{round_whole}
 use Rattle.std.specs.Float.Ieee.Scale.{round_same}
 use Rattle.summary.specs.declared.cell.Summary.{Summary}
 use Rattle.summary.specs.Sums.{plus_zero, nothing_met, with_cell, with_cells, summary_of}
-use Rattle.summary.specs.Steps.{step_sum}
+use Rattle.summary.proofs.Steps.{step_sum}
 use Rattle.summary.specs.Whole.{signed, Whole, Wholes, sizes_of, exact_sum}
 
 -- ---- a sum over a common divisor

@@ -8,7 +8,7 @@ use Rattle.laws.specs.Base.Tests.{and_both}
 use Rattle.summary.specs.declared.cell.Summary.{Summary}
 use Rattle.summary.specs.Sums.{with_sum, lesser, greater, with_cell}
 use Rattle.summary.specs.Parts.{between, grown}
-use Rattle.summary.specs.Steps.{at-number}
+use Rattle.summary.proofs.Steps.{at-number}
 use Rattle.summary.specs.Extremes.{lt_trans_float, lt_irrefl_float}
 
 -- ---- what `<=` says of `<`

@@ -30,10 +30,10 @@ use Rattle.summary.specs.Sums.{summary_of}
 use Rattle.summary.specs.Visits.{cell_sizes, ordering, summary_plan, indices_of, offset_at, visits_of, visits, cell_of}
 use Rattle.summary.specs.Rows.{summary_refused, summarized_or, cells_met, summarized}
 use Rattle.summary.specs.Indices.{indices_once, visits-many}
-use Rattle.summary.specs.Served.{planning_rows_lem, same_offset}
-use Rattle.summary.specs.Counts.{nans_in, count-all, nans_all, sum_lost}
+use Rattle.summary.proofs.Served.{planning_rows_lem, same_offset}
+use Rattle.summary.proofs.Counts.{nans_in, count-all, nans_all, sum_lost}
 use Rattle.summary.specs.Whole.{Whole, Wholes, sizes_of, exact_sum}
-use Rattle.summary.specs.Exact.{sum-whole}
+use Rattle.summary.proofs.Exact.{sum-whole}
 use Rattle.summary.specs.Extremes.{In, Bounded, NumberIn, within_extremes, extremes_are_cells}
 
 -- ---- the order
