@@ -1,1 +1,10 @@
 pub mod Summing
+pub mod Steps
+pub mod Quiet
+pub mod Meeting
+pub mod Counts
+pub mod Exact
+pub mod Blocks
+pub mod Served
+pub mod Orders
+pub mod Figures

@@ -40,8 +40,8 @@ use Rattle.summary.specs.Sums.{nothing_met}
 use Rattle.summary.specs.Visits.{visits_of}
 use Rattle.summary.specs.Indices.{visits-many}
 use Rattle.summary.specs.Ahead.{run_from, rows_from, AllIn, Ahead, met, RunsFit, Summable}
-use Rattle.summary.specs.Meeting.{met-append, ahead-first, ahead-rest}
-use Rattle.summary.specs.Blocks.{run_in, visits-placed, laid-rows}
+use Rattle.summary.proofs.Meeting.{met-append, ahead-first, ahead-rest}
+use Rattle.summary.proofs.Blocks.{run_in, visits-placed, laid-rows}
 
 -- the walk's first state
 abbrev pub first_of : ℤ → Bool → Walk

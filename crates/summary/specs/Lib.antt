@@ -1,5 +1,5 @@
 -- Request 11 of document 02, "Sums for the journals": what a summary of f64 cells is, in which order the cells are met, what is refused, and
--- what holds of every summary:
+-- what holds of every summary (Orders, Exact, Quiet and Served are in proofs/):
 --   the count is the layout's total; each index is met exactly once    Orders  count-total, index-once
 --   the order is fixed by layout and record alone                      Orders  start-moves, same-order
 --   whole numbers up to 2^53 in all are summed exactly                 Orders  sum-exact (Exact  sum-whole)
@@ -11,17 +11,8 @@ pub mod Sums
 pub mod Visits
 pub mod Rows
 pub mod Memory
-pub mod Steps
 pub mod Whole
-pub mod Exact
 pub mod Extremes
-pub mod Counts
 pub mod Indices
 pub mod Ahead
 pub mod Parts
-pub mod Quiet
-pub mod Meeting
-pub mod Blocks
-pub mod Served
-pub mod Orders
-pub mod Figures

@@ -1,3 +1,4 @@
--- Laws that belong to no one function.
+-- Laws that belong to no one function; TwoReaders has those of the visits of a walk.
 pub mod Tallies
 pub mod Answers
+pub mod TwoReaders

@@ -1,12 +1,12 @@
 -- TWO READERS OF A BLOCK, document 02's ask 10: a visit is a step with its record, and two views come from the record. Number, Views and
 -- Visits say what is meant, Memory what lent memory holds, Tally what the functions that work the number out ask and answer. What holds of every
--- visit:
+-- visit (TwoReaders is in proofs/):
 --   the number worked out from the counters is the place in document 01's list   Places    number-place
---   after n steps it is n                                                        Places    number-after-steps; Readers step-number
---   the engineer's view is what the step hands out                               Readers   visit-is-step
---   a student's lines do not depend on the starts                                Readers   same-lines
---   no visit of a layout's own plan is refused: they are its steps, seen         Readers   visits-seen
---   a line's index gives, by the original strides, the engineer's offsets        Readers   lines-right
+--   after n steps it is n                                                        Places    number-after-steps; TwoReaders step-number
+--   the engineer's view is what the step hands out                               TwoReaders visit-is-step
+--   a student's lines do not depend on the starts                                TwoReaders same-lines
+--   no visit of a layout's own plan is refused: they are its steps, seen         TwoReaders visits-seen
+--   a line's index gives, by the original strides, the engineer's offsets        TwoReaders lines-right
 --   small plans computed, and the order of the rows                              Examples  all-right, visit-rows
 pub mod Number
 pub mod Views
@@ -14,5 +14,4 @@ pub mod Visits
 pub mod Memory
 pub mod Tally
 pub mod Places
-pub mod Readers
 pub mod Examples

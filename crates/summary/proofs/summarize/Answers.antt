@@ -7,7 +7,7 @@ use mir.Facts.{to_z-of_z}
 use Rattle.laws.specs.Refusals.Rows.{served_none, refused_some}
 use Rattle.summary.specs.Sums.{nothing_met}
 use Rattle.summary.specs.Rows.{summarized}
-use Rattle.summary.specs.Served.{planning_rows_lem, refused_with}
+use Rattle.summary.proofs.Served.{planning_rows_lem, refused_with}
 use Rattle.summary.proofs.summarize.Goals as goal
 use mir.Syntax.{w64}
 

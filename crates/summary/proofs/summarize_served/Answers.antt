@@ -22,7 +22,7 @@ use Rattle.span.specs.Span.{outside}
 use Rattle.summary.specs.Ahead.{Summable, met}
 use Rattle.summary.specs.Sums.{nothing_met}
 use Rattle.summary.specs.Visits.{cell_sizes, ordering, summary_plan, visits_of}
-use Rattle.summary.specs.Served.{spans, begins_if, if_begins, inside_stays, summable, made_plan, begun_taken, begun-refused, refused_9, refused_22, not-refused, all_summed, refused_with, served_with}
+use Rattle.summary.proofs.Served.{spans, begins_if, if_begins, inside_stays, summable, made_plan, begun_taken, begun-refused, refused_9, refused_22, not-refused, all_summed, refused_with, served_with}
 use Rattle.summary.proofs.summarize_served.Goals as goal
 use mir.Syntax.{w64}
 

@@ -1,5 +1,5 @@
 -- `summary::cell::is_nan` meets its contract. Assumes nothing.
-use Rattle.summary.specs.Steps.{ne_is}
+use Rattle.summary.proofs.Steps.{ne_is}
 use Rattle.summary.proofs.cell.is_nan.Goals as goal
 
 pub returns : goal.returns

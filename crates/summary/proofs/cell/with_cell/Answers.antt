@@ -2,7 +2,7 @@
 use mathlib.Core.Path.{◌≡◌, sym}
 use mathlib.Core.Bool.{true, false}
 use borrow.Author.Rules.{rules}
-use Rattle.summary.specs.Steps.{at_nan, at-number}
+use Rattle.summary.proofs.Steps.{at_nan, at-number}
 use Rattle.summary.proofs.cell.with_cell.Goals as goal
 
 pub returns-then-is_nan : goal.returns-then-is_nan

@@ -5,7 +5,7 @@ use lib.IntN.{nat_abs}
 use lib.ListN.{length}
 use mir.Facts.{to_z-of_z}
 use borrow.Author.Rules.{rules}
-use Rattle.summary.specs.Meeting.{in_non_neg, in_below}
+use Rattle.summary.proofs.Meeting.{in_non_neg, in_below}
 use Rattle.summary.proofs.run.cell_at.Goals as goal
 use mir.Syntax.{w64}
 

@@ -9,7 +9,7 @@ use mir.Syntax.{w64}
 use mir.Val.{to_z, of_z}
 use Rattle.summary.specs.Sums.{with_cell}
 use Rattle.summary.specs.Ahead.{run_from, met}
-use Rattle.summary.specs.Meeting.{in_fits, running_in, running_room, Going, going_none, going_next, going_end}
+use Rattle.summary.proofs.Meeting.{in_fits, running_in, running_room, Going, going_none, going_next, going_end}
 use Rattle.summary.proofs.run.cells_behind.Given as goal
 
 abbrev pub invariant-loop-k : goal.invariant-loop-k

@@ -10,7 +10,7 @@ use mir.Syntax.{w64}
 use mir.Val.{to_z, of_z}
 use Rattle.summary.specs.Ahead.{run_from, met}
 use Rattle.summary.specs.Parts.{group, group_is}
-use Rattle.summary.specs.Meeting.{in_fits, Grouping, grouping_none, grouping_in, grouping_next, grouping_end}
+use Rattle.summary.proofs.Meeting.{in_fits, Grouping, grouping_none, grouping_in, grouping_next, grouping_end}
 use Rattle.summary.proofs.run.group_behind.Given as goal
 
 abbrev pub invariant-loop-k : goal.invariant-loop-k

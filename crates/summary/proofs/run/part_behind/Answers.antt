@@ -9,7 +9,7 @@ use mir.Syntax.{w64}
 use mir.Val.{SFits}
 use Rattle.summary.specs.Ahead.{run_from, Ahead}
 use Rattle.summary.specs.Parts.{group, group_is, group_went, went_many}
-use Rattle.summary.specs.Meeting.{ahead_some, ahead-count}
+use Rattle.summary.proofs.Meeting.{ahead_some, ahead-count}
 use Rattle.summary.proofs.run.part_behind.Goals as goal
 
 pub group_behind-g-requires : goal.group_behind-g-requires

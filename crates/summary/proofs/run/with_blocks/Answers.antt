@@ -1,7 +1,7 @@
 -- `summary::run::with_blocks` meets its contract: runs of no cells meet none. Assumes nothing.
 use native.Mathlib.Omega.{arith}
 use mir.Facts.{to_z-of_z}
-use Rattle.summary.specs.Meeting.{none_met}
+use Rattle.summary.proofs.Meeting.{none_met}
 use Rattle.summary.proofs.run.with_blocks.Goals as goal
 use mir.Syntax.{w64}
 

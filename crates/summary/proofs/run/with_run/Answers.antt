@@ -10,7 +10,7 @@ use mir.Val.{SFits, to_z}
 use Rattle.summary.specs.Sums.{with_cell}
 use Rattle.summary.specs.Visits.{cell_of}
 use Rattle.summary.specs.Ahead.{run_from, met}
-use Rattle.summary.specs.Meeting.{first_in, first-room, Running, running_first, running_on, running_end}
+use Rattle.summary.proofs.Meeting.{first_in, first-room, Running, running_first, running_on, running_end}
 use Rattle.summary.proofs.run.with_run.Goals as goal
 
 pub cell_at-x-requires : goal.cell_at-x-requires

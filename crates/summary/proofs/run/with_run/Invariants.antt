@@ -10,7 +10,7 @@ use mir.Val.{SFits, to_z}
 use Rattle.summary.specs.Sums.{with_cell}
 use Rattle.summary.specs.Visits.{cell_of}
 use Rattle.summary.specs.Ahead.{run_from, met}
-use Rattle.summary.specs.Meeting.{first_in, first-room, Running, running_first, running_on, running_end}
+use Rattle.summary.proofs.Meeting.{first_in, first-room, Running, running_first, running_on, running_end}
 use Rattle.summary.proofs.run.with_run.Given as goal
 
 -- the summary and the first cell are no part of the loop: `whole` is what the run makes of them, and the first cell's summary fixes it
