@@ -1,8 +1,6 @@
 -- `advance::carry` meets its contract. Assumes nothing.
 use Prim.Native.Nat.{◌<◌}
-use Prim.Native.Nat.{◌≤◌}
-use Rattle.advance.proofs.Turns.{Before, begins, ends, shifts_at, stops_at, goes_on_at}
-use Prim.Native.Nat.{◌-◌}
+use Rattle.advance.proofs.Turns.{begins, ends, shifts_at, stops_at, goes_on_at}
 use native.Mathlib.Omega.{arith}
 use Rattle.advance.proofs.carry.Goals as goal
 

@@ -1,9 +1,7 @@
 -- The invariants of `carry`.
-use Prim.Native.Nat.{◌<◌}
 use Prim.Native.Nat.{◌≤◌}
-use Rattle.advance.proofs.Turns.{Before, begins, ends, shifts_at, stops_at, goes_on_at}
+use Rattle.advance.proofs.Turns.{Before}
 use Prim.Native.Nat.{◌-◌}
-use native.Mathlib.Omega.{arith}
 use Rattle.advance.proofs.carry.Given as goal
 
 abbrev pub invariant-loop-i : goal.invariant-loop-i

@@ -1,7 +1,6 @@
 -- `advance::goal_of` meets its contract. Assumes nothing.
 use Rattle.advance.specs.Axis.{goal_of}
 use mathlib.Core.Path.{◌∙◌}
-use borrow.Author.Rules.{rules}
 use Rattle.advance.proofs.goal_of.Goals as goal
 
 pub returns-then-inside : goal.returns-then-inside

@@ -1,8 +1,6 @@
 -- `advance::inner_axes` meets its contract. Assumes nothing.
 use Rattle.advance.proofs.Turns.{single-all, single_more}
-use Rattle.advance.specs.Carry.{Single}
 use native.Mathlib.Omega.{arith}
-use borrow.Author.Rules.{rules}
 use Rattle.advance.proofs.inner_axes.Goals as goal
 
 pub loop-n-init : goal.loop-n-init

@@ -1,8 +1,5 @@
 -- The invariants of `inner_axes`.
-use Rattle.advance.proofs.Turns.{single-all, single_more}
 use Rattle.advance.specs.Carry.{Single}
-use native.Mathlib.Omega.{arith}
-use borrow.Author.Rules.{rules}
 use Rattle.advance.proofs.inner_axes.Given as goal
 
 abbrev pub invariant-loop-n : goal.invariant-loop-n

@@ -5,7 +5,6 @@ use Rattle.advance.proofs.Axis.{length_cut, length-left}
 use Rattle.advance.specs.Blocks.{length_of}
 use native.Mathlib.Omega.{arith}
 use borrow.Author.Tests.{eq-eqb}
-use borrow.Author.Rules.{rules}
 use Rattle.advance.proofs.length_of.Goals as goal
 
 pub returns-then-rank-eq0 : goal.returns-then-rank-eq0

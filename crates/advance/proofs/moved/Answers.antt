@@ -1,5 +1,4 @@
 -- `walk::moved` meets its contract, by the laws of `Signed.antt`: one for each way, at the tests that led there. Assumes nothing.
-use borrow.Author.Rules.{rules}
 use Rattle.advance.proofs.Signed.{stays, ahead_cast, ahead-mul, ahead-add, ahead_is, behind_cast, behind_mul, behind_sub, behind_is}
 use Rattle.advance.proofs.moved.Goals as goal
 

@@ -1,7 +1,7 @@
 -- `advance::shift` meets its contract. Assumes nothing.
-use borrow.Author.Rules.{rules, sfits_of}
+use borrow.Author.Rules.{sfits_of}
 use native.Mathlib.Omega.{arith}
-use mathlib.Core.Path.{◌≡◌, sym, ap, ◌∙◌, subst}
+use mathlib.Core.Path.{sym, ap, ◌∙◌, subst}
 use native.Mathlib.Nat.{le_refl, le_antisymm}
 use lib.IntN.{ℤ, pos}
 use lib.ListN.{get_or}
@@ -10,7 +10,7 @@ use mir.Facts.{to_z-of_z}
 use Rattle.advance.proofs.Signed.{moves_read, after_read}
 use Rattle.advance.proofs.Dot.{unmoved_at}
 use Rattle.advance.specs.Filled.{filled_none, filled_more, filled_above}
-use Prim.Native.Nat.{ℕ, zero-le, ◌≤◌, ◌+◌, ◌*◌, ◌-◌}
+use Prim.Native.Nat.{ℕ, zero-le, ◌≤◌, ◌+◌, ◌*◌}
 use Rattle.advance.specs.Moves.{shifted, moved_at, after_move, Moves}
 use Rattle.advance.proofs.shift.Goals as goal
 use mir.Syntax.{w64}

@@ -1,6 +1,5 @@
 -- `advance::tile_start` meets its contract. Assumes nothing.
 use native.Mathlib.Nat.{lt_of_le_of_lt, div-mul-le_self}
-use borrow.Author.Rules.{rules}
 use Rattle.advance.proofs.tile_start.Goals as goal
 
 pub overflow_mul-result : goal.overflow_mul-result

@@ -1,11 +1,10 @@
 -- `advance::tile_starts_into` meets its contract. Assumes nothing.
 use Rattle.advance.specs.Axis.{tile_at, starts_to}
 use Rattle.advance.specs.Filled.{filled_none, filled_more}
-use Prim.Native.Nat.{ℕ, zero-le, ◌≤◌, ◌-◌}
+use Prim.Native.Nat.{ℕ, zero-le}
 use native.Mathlib.Omega.{arith}
 use native.Mathlib.Nat.{le_antisymm}
-use mathlib.Core.Path.{◌≡◌, ap, ◌∙◌}
-use borrow.Author.Rules.{rules}
+use mathlib.Core.Path.{ap, ◌∙◌}
 use Rattle.advance.proofs.tile_starts_into.Goals as goal
 
 pub loop-i-init : goal.loop-i-init

@@ -1,9 +1,7 @@
 -- `advance::width_of` meets its contract. Assumes nothing.
 use Rattle.advance.specs.Axis.{width_of}
-use mathlib.Core.Logic.{⊎_elim}
 use borrow.Author.Tests.{le-leb, lt-leb, eq-eqb, ne_eqb}
 use mathlib.Core.Path.{◌∙◌}
-use borrow.Author.Rules.{rules}
 use Rattle.advance.proofs.width_of.Goals as goal
 use Rattle.advance.proofs.width_of.Goals.{then-rank-gt8+else-axis-ne0, else-rank-gt8}
 

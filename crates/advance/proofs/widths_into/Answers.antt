@@ -1,11 +1,10 @@
 -- `advance::widths_into` meets its contract. Assumes nothing.
-use borrow.Author.Rules.{rules}
 use Rattle.advance.specs.Axis.{width_at, widths_to}
 use Rattle.advance.specs.Filled.{filled_none, filled_more}
-use Prim.Native.Nat.{ℕ, zero-le, ◌≤◌, ◌-◌}
+use Prim.Native.Nat.{ℕ, zero-le}
 use native.Mathlib.Omega.{arith}
 use native.Mathlib.Nat.{le_antisymm}
-use mathlib.Core.Path.{◌≡◌, ap, ◌∙◌}
+use mathlib.Core.Path.{ap, ◌∙◌}
 use Rattle.advance.proofs.widths_into.Goals as goal
 
 pub loop-i-init : goal.loop-i-init

@@ -13,7 +13,7 @@ use Rattle.joining.proofs.begin_lent.Goals as goal
 
 pub lay-requires : goal.lay-requires
 lay-requires c =
-    let G : Given = let a = c.args in given a.aim.machine a.layout-extents.now a.layout-sizes.now a.layout-strides.now a.aim.purpose in
+    let G : Given = let a = c.args in given a.aim.machine a.layout_extents.now a.layout_sizes.now a.layout_strides.now a.aim.purpose in
     -- planning accepts the layout
     let told : c.check_planning-answer.result ≡ Served = c.served.ensures.yes c.if-served.true in
     let passed : refused_of G ≡ none = served_none _ (sym c.check_planning-answer.ensures ∙ told) in
@@ -21,14 +21,14 @@ lay-requires c =
 
 pub lay_operands-requires : goal.lay_operands-requires
 lay_operands-requires c =
-    let G : Given = let a = c.args in given a.aim.machine a.layout-extents.now a.layout-sizes.now a.layout-strides.now a.aim.purpose in
+    let G : Given = let a = c.args in given a.aim.machine a.layout_extents.now a.layout_sizes.now a.layout_strides.now a.aim.purpose in
     let told : c.check_planning-answer.result ≡ Served = c.served.ensures.yes c.if-served.true in
     let passed : refused_of G ≡ none = served_none _ (sym c.check_planning-answer.ensures ∙ told) in
     let t = taken_of G passed in record { fitting = record { rank-few = t.axes; operands_few = t.few; strides_all = t.strides }; table_value = refl }
 
 pub keep-numbers-requires : goal.keep-numbers-requires
 keep-numbers-requires c =
-    let G : Given = let a = c.args in given a.aim.machine a.layout-extents.now a.layout-sizes.now a.layout-strides.now a.aim.purpose in
+    let G : Given = let a = c.args in given a.aim.machine a.layout_extents.now a.layout_sizes.now a.layout_strides.now a.aim.purpose in
     let told : c.check_planning-answer.result ≡ Served = c.served.ensures.yes c.if-served.true in
     let passed : refused_of G ≡ none = served_none _ (sym c.check_planning-answer.ensures ∙ told) in
     let g = G in
@@ -37,7 +37,7 @@ keep-numbers-requires c =
 pub returns-then-served : goal.returns-then-served
 unfolding begun
 returns-then-served c =
-    let G : Given = let a = c.args in given a.aim.machine a.layout-extents.now a.layout-sizes.now a.layout-strides.now a.aim.purpose in
+    let G : Given = let a = c.args in given a.aim.machine a.layout_extents.now a.layout_sizes.now a.layout_strides.now a.aim.purpose in
     let told : c.check_planning-answer.result ≡ Served = c.served.ensures.yes c.if-served.true in
     let passed : refused_of G ≡ none = served_none _ (sym c.check_planning-answer.ensures ∙ told) in
     let g = G in
@@ -49,6 +49,6 @@ returns-then-served c =
 pub returns : goal.returns
 unfolding begun
 returns c =
-    let G : Given = let a = c.args in given a.aim.machine a.layout-extents.now a.layout-sizes.now a.layout-strides.now a.aim.purpose in
+    let G : Given = let a = c.args in given a.aim.machine a.layout_extents.now a.layout_sizes.now a.layout_strides.now a.aim.purpose in
     let g = G in
     lent_refused (refused_of g) (fresh_of g) _ c.check_planning-answer.ensures (c.served.ensures.no c.if-served.false)

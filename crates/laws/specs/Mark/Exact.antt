@@ -1,6 +1,6 @@
 -- `shared`, the test of every pair of indices, is the claim `Shared`. Assumes nothing.
-use Rattle.std.specs.Prelude.{◌≡◌, refl, ◌↔◌, Bool, true, false, not, ◌&&◌, List, [], ◌∷◌, ℕ, eqb, ℤ, pos, negsuc}
-use Rattle.std.proofs.Common.{sym, ap₂, ◌∙◌, subst, eqb-true, eq-eqb}
+use Rattle.std.specs.Prelude.{◌≡◌, refl, ◌↔◌, Bool, true, false, not, List, [], ◌∷◌, ℕ, eqb, ℤ, pos, negsuc}
+use Rattle.std.proofs.Common.{sym, ap₂, subst, eqb-true, eq-eqb}
 use Rattle.std.proofs.lemmas.Bool.{false≢true}
 use Rattle.strided.specs.Layout.{Within, dot}
 use Rattle.strided.specs.Fuse.{eq_z}

@@ -2,12 +2,11 @@
 -- 4,096 it is never undecided. Assumes nothing.
 use Rattle.std.proofs.Math.Path.{◌≡◌, refl, sym, ap}
 use Rattle.std.proofs.Common.{◌∙◌, arith, ltb-true, eqb-true, le-leb}
-use Rattle.std.specs.Prelude.{◌↔◌, Bool, ◌&&◌, List, ℕ, ◌≤◌, ◌<◌, ltb, leb, eqb, ℤ, length, get_or}
+use Rattle.std.specs.Prelude.{◌↔◌, Bool, List, ℕ, ◌≤◌, ltb, leb, eqb, ℤ, length, get_or}
 use Rattle.std.proofs.Math.Bool.{true, false, cond, false≢true}
 use Rattle.strided.specs.Base.{some_of}
 use Rattle.strided.specs.Layout.{total, has_zero, NoZero}
 use Rattle.strided.specs.Mark.{Shared, shared, stays_at, rises, exact_mark, quick_mark, mark_of, mark_number}
-use Rattle.strided.specs.declared.Mark.{Mark}
 use Rattle.strided.specs.declared.Mark.TheVariants.{No, Yes, Undecided}
 use Rattle.laws.specs.Base.Tests.{and_both}
 use Rattle.laws.specs.Base.Layouts.{within-total, total_nozero}

@@ -1,7 +1,7 @@
 -- Ask 6, "Layouts that were answered keep their plans": planning as it was while row 7 was given, and that it differs from planning now only where
 -- it refused with 7. Those layouts have a plan now. Assumes nothing.
 use Rattle.std.specs.Prelude.{◌≡◌, refl, Bool, true, false, cond, List, ℕ, ◌+◌, ◌*◌, ℤ, length, get_or}
-use Rattle.std.proofs.Common.{ap, ◌∙◌, arith}
+use Rattle.std.proofs.Common.{arith}
 use Rattle.std.proofs.Math.Option.{Option, none, some}
 use Rattle.std.proofs.Math.Dec.{ltb}
 use Rattle.strided.specs.Base.{first}

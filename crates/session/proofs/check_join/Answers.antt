@@ -13,7 +13,7 @@ use Rattle.session.proofs.check_join.Goals as goal
 pub check_joining-requires : goal.check_joining-requires
 check_joining-requires c =
     let right : let a = c.args in LayoutRight a.numbers a.extents.now a.sizes.now a.strides.now = let a = c.args in right_layout a.numbers a.extents.now a.sizes.now a.strides.now a.ranks.now a.weights.now a.costs.now a.plan_extents.now a.blocks.now a.plan_strides.now (c.holds.ensures.told.yes c.if-holds.true) in
-    (right.axes, c.check_joining-arg-1.given)
+    (right.axes, c.told-extents)
 
 pub returns-then-holds : goal.returns-then-holds
 returns-then-holds c =

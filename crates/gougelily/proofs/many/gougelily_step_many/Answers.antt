@@ -20,9 +20,9 @@ overflow_cast-result c =
     -- the plan and the state lent
     let P : Plan = plan_of c.args.rank c.args.operands c.args.extents.now c.args.blocks.now c.args.strides.now in
     let W : Walk = walk_in (walk_at c.args.ended.now c.args.counters.now c.args.offsets.now) in
-    let made : many_of c.step_many_on-several.result c.step_many_on-several.new.lengths c.step_many_on-several.new.offsets ≡ stepped_many P W c.args.block-lengths.now c.args.block-offsets.now = c.step_many_on-several.ensures in
+    let made : many_of c.step_many_on-several.result c.step_many_on-several.new.lengths c.step_many_on-several.new.offsets ≡ stepped_many P W c.args.block_lengths.now c.args.block_offsets.now = c.step_many_on-several.ensures in
     -- so many blocks are a number of C
-    let count_fits : SFits w64 (pos c.step_many_on-several.result.count) = let h : c.step_many_on-several.result.count ≤ length c.args.block-lengths.now = many-count P W c.args.block-lengths.now c.args.block-offsets.now made in
+    let count_fits : SFits w64 (pos c.step_many_on-several.result.count) = let h : c.step_many_on-several.result.count ≤ length c.args.block_lengths.now = many-count P W c.args.block_lengths.now c.args.block_offsets.now made in
     record { sfits = search rules } in
     count_fits
 
@@ -30,22 +30,22 @@ pub returns-in-Rejected : goal.returns-in-Rejected
 returns-in-Rejected c =
     let P : Plan = plan_of c.args.rank c.args.operands c.args.extents.now c.args.blocks.now c.args.strides.now in
     let W : Walk = walk_in (walk_at c.args.ended.now c.args.counters.now c.args.offsets.now) in
-    let made : many_of c.step_many_on-several.result c.step_many_on-several.new.lengths c.step_many_on-several.new.offsets ≡ stepped_many P W c.args.block-lengths.now c.args.block-offsets.now = c.step_many_on-several.ensures in
+    let made : many_of c.step_many_on-several.result c.step_many_on-several.new.lengths c.step_many_on-several.new.offsets ≡ stepped_many P W c.args.block_lengths.now c.args.block_offsets.now = c.step_many_on-several.ensures in
     many-refused _ _ _ _ made _ c.in-Rejected.is (to_z-of_z {w = w64} (record { sfits = c.negated.type_inv }) ∙ c.negated.ensures)
 
 pub returns-in-Ended : goal.returns-in-Ended
 returns-in-Ended c =
     let P : Plan = plan_of c.args.rank c.args.operands c.args.extents.now c.args.blocks.now c.args.strides.now in
     let W : Walk = walk_in (walk_at c.args.ended.now c.args.counters.now c.args.offsets.now) in
-    let made : many_of c.step_many_on-several.result c.step_many_on-several.new.lengths c.step_many_on-several.new.offsets ≡ stepped_many P W c.args.block-lengths.now c.args.block-offsets.now = c.step_many_on-several.ensures in
+    let made : many_of c.step_many_on-several.result c.step_many_on-several.new.lengths c.step_many_on-several.new.offsets ≡ stepped_many P W c.args.block_lengths.now c.args.block_offsets.now = c.step_many_on-several.ensures in
     many_ended _ _ _ _ made _ c.in-Ended.is
 
 pub returns-in-Block : goal.returns-in-Block
 returns-in-Block c =
     let P : Plan = plan_of c.args.rank c.args.operands c.args.extents.now c.args.blocks.now c.args.strides.now in
     let W : Walk = walk_in (walk_at c.args.ended.now c.args.counters.now c.args.offsets.now) in
-    let made : many_of c.step_many_on-several.result c.step_many_on-several.new.lengths c.step_many_on-several.new.offsets ≡ stepped_many P W c.args.block-lengths.now c.args.block-offsets.now = c.step_many_on-several.ensures in
-    let count_fits : SFits w64 (pos c.step_many_on-several.result.count) = let h : c.step_many_on-several.result.count ≤ length c.args.block-lengths.now = many-count P W c.args.block-lengths.now c.args.block-offsets.now made in
+    let made : many_of c.step_many_on-several.result c.step_many_on-several.new.lengths c.step_many_on-several.new.offsets ≡ stepped_many P W c.args.block_lengths.now c.args.block_offsets.now = c.step_many_on-several.ensures in
+    let count_fits : SFits w64 (pos c.step_many_on-several.result.count) = let h : c.step_many_on-several.result.count ≤ length c.args.block_lengths.now = many-count P W c.args.block_lengths.now c.args.block_offsets.now made in
     record { sfits = search rules } in
     let w = c.step_many_on-several.result.walk in
     many_blocks _ _ _ _ made _ c.in-Block.is (λ i. record { ended = c.flag-e.ensures i ∷ []; counters = w.counters; offsets = w.offsets })

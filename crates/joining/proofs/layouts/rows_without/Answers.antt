@@ -31,10 +31,10 @@ loop-j-preserved c =
     let a = c.args in
     let t = c.loop-j-test.true in
     let few = l.invariant.1 in
-    (l.invariant.0, l.invariant.1, omega arith, stays-next 8 (replicate 64 0) [] a.table.now a.k l.auto l.j c.old_place-from.result (omega (arith, t, few)) c.old_place-from.ensures l.invariant.3)
+    (l.invariant.0, l.invariant.1, omega arith, stays-next 8 (replicate 64 0) [] a.table.now a.k l.kept l.j c.old_place-from.result (omega (arith, t, few)) c.old_place-from.ensures l.invariant.3)
 
 pub returns : goal.returns
 returns c =
     let l = c.loop-j in
     let a = c.args in
-    stays-over 8 (replicate 64 0) [] a.table.now a.k l.auto l.j (a.operands - 1) l.invariant.2 c.loop-j-test.false l.invariant.3
+    stays-over 8 (replicate 64 0) [] a.table.now a.k l.kept l.j (a.operands - 1) l.invariant.2 c.loop-j-test.false l.invariant.3

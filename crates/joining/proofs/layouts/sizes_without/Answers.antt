@@ -38,8 +38,8 @@ loop-j-preserved c =
       l.invariant.0,
       l.invariant.1,
       omega arith,
-      ap (set l.auto l.j) (sym (get_or-take a.operands a.sizes.now at 0 w))
-          ∙ stays-next 8 0 0 (take a.operands a.sizes.now) a.k l.auto l.j at (omega (arith, t, few)) e l.invariant.3,
+      ap (set l.kept l.j) (sym (get_or-take a.operands a.sizes.now at 0 w))
+          ∙ stays-next 8 0 0 (take a.operands a.sizes.now) a.k l.kept l.j at (omega (arith, t, few)) e l.invariant.3,
     )
 
 pub returns : goal.returns
@@ -49,5 +49,5 @@ returns c =
     let z = c.requires.1.1 in
     let few = l.invariant.1 in
     let m : length (take a.operands a.sizes.now) ≡ a.operands = length-take-le a.operands a.sizes.now (omega (arith, few, z)) in
-    stays-over 8 0 0 (take a.operands a.sizes.now) a.k l.auto l.j (a.operands - 1) l.invariant.2 c.loop-j-test.false l.invariant.3
+    stays-over 8 0 0 (take a.operands a.sizes.now) a.k l.kept l.j (a.operands - 1) l.invariant.2 c.loop-j-test.false l.invariant.3
     ∙ ap (λ (n : ℕ). padded 8 0 (stayed 8 0 0 (take a.operands a.sizes.now) a.k (n - 1))) (sym m)

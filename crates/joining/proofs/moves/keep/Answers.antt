@@ -26,11 +26,11 @@ compute_costs-c-requires c =
     let counted : c.planned-after.result ≡ with_plan c.args.numbers c.planned-after.result.plan_rank = c.planned-after.ensures
     ∙ ap (with_plan c.args.numbers) (sym (ap (λ (x : Numbers). x.plan_rank) c.planned-after.ensures)) in
     -- and its axes are in the arrays
-    let laid : let a = c.args in let l = c.axes_kept_into-axes.last in AxesAt a.numbers a.extents.now a.strides.now c.planned-after.result.plan_rank c.weights_kept-w.result l.1.1.1.1.0 l.1.1.1.1.1.0 = let a = c.args in
-    let l = c.axes_kept_into-axes.last in
-    subst (λ (r : ℕ). AxesAt a.numbers a.extents.now a.strides.now r c.weights_kept-w.result l.1.1.1.1.0 l.1.1.1.1.1.0)
+    let laid : let a = c.args in let l = c.axes_kept_into-axes.new in AxesAt a.numbers a.extents.now a.strides.now c.planned-after.result.plan_rank c.weights_kept-w.result l.es l.plan_strides = let a = c.args in
+    let l = c.axes_kept_into-axes.new in
+    subst (λ (r : ℕ). AxesAt a.numbers a.extents.now a.strides.now r c.weights_kept-w.result l.es l.plan_strides)
     (sym (ap (λ (c : Numbers). c.plan_rank) c.planned-after.ensures)) c.axes_kept_into-axes.ensures in
-    let cut : let a = c.args in let l = c.axes_kept_into-axes.last in Cuttable c.planned-after.result a.extents.now a.sizes.now l.1.1.1.1.0 l.1.1.1.1.1.0 = let a = c.args in
+    let cut : let a = c.args in let l = c.axes_kept_into-axes.new in Cuttable c.planned-after.result a.extents.now a.sizes.now l.es l.plan_strides = let a = c.args in
     cuttable a.numbers a.extents.now a.sizes.now a.strides.now c.requires.layout_right c.planned-after.result counted laid in
     let t = cut in
     let e = ap (λ (x : Numbers). x.operands) c.planned-after.ensures in
@@ -42,11 +42,11 @@ pub blocks_kept_into-requires : goal.blocks_kept_into-requires
 blocks_kept_into-requires c =
     let counted : c.planned-after.result ≡ with_plan c.args.numbers c.planned-after.result.plan_rank = c.planned-after.ensures
     ∙ ap (with_plan c.args.numbers) (sym (ap (λ (x : Numbers). x.plan_rank) c.planned-after.ensures)) in
-    let laid : let a = c.args in let l = c.axes_kept_into-axes.last in AxesAt a.numbers a.extents.now a.strides.now c.planned-after.result.plan_rank c.weights_kept-w.result l.1.1.1.1.0 l.1.1.1.1.1.0 = let a = c.args in
-    let l = c.axes_kept_into-axes.last in
-    subst (λ (r : ℕ). AxesAt a.numbers a.extents.now a.strides.now r c.weights_kept-w.result l.1.1.1.1.0 l.1.1.1.1.1.0)
+    let laid : let a = c.args in let l = c.axes_kept_into-axes.new in AxesAt a.numbers a.extents.now a.strides.now c.planned-after.result.plan_rank c.weights_kept-w.result l.es l.plan_strides = let a = c.args in
+    let l = c.axes_kept_into-axes.new in
+    subst (λ (r : ℕ). AxesAt a.numbers a.extents.now a.strides.now r c.weights_kept-w.result l.es l.plan_strides)
     (sym (ap (λ (c : Numbers). c.plan_rank) c.planned-after.ensures)) c.axes_kept_into-axes.ensures in
-    let cut : let a = c.args in let l = c.axes_kept_into-axes.last in Cuttable c.planned-after.result a.extents.now a.sizes.now l.1.1.1.1.0 l.1.1.1.1.1.0 = let a = c.args in
+    let cut : let a = c.args in let l = c.axes_kept_into-axes.new in Cuttable c.planned-after.result a.extents.now a.sizes.now l.es l.plan_strides = let a = c.args in
     cuttable a.numbers a.extents.now a.sizes.now a.strides.now c.requires.layout_right c.planned-after.result counted laid in
     cut
 
@@ -54,9 +54,9 @@ pub returns : goal.returns
 returns c =
     let counted : c.planned-after.result ≡ with_plan c.args.numbers c.planned-after.result.plan_rank = c.planned-after.ensures
     ∙ ap (with_plan c.args.numbers) (sym (ap (λ (x : Numbers). x.plan_rank) c.planned-after.ensures)) in
-    let laid : let a = c.args in let l = c.axes_kept_into-axes.last in AxesAt a.numbers a.extents.now a.strides.now c.planned-after.result.plan_rank c.weights_kept-w.result l.1.1.1.1.0 l.1.1.1.1.1.0 = let a = c.args in
-    let l = c.axes_kept_into-axes.last in
-    subst (λ (r : ℕ). AxesAt a.numbers a.extents.now a.strides.now r c.weights_kept-w.result l.1.1.1.1.0 l.1.1.1.1.1.0)
+    let laid : let a = c.args in let l = c.axes_kept_into-axes.new in AxesAt a.numbers a.extents.now a.strides.now c.planned-after.result.plan_rank c.weights_kept-w.result l.es l.plan_strides = let a = c.args in
+    let l = c.axes_kept_into-axes.new in
+    subst (λ (r : ℕ). AxesAt a.numbers a.extents.now a.strides.now r c.weights_kept-w.result l.es l.plan_strides)
     (sym (ap (λ (c : Numbers). c.plan_rank) c.planned-after.ensures)) c.axes_kept_into-axes.ensures in
     let a = c.args in
     let e = ap (λ (x : Numbers). x.operands) c.planned-after.ensures in

@@ -17,11 +17,11 @@ put_strides-requires c =
     let a = c.args in
     let f = c.requires.fitting in
     let e = f.strides_all in
-    let m = few_strides a.rank (length a.layout-sizes.now) f.rank-few f.operands_few in record { out_value = fill_none 512 (pos 0); row_bound = omega (arith, e, m) }
+    let m = few_strides a.rank (length a.layout_sizes.now) f.rank-few f.operands_few in record { out_value = fill_none 512 (pos 0); row_bound = omega (arith, e, m) }
 
 pub ranks_into-requires : goal.ranks_into-requires
 ranks_into-requires c =
-    let a = c.args in record { operands_bound = c.requires.fitting.operands_few; even = table_even a.layout-strides.now a.rank (length a.layout-sizes.now) c.requires.fitting.rank-few _ c.rank_table_into.ensures; out_value = refl }
+    let a = c.args in record { operands_bound = c.requires.fitting.operands_few; even = table_even a.layout_strides.now a.rank (length a.layout_sizes.now) c.requires.fitting.rank-few _ c.rank_table_into.ensures; out_value = refl }
 
 pub returns : goal.returns
 returns c =

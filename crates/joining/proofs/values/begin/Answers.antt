@@ -9,4 +9,4 @@ pub returns : goal.returns
 returns c =
     let a = c.args in
     c.together.ensures
-    ∙ begun-value (given a.aim.machine a.layout-extents.now a.layout-sizes.now a.layout-strides.now a.aim.purpose) c.none.result c.none.ensures c.begin_lent-moved.ensures
+    ∙ begun-value (given a.aim.machine a.layout_extents.now a.layout_sizes.now a.layout_strides.now a.aim.purpose) c.none.result c.none.ensures c.begin_lent-moved.ensures

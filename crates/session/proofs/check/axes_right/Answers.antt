@@ -56,7 +56,7 @@ same-loops-requires c =
     let places : length c.stays_by_into-found.new.es ≡ 64 = let a = c.args in
     ap length c.stays_by_into-found.ensures.extents
     ∙ length-padded 0 64 (extents (plan_axes (take a.numbers.rank a.extents.now) a.numbers.operands (take (a.numbers.rank * a.numbers.operands) a.strides.now) c.purpose_of.result)) in
-    places ∙ sym c.same-arg-1.given
+    places ∙ sym c.told-plan_extents
 
 pub strides_right-moves-requires : goal.strides_right-moves-requires
 strides_right-moves-requires c =
@@ -65,7 +65,7 @@ strides_right-moves-requires c =
     let l = c.requires in
     let y = c.stays_by_into-found.ensures in
     let n = own_strides a.numbers.rank a.numbers.operands l.axes l.few a.strides.now l.strides in
-    let e : a.numbers.operands * a.numbers.rank ≡ a.numbers.rank * a.numbers.operands = mul_comm a.numbers.operands a.numbers.rank in record { operands_bound = (l.few, omega (arith, n, e)); axes_len = (y.places, (y.few, c.strides_right-arg-1.given)); by_index = λ j h. subst (λ (r : ℕ). get_or c.stays_by_into-found.new.axes j 0 < r) ranked (y.inside j h) }
+    let e : a.numbers.operands * a.numbers.rank ≡ a.numbers.rank * a.numbers.operands = mul_comm a.numbers.operands a.numbers.rank in record { operands_bound = (l.few, omega (arith, n, e)); axes_len = (y.places, (y.few, c.told-plan_strides)); by_index = λ j h. subst (λ (r : ℕ). get_or c.stays_by_into-found.new.axes j 0 < r) ranked (y.inside j h) }
 
 pub returns : goal.returns
 returns c =

@@ -15,7 +15,7 @@ same-requires c =
     let laid : let a = c.args in BlocksAt a.numbers a.extents.now a.sizes.now a.plan_extents.now a.plan_strides.now c.compute_costs-c.result c.blocks_kept_into.new.blocks = record { costs = c.compute_costs-c.ensures; blocks = c.blocks_kept_into.ensures } in
     let places : (length c.compute_costs-c.result ≡ 64) × (length c.blocks_kept_into.new.blocks ≡ 64) = let a = c.args in
     blocks_places a.numbers a.extents.now a.sizes.now a.plan_extents.now a.plan_strides.now c.requires.places laid in
-    places.0 ∙ sym c.same-arg-1.given
+    places.0 ∙ sym c.told-costs
 
 pub slice_bounds-same-end-3 : goal.slice_bounds-same-end-3
 slice_bounds-same-end-3 c =
@@ -29,7 +29,7 @@ same-requires-2 c =
     let laid : let a = c.args in BlocksAt a.numbers a.extents.now a.sizes.now a.plan_extents.now a.plan_strides.now c.compute_costs-c.result c.blocks_kept_into.new.blocks = record { costs = c.compute_costs-c.ensures; blocks = c.blocks_kept_into.ensures } in
     let places : (length c.compute_costs-c.result ≡ 64) × (length c.blocks_kept_into.new.blocks ≡ 64) = let a = c.args in
     blocks_places a.numbers a.extents.now a.sizes.now a.plan_extents.now a.plan_strides.now c.requires.places laid in
-    places.1 ∙ sym c.same-arg-2-1.given
+    places.1 ∙ sym c.told-blocks
 
 pub returns : goal.returns
 returns c =

@@ -5,7 +5,7 @@ use borrow.Author.Rules.{rules}
 use Rattle.session.proofs.check.holds.Goals as goal
 
 pub layout_right-requires : goal.layout_right-requires
-layout_right-requires c = (c.layout_right-arg-1.given, (c.layout_right-arg-2-1.given, c.layout_right-arg-3-1.given))
+layout_right-requires c = (c.told-extents, (c.told-sizes, c.told-strides))
 
 pub parts_right-requires : goal.parts_right-requires
 parts_right-requires c = record { table_value = c.requires; layout_right = c.layout_right.ensures.yes c.if-layout_right.true }

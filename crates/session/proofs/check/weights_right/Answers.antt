@@ -16,7 +16,7 @@ same-requires c =
     let places : length c.weights_kept-w.result ≡ 64 = let a = c.args in
     ap length c.weights_kept-w.ensures
     ∙ length-padded 0 64 (weights (take a.numbers.rank a.extents.now) a.numbers.operands (take (a.numbers.rank * a.numbers.operands) a.strides.now) (lead (purpose_in a.numbers))) in
-    places ∙ sym c.same-arg-1.given
+    places ∙ sym c.told-weights
 
 pub returns : goal.returns
 returns c =
