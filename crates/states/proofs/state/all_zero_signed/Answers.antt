@@ -23,11 +23,10 @@ loop-i-preserved c =
     let l = c.loop-i in
     let v : ℤ = get_or c.args.numbers.now l.i (pos 0) in
     let f : Fits w64 (of_z w64 v) = Fits-of_z {z = v} (record { sfits = c.bits-1.given }) in
-    let h = rw (of_z-to_z {w = w64} l.auto.bits) at l.invariant.1 in
-    (
+    let h = rw (of_z-to_z {w = w64} l.auto.bits) at l.invariant.1 in (
       omega arith,
       rw (of_z-to_z {w = w64} (Fits-or l.auto.bits f))
-      (gathered_next each_zero_z (pos 0) c.args.numbers.now l.i l.bits-bits _ c.loop-i-test.true (sym (zero_bits v c.bits-1.given)) h),
+          (gathered_next each_zero_z (pos 0) c.args.numbers.now l.i l.bits-bits _ c.loop-i-test.true (sym (zero_bits v c.bits-1.given)) h),
     )
 
 pub returns : goal.returns
