@@ -1,10 +1,8 @@
 -- `auxiliary::stairs::astray` needs what it asks for, and promises nothing. Assumes nothing.
-use mathlib.Core.Path.{◌≡◌, ◌∙◌, ap}
+use mathlib.Core.Path.{◌∙◌, ap}
 use Prim.Native.Nat.{◌/◌, ◌^◌, ◌≤◌}
-use native.Mathlib.Omega.{arith}
 use lib.IntN.{pos, nat_abs}
 use lib.ListN.{length, get_or}
-use borrow.Author.Rules.{rules}
 use Rattle.laws.specs.Base.Bits.{read_back}
 use Rattle.auxiliary.proofs.Counting.{size_le}
 use Rattle.auxiliary.proofs.stairs.astray.Goals as goal

@@ -1,11 +1,8 @@
 -- The invariants of `stairs::climb_into`.
-use mathlib.Core.Path.{◌≡◌, ◌∙◌, ap}
+use mathlib.Core.Path.{◌≡◌}
 use mathlib.Core.List.{map}
-use Prim.Native.Nat.{ℕ, ◌-◌, ◌≤◌, ◌<◌}
-use native.Mathlib.Omega.{arith}
-use borrow.Author.Rules.{rules}
+use Prim.Native.Nat.{◌-◌, ◌≤◌}
 use Rattle.strided.specs.Base.{padded, run}
-use Rattle.laws.specs.Base.Filling.{fill_none, fill_next}
 use Rattle.auxiliary.specs.Stairs.{stair_of}
 use Rattle.auxiliary.proofs.stairs.climb_into.Given as goal
 

@@ -5,7 +5,6 @@ use native.Mathlib.Omega.{arith}
 use lib.Dec.{eqb}
 use lib.IntN.{pos, nat_abs}
 use lib.ListN.{length, get_or}
-use borrow.Author.Rules.{rules}
 use Rattle.laws.specs.Base.Bits.{read_back}
 use Rattle.auxiliary.specs.Stairs.{steps_to}
 use Rattle.auxiliary.proofs.Counting.{size_le}

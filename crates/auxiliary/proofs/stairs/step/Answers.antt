@@ -2,7 +2,6 @@
 use mathlib.Core.Path.{sym, ap, ◌∙◌}
 use mathlib.Core.Bool.{Bool}
 use native.Mathlib.Omega.{arith}
-use borrow.Author.Rules.{rules}
 use Rattle.auxiliary.specs.Stairs.{step_of}
 use Rattle.auxiliary.proofs.Counting.{contributes_le}
 use Rattle.auxiliary.proofs.stairs.step.Goals as goal

@@ -1,10 +1,9 @@
 -- `auxiliary::stairs::steps` meets its contract. The invariant: the steps up to stride i - 1 are counted. Assumes nothing.
 use mathlib.Core.Path.{◌≡◌, sym, ◌∙◌, ap, ap₂}
-use Prim.Native.Nat.{ℕ, ◌+◌, ◌-◌, ◌^◌, ◌≤◌, max}
+use Prim.Native.Nat.{ℕ, ◌+◌, ◌-◌, ◌^◌, ◌≤◌}
 use native.Mathlib.Omega.{arith}
 use lib.IntN.{pos, nat_abs}
 use lib.ListN.{length, get_or}
-use borrow.Author.Rules.{rules}
 use Rattle.laws.specs.Base.Bits.{read_back}
 use Rattle.auxiliary.specs.Gaps.{size_at}
 use Rattle.auxiliary.specs.Stairs.{step_of, steps_to}

@@ -1,15 +1,8 @@
 -- The invariants of `stairs::steps`.
-use mathlib.Core.Path.{◌≡◌, sym, ◌∙◌, ap, ap₂}
-use Prim.Native.Nat.{ℕ, ◌+◌, ◌-◌, ◌^◌, ◌≤◌, max}
-use native.Mathlib.Omega.{arith}
-use lib.IntN.{pos, nat_abs}
-use lib.ListN.{length, get_or}
-use borrow.Author.Rules.{rules}
-use Rattle.laws.specs.Base.Bits.{read_back}
-use Rattle.auxiliary.specs.Gaps.{size_at}
-use Rattle.auxiliary.specs.Stairs.{step_of, steps_to}
-use Rattle.auxiliary.proofs.Counting.{size_le}
-use Rattle.auxiliary.proofs.Stepping.{steps_none, steps_next, steps_le}
+use mathlib.Core.Path.{◌≡◌}
+use Prim.Native.Nat.{◌-◌, ◌≤◌, max}
+use lib.ListN.{length}
+use Rattle.auxiliary.specs.Stairs.{steps_to}
 use Rattle.auxiliary.proofs.stairs.steps.Given as goal
 
 abbrev pub invariant-loop-i : goal.invariant-loop-i
