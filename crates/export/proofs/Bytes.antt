@@ -17,7 +17,7 @@ use Rattle.cells.specs.declared.Side.{Side}
 use Rattle.cells.specs.Copy.{pair, Apart}
 use Rattle.cells.specs.Offsets.{place_at, spot_offset, spot-place, bytes_inside}
 use Rattle.cells.specs.Patch.{cell_at, run_cells, patch_cells, Inside, Lies}
-use Rattle.export.specs.Meaning.{cell_sign, cell_in_lem}
+use Rattle.export.proofs.Meaning.{cell_sign, cell_in_lem}
 use Rattle.export.specs.Steps.{step_small, none_time, one_time}
 use Rattle.export.specs.Blocks.{offset_at, row_cells, stretch_cells, Stretching, Bytes, InBytes}
 use Rattle.walker.specs.declared.Next.{Next}

@@ -39,7 +39,7 @@ use Rattle.cells.specs.Copy.{Pair, pair, copied, In}
 use Rattle.cells.specs.Meaning.{copied-length, copied-append, apart_some}
 use Rattle.cells.specs.Patches.{in_left, map_each, map_only, over_each, over_only, run_in_lem}
 use Rattle.cells.specs.Offsets.{place_at}
-use Rattle.export.specs.Walks.{in_nth}
+use Rattle.export.proofs.Walks.{in_nth}
 use Rattle.export.specs.Blocks.{along, offset_in, block_cells, walk_cells, offset_at, row_cells, stretch_cells, Stretching, Copyable}
 
 -- ---- members of parts of a list

@@ -37,9 +37,10 @@ use Rattle.cells.specs.Copy.{moved, copied}
 use Rattle.cells.specs.Offsets.{place_at}
 use Rattle.export.specs.Export.{width_of, exported, cell_rows, copy_refused, done_at, done_or, copy_done}
 use Rattle.export.specs.Rows.{copy_as_planning, copy_planned, Clean, clean}
-use Rattle.export.specs.Packed.{Plain, plain_passes, plain_row9, plain_exported}
+use Rattle.export.specs.Packed.{Plain}
+use Rattle.export.proofs.Plains.{plain_passes, plain_row9, plain_exported}
 use Rattle.export.specs.Blocks.{walk_cells, starts_of, Copyable}
-use Rattle.export.specs.Walks.{plan_copyable, walk-exported}
+use Rattle.export.proofs.Walks.{plan_copyable, walk-exported}
 
 -- an answer is one of two
 told_none : (o : Option Refusal) (w : Walk) (r : Refusal) → o ≡ none → (begun_or o w).answer ≡ Refused r → ⊥

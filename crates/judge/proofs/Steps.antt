@@ -18,7 +18,7 @@ use Rattle.laws.specs.Base.Layouts.{within-length, within-total, total_nozero}
 use Rattle.laws.specs.Base.Sums.{pos_mul}
 use Rattle.laws.specs.Refusals.Zeros.{total_some}
 use Rattle.judge.specs.Laying.{place, step_of}
-use Rattle.judge.specs.Places.{place-below}
+use Rattle.judge.proofs.Places.{place-below}
 
 pub shift_leb : (x n e : ℕ) → n ≤ e → leb x (e - n) ≡ leb (x + n) e
 shift_leb x n e h = go (leb x (e - n)) refl

@@ -5,3 +5,4 @@ pub mod Fills
 pub mod Forms
 pub mod Spelling
 pub mod Telling
+pub mod Trips

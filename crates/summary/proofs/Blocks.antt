@@ -1,23 +1,22 @@
 -- THE VISITS BLOCK BY BLOCK: a block's cells are a run from its offset, with the plan's first stride between them; and the blocks of a stretch are
 -- rows of runs. So the visits are what a loop over stretches goes through.
 -- Assumes nothing.
-use Rattle.std.specs.Prelude.{◌≡◌, refl, List, [], ◌∷◌, ◌++◌, map, ℕ, zero, suc, ◌+◌, ◌*◌, ℤ, pos, ◌+ℤ◌, ◌*ℤ◌, length, get_or, take, drop}
-use Rattle.std.proofs.Common.{sym, ap, ap₂, ◌∙◌, add-zero, arith}
+use Rattle.std.specs.Prelude.{◌≡◌, refl, List, [], ◌∷◌, ◌++◌, map, ℕ, zero, suc, ◌+◌, ℤ, pos, ◌+ℤ◌, ◌*ℤ◌, length, get_or, take}
+use Rattle.std.proofs.Common.{sym, ap, ◌∙◌, add-zero, arith}
 use Rattle.std.proofs.lemmas.Simd.{map-map}
 use Rattle.std.proofs.lemmas.List.{map-append}
 use Rattle.std.proofs.Math.IntN.{+ℤ_assoc, +ℤ_comm, +ℤ_idr, suc_ℤ-*ℤ}
 use Rattle.strided.specs.Base.{over, run}
 use Rattle.strided.specs.Layout.{dot}
-use Rattle.strided.specs.Walk.{CutAxis, ax, Block, block, counters, length_at, block_at, cell_at}
+use Rattle.strided.specs.Walk.{CutAxis, ax, Block, counters, length_at, block_at, cell_at}
 use Rattle.strided.specs.Begin.{plan_row}
 use Rattle.strided.specs.Memory.{plan_of}
 use Rattle.strided.specs.Step.{plan_cut_axes}
-use Rattle.strided.specs.declared.Plan.{Plan}
 use Rattle.laws.specs.Base.Lists.{over-map}
 use Rattle.laws.specs.Walk.Placed.{Placed, placed_from, placed_walk}
 use Rattle.walker.specs.declared.Next.{Next}
-use Rattle.walker.specs.Stretch.{Stretch, block_in, laid, told}
-use Rattle.summary.specs.Visits.{indices_in, indices_of, offset_at, visits_of}
+use Rattle.walker.specs.Stretch.{block_in, laid, told}
+use Rattle.summary.specs.Visits.{indices_in, offset_at, visits_of}
 use Rattle.summary.specs.Ahead.{run_from, rows_from}
 use Rattle.summary.proofs.Meeting.{move_none, move_last}
 

@@ -1,10 +1,10 @@
 -- A SUM OF WHOLE NUMBERS whose sizes total at most 2^53 is the exact one: no addition of it rounds. Assumes nothing.
-use Rattle.std.specs.Prelude.{◌≡◌, refl, Bool, true, false, not, cond, ◌&&◌, List, [], ◌∷◌, ℕ, zero, suc, ◌+◌, ◌-◌, ◌*◌, ◌^◌, ◌≤◌, ◌<◌, ℤ, pos, negsuc, neg_ℤ, nat_abs, ◌+ℤ◌, T, ltb, Float}
+use Rattle.std.specs.Prelude.{◌≡◌, refl, Bool, true, false, not, cond, ◌&&◌, List, [], ◌∷◌, ℕ, zero, suc, ◌+◌, ◌-◌, ◌*◌, ◌^◌, ◌≤◌, ◌<◌, ℤ, pos, negsuc, nat_abs, ◌+ℤ◌, T, ltb, Float}
 use Rattle.std.proofs.Common.{sym, ap, ◌∙◌, zero-le, mul-one, mul_comm, mul_assoc, add-mul, zero-lt-suc, mul-pos, mul-lt-mul_of_pos_right, mul-le-mul_right, le_refl, le_trans, arith, lt-ltb, le-ltb, ltb→lt, nltb→le}
 use Rattle.std.proofs.Math.Nat.{mul-sub, eq_of_mul-eq-mul_right}
-use Rattle.std.proofs.Math.IntN.{sub_ℕ, +ℤ_assoc, +ℤ_idr, +ℤ_idl}
+use Rattle.std.proofs.Math.IntN.{+ℤ_assoc, +ℤ_idr, +ℤ_idl}
 use Rattle.std.specs.Float.{nan, inf, fin, binary64}
-use Rattle.std.specs.Float.Ieee.{prec, up, down, round, sum, add, of_int}
+use Rattle.std.specs.Float.Ieee.{up, down, round, sum, add, of_int}
 use Rattle.std.specs.Float.Ieee.Fits.{down_pos}
 use Rattle.std.specs.Float.Ieee.Exact.{HasValue}
 use Rattle.std.specs.Float.Ieee.Back.{round_whole}

@@ -1,5 +1,5 @@
 -- Cells ahead of a summary, met one by one and run by run. Assumes nothing.
-use Rattle.std.specs.Prelude.{◌≡◌, refl, Bool, true, false, ◌&&◌, List, [], ◌∷◌, ◌++◌, map, ℕ, zero, suc, ◌+◌, ◌-◌, ◌*◌, ◌^◌, ◌≤◌, ◌<◌, T, ℤ, pos, negsuc, nat_abs, ◌+ℤ◌, ◌*ℤ◌, Float, length}
+use Rattle.std.specs.Prelude.{◌≡◌, refl, Bool, true, ◌&&◌, List, [], ◌∷◌, ◌++◌, map, ℕ, zero, suc, ◌+◌, ◌-◌, ◌^◌, ◌≤◌, ◌<◌, T, ℤ, pos, negsuc, nat_abs, ◌+ℤ◌, ◌*ℤ◌, Float, length}
 use Rattle.std.proofs.Common.{sym, ap, ◌∙◌, subst, arith, length-append, SFits, ltb-true}
 use Rattle.std.proofs.lemmas.Bool.{false≢true}
 use Rattle.std.proofs.lemmas.List.{map-append, length-map}
@@ -14,7 +14,7 @@ use Rattle.summary.specs.Sums.{with_sum, with_cell, with_cells}
 use Rattle.summary.proofs.Steps.{step_count, step-few, cells-append, cells_count, cells-few}
 use Rattle.span.specs.Span.{in_cells}
 use Rattle.summary.specs.Visits.{cell_of}
-use Rattle.summary.specs.Ahead.{run_from, rows_from, AllIn, Ahead, met, RunsFit}
+use Rattle.summary.specs.Ahead.{run_from, rows_from, Ahead, met, RunsFit}
 use Rattle.summary.specs.Parts.{between, grown}
 use Rattle.summary.proofs.Quiet.{quiet_none, quiet_next}
 

@@ -2,7 +2,7 @@
 -- records, or two ways to name the axes that give one order of visits give one summary. And of a summary that is served: its count is the
 -- layout's total, each index of the layout is met exactly once, the sum of whole numbers is exact, the extremes are cells.
 -- Assumes nothing.
-use Rattle.std.specs.Prelude.{◌≡◌, refl, true, false, List, [], ◌∷◌, map, ℕ, ◌^◌, ◌≤◌, ◌<◌, ℤ, pos, ◌+ℤ◌, Float, length}
+use Rattle.std.specs.Prelude.{◌≡◌, refl, true, false, List, map, ℕ, ◌^◌, ◌≤◌, ◌<◌, ℤ, pos, ◌+ℤ◌, Float, length}
 use Rattle.std.proofs.Common.{sym, ap₂, ◌∙◌, subst, arith}
 use Rattle.std.proofs.Math.Path.{ap}
 use Rattle.std.proofs.lemmas.Simd.{map-map}
@@ -11,21 +11,17 @@ use Rattle.std.proofs.Math.IntN.{+ℤ_idl}
 use Rattle.std.specs.Float.{nan}
 use Rattle.std.specs.Float.Ieee.{is_nan}
 use Rattle.std.proofs.Math.ListN.{length-map}
-use Rattle.strided.specs.Layout.{Within, dot, extents, total}
-use Rattle.strided.specs.Refusals.{Row, refused_by, planning_rows, planning_refused, row9}
-use Rattle.strided.specs.Fuse.{plan_axes}
-use Rattle.strided.specs.Index.{index_in_plan, original_index}
+use Rattle.strided.specs.Layout.{Within, dot, total}
+use Rattle.strided.specs.Refusals.{planning_refused}
+use Rattle.strided.specs.Index.{index_in_plan}
 use Rattle.strided.specs.Begin.{plan_extents, plan_row}
 use Rattle.strided.specs.declared.Machine.{Machine}
 use Rattle.strided.specs.declared.Refusal.{Refusal}
-use Rattle.strided.specs.declared.Answer.TheVariants.{Served, Refused}
+use Rattle.strided.specs.declared.Answer.TheVariants.{Served}
 use Rattle.laws.specs.Base.Counting.{count}
-use Rattle.laws.specs.Base.Refusals.{NoneApplies, none_applies}
 use Rattle.laws.specs.Fuse.Maps.{plan_total, plan_in, orig_plan}
-use Rattle.laws.specs.Refusals.Rows.{rows_refuse}
 use Rattle.laws.specs.Text.Totals.{planned-extents}
 use Rattle.summary.specs.declared.cell.Summary.{Summary}
-use Rattle.summary.specs.declared.Summarized.{Summarized}
 use Rattle.summary.specs.Sums.{summary_of}
 use Rattle.summary.specs.Visits.{cell_sizes, ordering, summary_plan, indices_of, offset_at, visits_of, visits, cell_of}
 use Rattle.summary.specs.Rows.{summary_refused, summarized_or, cells_met, summarized}

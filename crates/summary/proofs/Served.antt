@@ -1,19 +1,18 @@
 -- A layout of one operand that planning does not refuse: its walk begins exactly if row 9 passes, and where row 22 passes too every cell that is
 -- met lies in the slice. And the rows, as the code tells them.
 -- Assumes nothing.
-use Rattle.std.specs.Prelude.{◌≡◌, refl, Bool, true, false, cond, List, [], ◌∷◌, map, ℕ, ◌+◌, ◌*◌, ◌^◌, ◌≤◌, ◌<◌, ℤ, pos, negsuc, ◌+ℤ◌, Float, length, get_or, take, drop}
+use Rattle.std.specs.Prelude.{◌≡◌, refl, Bool, true, false, cond, List, [], ◌∷◌, ℕ, ◌^◌, ◌≤◌, ◌<◌, ℤ, pos, negsuc, ◌+ℤ◌, Float, length, get_or, take, drop}
 use Rattle.std.proofs.Common.{sym, ◌∙◌, subst, true≢false, mul-one, zero-mul, arith, take_all, ltb-true, lt-ltb}
 use Rattle.std.proofs.Math.Path.{ap}
 use Rattle.std.proofs.lemmas.Bool.{false≢true}
 use Rattle.std.proofs.Math.Option.{Option, none, some}
-use Rattle.strided.specs.Layout.{NoZero, Within, has_zero, in_i64, dot, reach, max_i, extents, row, stride_row}
+use Rattle.strided.specs.Layout.{NoZero, Within, in_i64, dot, reach, max_i, extents, row, stride_row}
 use Rattle.strided.specs.Refusals.{refused_by, planning_rows, planning_refused, row9}
 use Rattle.strided.specs.Fuse.{plan_axes}
 use Rattle.strided.specs.Index.{original_index}
-use Rattle.strided.specs.Plan.{planned, plan_from}
+use Rattle.strided.specs.Plan.{plan_from}
 use Rattle.strided.specs.Begin.{plan_extents, plan_row, begin_refused, begun_at}
 use Rattle.strided.specs.Memory.{plan_of}
-use Rattle.strided.specs.Demand3.{replaced}
 use Rattle.strided.specs.declared.Machine.{Machine}
 use Rattle.strided.specs.declared.Refusal.{Refusal}
 use Rattle.strided.specs.declared.Refusal.TheVariants.{Offsets, Slice}
@@ -43,7 +42,7 @@ use Rattle.summary.specs.declared.Summarized.{Summarized}
 use Rattle.summary.specs.Sums.{nothing_met, summary_of}
 use Rattle.summary.specs.Visits.{cell_sizes, ordering, summary_plan, indices_of, offset_at, visits_of, visits}
 use Rattle.summary.specs.Indices.{indices-within}
-use Rattle.summary.specs.Ahead.{AllIn, Summable, met}
+use Rattle.summary.specs.Ahead.{Summable, met}
 use Rattle.summary.specs.Rows.{row22, summary_refused, summarized_or, cells_met, summarized}
 
 -- the offset of a cell is a number of 64 bits

@@ -1,6 +1,6 @@
 -- One more cell: the summary by the kind of the cell, and its counts. Assumes nothing.
 use Rattle.std.specs.Prelude.{◌≡◌, refl, Bool, true, false, not, cond, ◌&&◌, List, [], ◌∷◌, ◌++◌, ℕ, ◌+◌, ◌*◌, ◌≤◌, T, eqb, Float, length}
-use Rattle.std.proofs.Common.{ap, ◌∙◌, le_refl, arith}
+use Rattle.std.proofs.Common.{le_refl, arith}
 use Rattle.std.proofs.Math.Dec.{eqb_refl}
 use Rattle.std.specs.Float.{nan, inf, fin}
 use Rattle.std.specs.Float.Ieee.{up, down, ne, is_nan}

@@ -6,12 +6,12 @@ use lib.Dec.{T}
 use lib.IntN.{ℤ, pos}
 use lib.ListN.{length, get_or}
 use lib.Signed.{non_neg}
-use borrow.Author.Rules.{rules}
 use Rattle.layout.proofs.Caps.{elem_read}
 use Rattle.cells.specs.Copy.{moved}
 use Rattle.cells.specs.Offsets.{place_at}
 use Rattle.export.specs.Export.{width_of}
-use Rattle.export.specs.Packed.{Plain, plain_clean, into_sign, out_sign, into_bytes, out-bytes}
+use Rattle.export.specs.Packed.{Plain}
+use Rattle.export.proofs.Plains.{plain_clean, into_sign, out_sign, into_bytes, out-bytes}
 use Rattle.export.proofs.Ways.{planned_taken, plain_done}
 use Rattle.export.proofs.copy_accepted.Goals as goal
 

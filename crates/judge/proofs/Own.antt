@@ -1,7 +1,7 @@
 -- OUR OWN WALKS: "Each of our own walks at such a rank and total, followed to its end and turned into runs of single cells along axis 0, is
 -- accepted." First of any list that has each index of the layout once and no other; then of the indices told at the places of a walk.
 -- Assumes nothing.
-use Rattle.std.specs.Prelude.{◌≡◌, refl, false, List, [], ◌∷◌, map, ℕ, zero, suc, ◌-◌, ◌*◌, ◌≤◌, ◌<◌, ℤ, length, take}
+use Rattle.std.specs.Prelude.{◌≡◌, refl, false, List, [], ◌∷◌, map, ℕ, zero, suc, ◌*◌, ◌≤◌, ◌<◌, ℤ, length, take}
 use Rattle.std.proofs.Common.{sym, ap, ◌∙◌, subst, add-zero, zero-add, arith, le-ltb, eq-eqb, ne_eqb}
 use Rattle.std.proofs.Math.Option.{none, some}
 use Rattle.strided.specs.Base.{over, nth, run}
@@ -29,8 +29,8 @@ use Rattle.laws.specs.Demand3.Whole.{demand3_any, walk_ends, exactly_one}
 use Rattle.strided.specs.Refusals.{row5}
 use Rattle.judge.specs.Visits.{Visit, visit_line, VisitFits, Formed}
 use Rattle.judge.specs.Judge.{moved, verdict, judge_refused, Judgement, Judges}
-use Rattle.judge.specs.Counts.{Stands, counted, there, once, once_only, counted_stands, once_stands, nth-run, run-nth}
-use Rattle.judge.specs.Verdicts.{Lies, accepted_iff}
+use Rattle.judge.specs.Counts.{Stands, counted, there, once_only, counted_stands, once_stands, nth-run, run-nth}
+use Rattle.judge.proofs.Verdicts.{Lies, accepted_iff}
 use Rattle.judge.specs.declared.Verdict.TheVariants.{Accepted}
 use Rattle.judge.specs.declared.Judged.TheVariants.{Told}
 

@@ -51,7 +51,7 @@ use Rattle.cells.specs.Indexed.{Lists, lists_apart}
 use Rattle.export.specs.Export.{offset_of, place_of, width_of, exported}
 use Rattle.export.specs.Blocks.{along, offset_in, cell_in, block_cells, walk_cells, Copyable}
 use Rattle.export.specs.Rows.{Clean}
-use Rattle.export.specs.Meaning.{into_cells, from-cells, none_shared, any_order}
+use Rattle.export.proofs.Meaning.{into_cells, from-cells, none_shared, any_order}
 use Rattle.export.specs.Steps.{step_small, none_time}
 
 -- ---- members by their places in a list

@@ -1,11 +1,11 @@
 -- WHAT THE VERDICT MEANS, over indices: each of the four by a claim of its own, of which exactly one holds.
 -- Assumes nothing.
-use Rattle.std.specs.Prelude.{◌≡◌, ◌↔◌, ◌⊎◌, Bool, true, false, cond, ◌&&◌, ◌||◌, List, [], ◌∷◌, ℕ, zero, suc, ◌+◌, ◌≤◌, ◌<◌, ltb}
+use Rattle.std.specs.Prelude.{◌≡◌, ◌↔◌, Bool, true, false, cond, ◌&&◌, ◌||◌, List, [], ◌∷◌, ℕ, zero, suc, ◌+◌, ◌≤◌, ◌<◌, ltb}
 use Rattle.std.proofs.Math.Path.{refl}
 use Rattle.std.proofs.Common.{sym, ap, ◌∙◌, subst, ⊎_elim, true≢false, zero-add, arith, ltb-true, ltb-false}
 use Rattle.std.proofs.lemmas.Bool.{false≢true, not-true, not-false}
 use Rattle.std.proofs.Math.Option.{some}
-use Rattle.strided.specs.Base.{nth, every, some_of}
+use Rattle.strided.specs.Base.{nth, every}
 use Rattle.strided.specs.Layout.{total, Within, within}
 use Rattle.laws.specs.Base.Tests.{and_both, both_and, or_none}
 use Rattle.laws.specs.Base.Counting.{count}
@@ -14,8 +14,8 @@ use Rattle.laws.specs.Base.Ranges.{below_or, every_fails}
 use Rattle.laws.specs.Refusals.Operands.{some_of_where, some_of_at}
 use Rattle.judge.specs.Visits.{Visit}
 use Rattle.judge.specs.Judge.{moved, cells, met, all_in, leaves, some_leaves, index_at, met_at, some_again, all_met, verdict}
-use Rattle.judge.specs.Counts.{Stands, often-count, there, counted_stands, stands_counted, once_stands, stands_once, twice_stands, nth-run, run-nth}
-use Rattle.judge.specs.Places.{place-below, index_place, index_within}
+use Rattle.judge.specs.Counts.{Stands, often-count, counted_stands, stands_counted, once_stands, stands_once, twice_stands, nth-run, run-nth}
+use Rattle.judge.proofs.Places.{place-below, index_place, index_within}
 use Rattle.judge.specs.Laying.{place}
 use Rattle.judge.specs.declared.Verdict.{Verdict}
 use Rattle.judge.specs.declared.Verdict.TheVariants.{Accepted, Short, Double, Outside}

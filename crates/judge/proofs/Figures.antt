@@ -1,7 +1,7 @@
 -- Figures: verdicts and marks of short lists, a line as text, the order of the rows, and plans whose axis 0 is an original axis or is not, by
 -- computation on the definitions.
 -- Assumes nothing.
-use Rattle.std.specs.Prelude.{◌≡◌, refl, List, [], ◌∷◌, ℕ, zero, suc, ℤ, pos, replicate}
+use Rattle.std.specs.Prelude.{◌≡◌, refl, List, [], ◌∷◌, ℕ, zero, suc, pos, replicate}
 use Rattle.std.proofs.Math.Option.{none, some}
 use Rattle.std.proofs.Common.{arith}
 use Rattle.strided.specs.Base.{every, some_of}
@@ -14,7 +14,7 @@ use Rattle.strided.specs.Index.{index_in_plan}
 use Rattle.strided.specs.declared.Purpose.{Purpose}
 use Rattle.judge.specs.Visits.{Visit, visit_line}
 use Rattle.judge.specs.Judge.{verdict, marks_of, marks_after, judge_rows, judge_refused}
-use Rattle.judge.specs.Along.{FirstAxis}
+use Rattle.judge.proofs.Along.{FirstAxis}
 use Rattle.judge.specs.declared.Verdict.{Verdict}
 use Rattle.judge.specs.declared.Verdict.TheVariants.{Accepted, Short, Double, Outside}
 

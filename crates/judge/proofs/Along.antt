@@ -31,8 +31,8 @@ use Rattle.laws.specs.Fuse.Maps.{plan_in, orig_plan}
 use Rattle.laws.specs.Demand3.Whole.{demand3_any}
 use Rattle.judge.specs.Visits.{Visit, visit_line, VisitFits, Formed}
 use Rattle.judge.specs.Judge.{moved, Judgement, Judges}
-use Rattle.judge.specs.Own.{each_fits, text_accepted, told_at, taken, told-met}
-use Rattle.judge.specs.Blocks.{run_by, block_run, run_in, runs_before, AlongAxis, blocks_accepted}
+use Rattle.judge.proofs.Own.{each_fits, text_accepted, told_at, taken, told-met}
+use Rattle.judge.proofs.Blocks.{run_by, block_run, run_in, runs_before, AlongAxis, blocks_accepted}
 use Rattle.judge.specs.declared.Verdict.TheVariants.{Accepted}
 use Rattle.judge.specs.declared.Judged.TheVariants.{Told}
 

@@ -22,8 +22,8 @@ use Rattle.laws.specs.Demand3.Whole.{demand3_any}
 use Rattle.judge.specs.Visits.{Visit}
 use Rattle.judge.specs.Judge.{moved, cells, met, verdict}
 use Rattle.judge.specs.Counts.{counted, stands_counted}
-use Rattle.judge.specs.Verdicts.{lies_stands, lies_once, accepted_iff}
-use Rattle.judge.specs.Own.{EachOnce, told_by, told_at, told_in, told_before, taken, walk_once}
+use Rattle.judge.proofs.Verdicts.{lies_stands, lies_once, accepted_iff}
+use Rattle.judge.proofs.Own.{EachOnce, told_by, told_at, told_in, told_before, taken, walk_once}
 use Rattle.judge.specs.declared.Verdict.TheVariants.{Accepted}
 
 -- any runs whose cells are each index of the layout once
