@@ -16,7 +16,7 @@ RIGHT = {
     "README.md": "# A planner\n\nSee [the map](docs/ARCHITECTURE.md#the-map-of-crates) and `crates/strided/specs`.\n\n## To go on\n",
     "docs/ARCHITECTURE.md": """# The map of crates
 
-`kernel::plan`, `walk::begin` by `check_layout`; `Order/Sorted.loop_order-is`, `Plan.planned`, `Plan.antt`, `crates/NAME/src`; [back](../README.md#to-go-on).
+`kernel::plan`, `walk::begin` by `check_layout`; `Order/Sorted.loop_order-is`, `Plan.planned`, `Lists.lists-all`, `Plan.antt`, `crates/NAME/src`; [back](../README.md#to-go-on).
 
     `no_such_word` in an example
 
@@ -35,6 +35,7 @@ RIGHT = {
     "crates.txt": "# Every crate.\n\n# definitions\nstrided:\nlaws: strided\n\n# walk: and what it needs\nkernel: strided\nwalk staticlib: kernel\n",
     "crates/strided/specs/Plan.antt": "unfoldable pub planned : ℕ → ℕ\n",
     "crates/laws/specs/Order/Sorted.antt": "pub loop_order-is {ℓ} : ℕ\n",
+    "crates/kernel/proofs/Lists.antt": "pub lists-all : ℕ\n",
     "crates/kernel/src/lib.rt": "pub fn plan(n: u64) -> u64 {\n    check_layout(n)\n}\n",
     "crates/walk/src/lib.rt": "pub use kernel::start::begin;\n",
 }
@@ -62,7 +63,7 @@ class Documents(unittest.TestCase):
         self.assertIn(words, fault)
 
     def test_right(self):
-        self.assertEqual(judged(), (0, "2 pages, 2 links, 7 names, 4 crates; 0 wrong\n", ""))
+        self.assertEqual(judged(), (0, "2 pages, 2 links, 8 names, 4 crates; 0 wrong\n", ""))
 
     def test_links(self):
         self.refused("the link docs/MAP.md#the-map-of-crates leads nowhere", ("README.md", "docs/ARCHITECTURE.md", "docs/MAP.md"))
@@ -74,8 +75,9 @@ class Documents(unittest.TestCase):
                                 ("Sorted.loop_order-is", "Sorted.loop_order", "crate laws has none"),
                                 ("Order/Sorted", "Order/Sort", "crate laws has none"),
                                 ("`Plan.planned`", "`Plan.plans`", "no file Plan.antt has it"),
+                                ("`Lists.lists-all`", "`Lists.lists`", "no file Lists.antt has it"),
                                 ("`Plan.antt`", "`Plans.antt`", "no crate has such a file"),
-                                ("`crates/NAME/src`", "`crates/kernel/proofs`", "there is no such path"),
+                                ("`crates/NAME/src`", "`crates/kernel/specs`", "there is no such path"),
                                 ("`check_layout`", "`check_layouts`", "no source has this word")):
             self.refused(words, ("docs/ARCHITECTURE.md", old, new))
 
