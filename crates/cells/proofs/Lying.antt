@@ -2,16 +2,14 @@
 -- Assumes nothing.
 use mathlib.Core.Path.{◌≡◌, refl, sym, ap, ◌∙◌, subst}
 use mathlib.Core.List.{List, []}
-use Prim.Native.Nat.{ℕ, zero, suc, ◌+◌, ◌^◌, ◌≤◌, ◌<◌}
+use Prim.Native.Nat.{ℕ, zero, suc, ◌^◌, ◌<◌}
 use native.Mathlib.Omega.{arith}
-use lib.Dec.{T}
-use lib.IntN.{ℤ, pos, nat_abs, ◌+ℤ◌, ◌*ℤ◌, zero-*ℤ, +ℤ_idr}
-use lib.Signed.{non_neg}
+use lib.IntN.{ℤ, pos, ◌+ℤ◌, ◌*ℤ◌, zero-*ℤ, +ℤ_idr}
 use Rattle.strided.specs.Base.{over, run}
 use Rattle.cells.specs.declared.Side.{Side}
 use Rattle.cells.specs.Copy.{Pair, copied}
-use Rattle.cells.specs.Patch.{spot, place, run_cells, patch_cells, Inside, Lies}
-use Rattle.cells.specs.Reaching.{run_spot, Reaches, CellIn, PatchIn}
+use Rattle.cells.specs.Patch.{spot, run_cells, patch_cells, Inside, Lies}
+use Rattle.cells.specs.Reaching.{run_spot, PatchIn}
 use Rattle.cells.proofs.Running.{none_copied}
 use Rattle.cells.proofs.Patching.{patch_start}
 

@@ -1,7 +1,7 @@
 -- Runs without gaps: the copy of their cells is one move of bytes.
 -- Assumes nothing.
-use mathlib.Core.Path.{◌≡◌, refl, sym, ap, ap₂, ◌∙◌, subst}
-use mathlib.Core.List.{List, [], ◌∷◌}
+use mathlib.Core.Path.{◌≡◌, sym, ap, ap₂, ◌∙◌, subst}
+use mathlib.Core.List.{List}
 use Prim.Native.Nat.{ℕ, zero, suc, ◌+◌, ◌-◌, ◌*◌, ◌≤◌, ◌<◌}
 use native.Mathlib.Nat.{zero-mul}
 use native.Mathlib.Numerals.{add-one}
@@ -10,9 +10,9 @@ use lib.Dec.{T}
 use lib.IntN.{ℤ, pos, negsuc, nat_abs, ◌+ℤ◌, ◌*ℤ◌}
 use lib.Signed.{non_neg}
 use Rattle.cells.specs.declared.Side.{Side}
-use Rattle.cells.specs.Copy.{Pair, moved, copied}
-use Rattle.cells.specs.Patch.{spot, place, run_cells, patch_cells}
-use Rattle.cells.specs.Reaching.{run_spot, CellIn, PatchIn}
+use Rattle.cells.specs.Copy.{moved, copied}
+use Rattle.cells.specs.Patch.{place, run_cells, patch_cells}
+use Rattle.cells.specs.Reaching.{run_spot, PatchIn}
 use Rattle.cells.specs.Meaning.{moved_none, moved-add}
 use Rattle.cells.proofs.Running.{none_copied, cell_more, run_more}
 use Rattle.cells.proofs.Patching.{patch_cell, patch_start}

@@ -1,16 +1,16 @@
 -- A patch, run by run or four runs at a time: what lies in the buffers, what the loops keep.
 -- Assumes nothing.
-use mathlib.Core.Path.{◌≡◌, refl, sym, ap, ◌∙◌, subst}
-use mathlib.Core.List.{List, [], ◌∷◌, ◌++◌}
-use Prim.Native.Nat.{ℕ, zero, suc, ◌+◌, ◌≤◌, ◌<◌}
+use mathlib.Core.Path.{◌≡◌, sym, ap, ◌∙◌, subst}
+use mathlib.Core.List.{List, ◌++◌}
+use Prim.Native.Nat.{ℕ, ◌+◌, ◌≤◌, ◌<◌}
 use native.Mathlib.Nat.{zero-add}
 use native.Mathlib.Omega.{arith}
 use Rattle.strided.specs.Base.{over, run}
 use Rattle.laws.specs.Base.Lists.{run-append, over-append}
 use Rattle.cells.specs.declared.Side.{Side}
-use Rattle.cells.specs.Copy.{Pair, pair, copied, In, Apart}
+use Rattle.cells.specs.Copy.{Pair, copied, In, Apart}
 use Rattle.cells.specs.Meaning.{copied_none, apart_some}
-use Rattle.cells.specs.Patch.{cell_at, run_cells, patch_cells}
+use Rattle.cells.specs.Patch.{run_cells, patch_cells}
 use Rattle.cells.specs.Patches.{patch_none, patch_each}
 use Rattle.cells.specs.Reaching.{CellIn, RunIn, RunsIn, PatchIn, runs_from}
 use Rattle.cells.proofs.Running.{then_copied}

@@ -1,15 +1,14 @@
 -- What the loops over cells and runs keep: the copy so far, and one more.
 -- Assumes nothing.
-use mathlib.Core.Path.{◌≡◌, refl, sym, ap, ◌∙◌, subst}
+use mathlib.Core.Path.{◌≡◌, sym, ap, ◌∙◌}
 use mathlib.Core.List.{List, [], ◌∷◌, ◌++◌}
-use Prim.Native.Nat.{ℕ, ◌+◌, ◌≤◌, ◌<◌}
-use lib.ListN.{length}
+use Prim.Native.Nat.{ℕ, ◌+◌, ◌<◌}
 use Rattle.cells.specs.declared.Side.{Side}
-use Rattle.cells.specs.Copy.{Pair, pair, moved, copied}
+use Rattle.cells.specs.Copy.{Pair, moved, copied}
 use Rattle.cells.specs.Meaning.{copied-append, copied_none, copied-one}
 use Rattle.cells.specs.Patch.{place, cell_at, run_cells, patch_cells}
-use Rattle.cells.specs.Patches.{run-next, patch-next, patch_none}
-use Rattle.cells.specs.Reaching.{CellIn, RunIn, RunsIn}
+use Rattle.cells.specs.Patches.{run-next, patch-next}
+use Rattle.cells.specs.Reaching.{CellIn, RunIn}
 
 pub none_copied : (w : ℕ) (dst src : List ℕ) → dst ≡ copied w [] dst src
 none_copied w dst src = sym (copied_none w dst src)

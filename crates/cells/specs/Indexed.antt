@@ -1,7 +1,7 @@
 -- THE COPY BY INDEX: what ask 3 says of an array, over any kind of index, and that every list that has the cell of each index, and no other,
 -- gives it.
 -- Assumes nothing.
-use Rattle.std.specs.Prelude.{◌≡◌, refl, ◌⊎◌, List, [], ℕ, ◌+◌, ◌≤◌, ◌<◌, length, get_or}
+use Rattle.std.specs.Prelude.{◌≡◌, ◌⊎◌, List, [], ℕ, ◌+◌, ◌≤◌, ◌<◌, length, get_or}
 use Rattle.std.proofs.Common.{sym, ap, ap₂, ◌∙◌, subst, inl, inr, ⊎_elim}
 use Rattle.cells.specs.Copy.{Pair, pair, copied, In, AllIn, Clear, Apart, Off, Holds}
 use Rattle.cells.specs.Meaning.{copied-holds, copied-same, holds-one}

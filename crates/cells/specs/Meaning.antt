@@ -1,7 +1,7 @@
 -- THE FOLD HAS THE MEANING: where cells lie apart the copy of a list is what its members say, so that every order of them, and every list
 -- with the same members, gives the same bytes.
 -- Assumes nothing.
-use Rattle.std.specs.Prelude.{◌≡◌, refl, ◌⊎◌, ◌↔◌, Bool, true, false, List, [], ◌∷◌, ◌++◌, ℕ, zero, suc, ◌+◌, ◌-◌, ◌≤◌, ◌<◌, ltb, length, get_or, set}
+use Rattle.std.specs.Prelude.{◌≡◌, refl, ◌⊎◌, Bool, true, false, List, [], ◌∷◌, ◌++◌, ℕ, zero, suc, ◌+◌, ◌-◌, ◌≤◌, ◌<◌, ltb, length, get_or, set}
 use Rattle.std.proofs.Common.{sym, ap, ◌∙◌, subst, inl, inr, ⊎_elim, add-zero, arith, length-set, get_or-set_same, get_or-set_other, ext_get_or, ltb-true, ltb-false}
 use Rattle.cells.specs.Copy.{Pair, pair, moved, copied, In, Same, AllIn, Clear, Apart, Off, Holds}
 

@@ -2,15 +2,15 @@
 -- Assumes nothing.
 use Rattle.std.specs.Prelude.{◌≡◌, ◌⊎◌, ℕ, zero, suc, ◌+◌, ◌≤◌, ◌<◌}
 use Rattle.std.proofs.Math.Path.{refl, ap, subst}
-use Rattle.std.proofs.Common.{sym, ◌∙◌, inl, inr, ⊎_elim, eq-or-lt_of_le, add-one, arith}
+use Rattle.std.proofs.Common.{sym, ◌∙◌, inl, inr, ⊎_elim, eq-or-lt_of_le, arith}
 use mathlib.Core.List.{List, [], ◌∷◌, ◌++◌, map, map-append}
 use Rattle.std.proofs.Math.Nat.{zero-add}
 use Rattle.strided.specs.Base.{over, run}
-use Rattle.laws.specs.Base.Lists.{run-append, over-append, over_last}
+use Rattle.laws.specs.Base.Lists.{run-append, over_last}
 use Rattle.cells.specs.declared.Side.{Side}
-use Rattle.cells.specs.Copy.{Pair, pair, In, Same, AllIn}
+use Rattle.cells.specs.Copy.{Pair, pair, In, AllIn}
 use Rattle.cells.specs.Meaning.{to_eq, from_eq}
-use Rattle.cells.specs.Patch.{place, cell_at, run_cells, patch_cells, Inside, Lies}
+use Rattle.cells.specs.Patch.{cell_at, run_cells, patch_cells, Lies}
 
 -- ---- members
 

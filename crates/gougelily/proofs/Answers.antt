@@ -1,6 +1,5 @@
 -- The answers of the C entries, put together from what the entry called answered. Assumes nothing.
 use mathlib.Core.Path.{◌≡◌, sym, ap, ◌∙◌, subst}
-use mathlib.Core.Bool.{Bool}
 use mathlib.Core.List.{List}
 use Prim.Native.Nat.{ℕ, ◌≤◌}
 use native.Mathlib.Omega.{arith}
@@ -9,7 +8,7 @@ use lib.ListN.{length}
 use Rattle.strided.specs.Refusals.{negated}
 use Rattle.strided.specs.Bulk.{lengths_of, offsets_of, room_for, laid_on, SteppedMany, stepped_many}
 use Rattle.strided.specs.Mark.{mark_number}
-use Rattle.strided.specs.Memory.{code_or, flag, WalkMemory, walk_memory, Handed, Tells, mark_code, ManyMemory, many_memory, StepsMany}
+use Rattle.strided.specs.Memory.{code_or, WalkMemory, walk_memory, Handed, Tells, mark_code, ManyMemory, many_memory, StepsMany}
 use Rattle.strided.specs.declared.Purpose.{Purpose}
 use Rattle.strided.specs.declared.Refusal.{Refusal}
 use Rattle.strided.specs.declared.Answer.{Answer}

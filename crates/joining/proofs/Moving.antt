@@ -13,23 +13,20 @@ use Rattle.strided.specs.Base.{padded, over, run}
 use Rattle.strided.specs.Layout.{lead, stride_row}
 use Rattle.strided.specs.Memory.{purpose_of}
 use Rattle.strided.specs.Ranks.{ranks, rank_table}
-use Rattle.strided.specs.declared.Machine.{Machine}
 use Rattle.strided.specs.declared.Plan.{Plan}
-use Rattle.strided.specs.declared.Purpose.{Purpose}
 use Rattle.laws.specs.Base.Arrays.{length-padded, take-padded, take_counted}
 use Rattle.laws.specs.Base.Filling.{length-rows, fill_at}
 use Rattle.laws.specs.Base.Lists.{over_last}
 use Rattle.laws.specs.Base.Rows.{row_fits, length_over, row-over}
 use Rattle.laws.specs.Order.Ranks.{table_rows}
-use Rattle.auxiliary.specs.Fitting.{Fitting}
 use Rattle.session.specs.declared.Numbers.{Numbers}
-use Rattle.session.specs.Session.{Given, given, refused_of, ranks_of, weights_of, costs_of, plan_of, kind_of, fresh_of, old_place, sizes_without, strides_without}
+use Rattle.session.specs.Session.{Given, refused_of, ranks_of, weights_of, costs_of, plan_of, kind_of, fresh_of, old_place, sizes_without, strides_without}
 use Rattle.session.specs.Afresh.{few_strides, old-there, length_without, purpose_back, taken_of, row_new}
 use Rattle.session.specs.Tables.{table_joined}
-use Rattle.session.specs.Made.{Even, rows_of, ranks_in, TableOf, KeptIn, LayoutRight, Standing, given_in, session_at, with_plan}
+use Rattle.session.specs.Made.{rows_of, ranks_in, TableOf, KeptIn, LayoutRight, Standing, given_in, session_at, with_plan}
 use Rattle.joining.proofs.Laying.{row-added}
 use Rattle.session.proofs.Tabling.{zero_row, table_of, over_agree, rows-laid, table_even, table_more, table_less, exact_ranks}
-use Rattle.session.proofs.Holding.{g_operands, sizes_long, strides_long}
+use Rattle.session.proofs.Holding.{g_operands, strides_long}
 
 -- ---- what stands in the arrays
 

@@ -13,7 +13,7 @@ use lib.Seq.{length-take-le, take_all, take-add}
 use borrow.Author.Tests.{eqb-true, eqb-false, eq-eqb, ne_eqb, le-leb, leb-true, leb-false, ltb-true}
 use native.Mathlib.Nat.{zero-mul}
 use Rattle.layout.specs.Laid.{row_at}
-use Rattle.strided.specs.Base.{padded, over, run, some_of}
+use Rattle.strided.specs.Base.{padded, some_of}
 use Rattle.strided.specs.Layout.{total, lead, has_zero, reach, max_i, row, extents as extents_of}
 use Rattle.strided.specs.Memory.{purpose_of}
 use Rattle.strided.specs.Step.{blank, blank_z}

@@ -10,7 +10,7 @@ use lib.Dec.{eqb}
 use lib.IntN.{ℤ, pos, negsuc, nat_abs}
 use lib.ListN.{length, get_or, take, drop, length-drop, take-append-drop}
 use lib.Seq.{take-add, length-take-le, get_or-take, get_or-drop}
-use Rattle.strided.specs.Base.{padded, over, run}
+use Rattle.strided.specs.Base.{padded}
 use Rattle.strided.specs.Order.{pick}
 use Rattle.strided.specs.Fuse.{eq_z}
 use Rattle.strided.specs.Step.{blank_z}

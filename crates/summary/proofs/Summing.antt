@@ -3,7 +3,6 @@
 use mathlib.Core.Path.{◌≡◌, refl, sym, ap, ◌∙◌, subst}
 use mathlib.Core.Bool.{Bool, true, false}
 use mathlib.Core.List.{List, [], ◌∷◌, ◌++◌}
-use mathlib.Core.Option.{none}
 use Prim.Native.Nat.{ℕ, zero, suc, ◌+◌, ◌-◌, ◌*◌, ◌^◌, ◌≤◌, ◌<◌}
 use native.Mathlib.Nat.{zero-div, zero-mul}
 use native.Mathlib.Omega.{arith}
@@ -16,7 +15,6 @@ use Rattle.strided.specs.Layout.{has_zero, total, max_u}
 use Rattle.strided.specs.Walk.{counters, block_at}
 use Rattle.strided.specs.Begin.{plan_extents, begin_rows, begin_refused, begun_at}
 use Rattle.strided.specs.Step.{plan_cut_axes}
-use Rattle.strided.specs.Text.{plan_walk}
 use Rattle.strided.specs.Memory.{plan_of, walk_of}
 use Rattle.strided.specs.declared.Plan.{Plan}
 use Rattle.strided.specs.declared.Walk.{Walk}
@@ -39,7 +37,7 @@ use Rattle.summary.specs.declared.cell.Summary.{Summary}
 use Rattle.summary.specs.Sums.{nothing_met}
 use Rattle.summary.specs.Visits.{visits_of}
 use Rattle.summary.specs.Indices.{visits-many}
-use Rattle.summary.specs.Ahead.{run_from, rows_from, AllIn, Ahead, met, RunsFit, Summable}
+use Rattle.summary.specs.Ahead.{rows_from, Ahead, met, RunsFit, Summable}
 use Rattle.summary.proofs.Meeting.{met-append, ahead-first, ahead-rest}
 use Rattle.summary.proofs.Blocks.{run_in, visits-placed, laid-rows}
 

@@ -27,7 +27,7 @@ use Rattle.laws.specs.Base.Arrays.{length-padded}
 use Rattle.laws.specs.Base.Refusals.{NoneApplies, none_applies}
 use Rattle.laws.specs.Base.Tests.{and_both, or_none}
 use Rattle.laws.specs.Walk.States.{state_after, begin}
-use Rattle.laws.specs.Walk.Row10.{Sized, row10_exact}
+use Rattle.laws.specs.Walk.Row10.{row10_exact}
 use Rattle.laws.specs.Walk.Bulk.{walk_more, blocks_none}
 use Rattle.laws.specs.Walk.Steps.{Ready, ready, none_of, served_walk, at, raw, begun-walk, step-at, walk-state}
 use Rattle.advance.specs.Axis.{widths_to, start_of, starts_to}

@@ -18,11 +18,10 @@ use Rattle.laws.specs.Base.Refusals.{NoneApplies, none_applies}
 use Rattle.laws.specs.Refusals.Operands.{some_of_none}
 use Rattle.laws.specs.Refusals.Rows.{none_refuses}
 use Rattle.laws.specs.Refusals.Zeros.{no_zero_test}
-use Rattle.window.specs.Window.{along, parent_index, stepped_row, window_strides, shift_of, window_shifts, on_axis, axis_wrong, axis_wrong_at, stride_over, lists_wrong, window_rows, window_refused, some_window, windowed_or, windowed}
+use Rattle.window.specs.Window.{along, parent_index, window_strides, shift_of, window_shifts, on_axis, axis_wrong, axis_wrong_at, stride_over, lists_wrong, window_rows, window_refused, some_window, windowed_or, windowed}
 use Rattle.window.specs.Axes.{AxisLies, spans, index_on, outside_exact, index_there, axis_within}
 use Rattle.window.specs.Indices.{Lies, no_axis_lem, one_more_lem, lies_at, parent_within, parent_dot, parent_nozero}
 use Rattle.window.specs.Layouts.{WindowTaken, window_taken, served_window, window_row}
-use Rattle.window.specs.Counted.{Counted}
 use Rattle.window.specs.Places.{no_stride_over}
 use Rattle.window.specs.Starts.{shift_at, window_offset}
 

@@ -1,6 +1,6 @@
 -- PLACES: the stride at place j of the window's flat list is that of axis j % rank, stepped. And no stride leaves 64 bits unless the parent
 -- has an extent of 0. Assumes nothing.
-use Rattle.std.specs.Prelude.{◌≡◌, refl, Bool, true, false, not, ltb, pos, negsuc, nat_abs, length, drop}
+use Rattle.std.specs.Prelude.{◌≡◌, refl, Bool, true, false, not, ltb, pos, nat_abs, length, drop}
 use Rattle.std.proofs.Math.Path.{sym, ap}
 use Rattle.std.proofs.Common.{◌∙◌, subst, le_trans, mul-le-mul_left, mod-lt, div-add-mod', div-lt_iff_lt-mul, zero-mul, get_or-take, get_or-drop, ltb-false, lt-ltb}
 use mathlib.Core.List.{List, [], ◌∷◌}

@@ -12,7 +12,7 @@ use Rattle.strided.specs.declared.Purpose.{Purpose}
 use Rattle.strided.specs.declared.Refusal.{Refusal}
 use Rattle.strided.specs.declared.Answer.TheVariants.{Served}
 use Rattle.window.specs.declared.Windowed.{Windowed}
-use Rattle.window.specs.Window.{parent_index, window_strides, window_shifts, shifted, window_refused, some_window, windowed_or, windowed}
+use Rattle.window.specs.Window.{parent_index, window_strides, window_shifts, shifted, some_window, windowed_or, windowed}
 use Rattle.window.specs.Indices.{parent_within, parent_once, window_total}
 use Rattle.window.specs.Layouts.{WindowTaken, window_taken, served_window, operand_reach, window_planned, handed-extents, handed_strides_lem, handed_shifts_lem}
 use Rattle.window.specs.Starts.{window_offset, window_row9}

@@ -2,7 +2,7 @@
 -- Assumes nothing.
 use native.Mathlib.Omega.{arith}
 use mathlib.Core.Path.{sym, subst, ◌∙◌}
-use Prim.Native.Nat.{ℕ, ◌<◌, ◌≤◌, ◌-◌, ◌+◌}
+use Prim.Native.Nat.{ℕ, ◌<◌, ◌≤◌}
 use Rattle.strided.specs.Region.{region}
 use Rattle.laws.specs.Cut.Cases.{cut_empty, cut_fits, cut_keeps, cut_flat, cut_less}
 use Rattle.region.specs.Tail.{axes}

@@ -1,14 +1,11 @@
 -- The invariants of `keeps_first`.
-use native.Mathlib.Omega.{arith}
-use mathlib.Core.Path.{◌≡◌, sym, ap, ◌∙◌}
+use mathlib.Core.Path.{◌≡◌}
 use mathlib.Core.Bool.{Bool, true}
 use mathlib.Core.List.{List}
 use Prim.Native.Nat.{ℕ, ◌-◌, ◌≤◌}
 use lib.Dec.{eqb}
-use borrow.Author.Tests.{eq-eqb, ne_eqb}
 use Rattle.strided.specs.Base.{every}
-use Rattle.strided.specs.Cut.{rank_at, keeps_first}
-use Rattle.laws.specs.Cut.Ranges.{every_none, every_more, every_fails_at}
+use Rattle.strided.specs.Cut.{rank_at}
 use Rattle.block.proofs.keeps_first.Given as goal
 
 -- whether operand j's first rank is m

@@ -1,13 +1,9 @@
 -- The invariants of `least_byte`.
-use native.Mathlib.Omega.{arith}
-use mathlib.Core.Path.{◌≡◌, sym, ap, ◌∙◌}
+use mathlib.Core.Path.{◌≡◌}
 use mathlib.Core.List.{List}
-use mathlib.Core.Logic.{⊎_elim}
 use Prim.Native.Nat.{ℕ, ◌-◌, ◌≤◌, ◌<◌}
 use Rattle.strided.specs.Base.{least}
 use Rattle.strided.specs.Region.{byte_at}
-use Rattle.strided.specs.Cut.{least_byte}
-use Rattle.laws.specs.Cut.Ranges.{least_first, least_more}
 use Rattle.block.proofs.least_byte.Given as goal
 
 -- the least byte stride of operand j in the tail

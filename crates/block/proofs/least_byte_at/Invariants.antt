@@ -1,11 +1,8 @@
 -- The invariants of `least_byte_at`.
-use native.Mathlib.Omega.{arith}
-use mathlib.Core.Path.{◌≡◌, sym, ap, ◌∙◌}
-use mathlib.Core.Logic.{⊎_elim}
-use Prim.Native.Nat.{ℕ, ◌-◌, ◌≤◌, ◌<◌}
+use mathlib.Core.Path.{◌≡◌}
+use Prim.Native.Nat.{◌-◌, ◌≤◌, ◌<◌}
 use Rattle.strided.specs.Base.{least}
 use Rattle.strided.specs.Region.{byte_at}
-use Rattle.laws.specs.Cut.Ranges.{least-one, least_step}
 use Rattle.block.proofs.least_byte_at.Given as goal
 
 abbrev pub invariant-loop-i : goal.invariant-loop-i

@@ -1,11 +1,8 @@
 -- The invariants of `least_in_row`.
-use native.Mathlib.Omega.{arith}
-use mathlib.Core.Path.{◌≡◌, sym, ap, ◌∙◌}
-use mathlib.Core.Logic.{⊎_elim}
-use Prim.Native.Nat.{ℕ, ◌-◌, ◌≤◌, ◌<◌}
+use mathlib.Core.Path.{◌≡◌}
+use Prim.Native.Nat.{◌-◌, ◌≤◌, ◌<◌}
 use lib.ListN.{get_or}
 use Rattle.strided.specs.Base.{least}
-use Rattle.laws.specs.Cut.Ranges.{least-one, least_step}
 use Rattle.block.proofs.least_in_row.Given as goal
 
 abbrev pub invariant-loop-i : goal.invariant-loop-i

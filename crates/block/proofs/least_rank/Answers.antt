@@ -2,11 +2,8 @@
 -- Assumes nothing.
 use native.Mathlib.Omega.{arith}
 use mathlib.Core.Path.{◌≡◌, sym, ap, ◌∙◌}
-use mathlib.Core.List.{List}
-use mathlib.Core.Logic.{⊎_elim}
-use Prim.Native.Nat.{ℕ, ◌-◌, ◌≤◌, ◌<◌}
 use Rattle.strided.specs.Base.{least}
-use Rattle.strided.specs.Cut.{rank_at, least_rank}
+use Rattle.strided.specs.Cut.{least_rank}
 use Rattle.laws.specs.Cut.Ranges.{least_first, least_more}
 use Rattle.block.proofs.least_rank.Goals as goal
 use Rattle.block.proofs.least_rank.Goals.{then-x-m, else-x-m}

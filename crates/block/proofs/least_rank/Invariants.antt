@@ -1,12 +1,9 @@
 -- The invariants of `least_rank`.
-use native.Mathlib.Omega.{arith}
-use mathlib.Core.Path.{◌≡◌, sym, ap, ◌∙◌}
+use mathlib.Core.Path.{◌≡◌}
 use mathlib.Core.List.{List}
-use mathlib.Core.Logic.{⊎_elim}
 use Prim.Native.Nat.{ℕ, ◌-◌, ◌≤◌, ◌<◌}
 use Rattle.strided.specs.Base.{least}
-use Rattle.strided.specs.Cut.{rank_at, least_rank}
-use Rattle.laws.specs.Cut.Ranges.{least_first, least_more}
+use Rattle.strided.specs.Cut.{rank_at}
 use Rattle.block.proofs.least_rank.Given as goal
 
 -- the least rank of operand j in the tail

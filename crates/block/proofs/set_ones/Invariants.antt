@@ -1,11 +1,7 @@
 -- The invariants of `set_ones`.
-use native.Mathlib.Omega.{arith}
-use mathlib.Core.Path.{◌≡◌, sym, ap, ◌∙◌}
-use mathlib.Core.List.{List}
-use Prim.Native.Nat.{ℕ, ◌-◌, ◌≤◌}
-use lib.ListN.{set}
+use mathlib.Core.Path.{◌≡◌}
+use Prim.Native.Nat.{◌-◌, ◌≤◌}
 use Rattle.strided.specs.Cut.{ones}
-use Rattle.laws.specs.Cut.Cases.{ones_start, ones_step}
 use Rattle.block.proofs.set_ones.Given as goal
 
 abbrev pub invariant-loop-i : goal.invariant-loop-i

@@ -1,14 +1,13 @@
 -- `bulk::put_blocks` meets its contract. Assumes nothing.
-use Rattle.bulk.proofs.Turns.{Turned, turned_none, turned-many, turned_long, count_some, count_fits, count-place, may-put, next-many, next_long, turned-next, wrote_last, wrote_full, strode_past, kept_asks, kept_passed}
-use Rattle.strided.specs.Memory.{plan_of, walk_of}
+use Rattle.bulk.proofs.Turns.{turned_none, turned-many, turned_long, count_some, count_fits, count-place, may-put, next-many, next_long, turned-next, wrote_last, wrote_full, strode_past, kept_asks, kept_passed}
 use Rattle.walk.proofs.Stepping.{axes-few, widths_here}
 use Rattle.walker.proofs.Walked.{may_move, walked_asks, walked_tells}
 use borrow.Author.Tests.{not-true, not-false}
 use native.Mathlib.Nat.{le_antisymm}
 use native.Mathlib.Omega.{arith}
-use Prim.Native.Nat.{ℕ, ◌-◌, ◌≤◌, min}
+use Prim.Native.Nat.{◌-◌}
 use mathlib.Core.Bool.{false}
-use mathlib.Core.Path.{◌≡◌, refl, ap, ◌∙◌}
+use mathlib.Core.Path.{refl}
 use Rattle.bulk.proofs.put_blocks.Goals as goal
 
 pub widths-w-requires : goal.widths-w-requires

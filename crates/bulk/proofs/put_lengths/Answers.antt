@@ -1,11 +1,10 @@
 -- `bulk::put_lengths` meets its contract. Assumes nothing.
 use Rattle.bulk.proofs.Laying.{paste_next}
-use borrow.Author.Rules.{rules}
 use native.Mathlib.Nat.{le_antisymm}
 use native.Mathlib.Omega.{arith}
-use mathlib.Core.Path.{◌≡◌, refl, sym, ap, ◌∙◌}
-use Prim.Native.Nat.{ℕ, ◌-◌, ◌≤◌, ◌<◌}
-use lib.ListN.{length, replicate, length-set, length-replicate, get_or-replicate}
+use mathlib.Core.Path.{refl, sym, ap, ◌∙◌}
+use Prim.Native.Nat.{ℕ, ◌-◌, ◌<◌}
+use lib.ListN.{replicate, length-set, length-replicate, get_or-replicate}
 use lib.Seq.{paste, paste-zero}
 use Rattle.bulk.proofs.put_lengths.Goals as goal
 

@@ -1,11 +1,11 @@
 -- `bulk::put_row` meets its contract. Assumes nothing.
 use Rattle.bulk.proofs.Laying.{paste_next, row-many, row-place}
 use Rattle.bulk.specs.Blocks.{row_at}
-use borrow.Author.Rules.{rules, sfits_of}
+use borrow.Author.Rules.{sfits_of}
 use native.Mathlib.Nat.{le_antisymm}
 use native.Mathlib.Omega.{arith}
 use mathlib.Core.Path.{◌≡◌, refl, sym, ap, ◌∙◌, subst}
-use Prim.Native.Nat.{ℕ, ◌+◌, ◌-◌, ◌≤◌, ◌<◌}
+use Prim.Native.Nat.{ℕ, ◌+◌, ◌-◌, ◌<◌}
 use lib.IntN.{ℤ, pos, ◌+ℤ◌, ◌*ℤ◌}
 use lib.ListN.{length, get_or, length-set}
 use lib.Seq.{paste, paste-zero}

@@ -1,11 +1,7 @@
 -- The invariants of `put_rows`.
-use Rattle.bulk.proofs.Laying.{rows_none, rows_as_long, rows-room, rows_next, row_fits}
 use Rattle.bulk.specs.Blocks.{rows_for}
-use borrow.Author.Rules.{rules}
-use native.Mathlib.Nat.{le_antisymm}
-use native.Mathlib.Omega.{arith}
-use mathlib.Core.Path.{◌≡◌, refl, ap, ◌∙◌}
-use Prim.Native.Nat.{ℕ, ◌+◌, ◌-◌, ◌*◌, ◌≤◌, ◌<◌}
+use mathlib.Core.Path.{◌≡◌}
+use Prim.Native.Nat.{◌-◌, ◌*◌, ◌≤◌}
 use lib.ListN.{length}
 use lib.Seq.{paste}
 use Rattle.bulk.proofs.put_rows.Given as goal

@@ -1,5 +1,4 @@
 -- `bulk::step_many_on` meets its contract: the answer of one step decides, and the blocks are the next ones. Assumes nothing.
-use borrow.Author.Rules.{rules}
 use mathlib.Core.Path.{◌≡◌, subst}
 use Rattle.strided.specs.Memory.{plan_of}
 use Rattle.strided.specs.declared.Outcome.{Outcome}

@@ -1,6 +1,5 @@
 -- `export::copy` meets its contract. Assumes nothing.
 use mathlib.Core.Path.{sym, ◌∙◌}
-use borrow.Author.Rules.{rules}
 use Rattle.laws.specs.Refusals.Rows.{served_none}
 use Rattle.export.proofs.Ways.{not-planned}
 use Rattle.export.proofs.copy.Goals as goal

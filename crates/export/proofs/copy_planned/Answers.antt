@@ -3,7 +3,6 @@ use mathlib.Core.Path.{◌≡◌, refl}
 use Prim.Native.Nat.{◌<◌, ◌^◌}
 use native.Mathlib.Omega.{arith}
 use lib.ListN.{length}
-use borrow.Author.Rules.{rules}
 use Rattle.strided.specs.declared.Answer.TheVariants.{Served}
 use Rattle.laws.specs.Refusals.Record.{planning_allowed}
 use Rattle.export.specs.Rows.{Clean}

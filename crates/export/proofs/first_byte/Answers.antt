@@ -1,9 +1,8 @@
 -- `export::first_byte` meets its contract. Assumes nothing.
-use Prim.Native.Nat.{ℕ, ◌*◌}
+use Prim.Native.Nat.{◌*◌}
 use mathlib.Core.Path.{ap}
 use lib.IntN.{ℤ, nat_abs}
 use mir.Facts.{to_z-of_z, Fits-nat_abs}
-use borrow.Author.Rules.{rules}
 use Rattle.export.proofs.first_byte.Goals as goal
 use mir.Syntax.{w64}
 

@@ -1,5 +1,4 @@
 -- `finding::original_index` meets its contract. Assumes nothing.
-use borrow.Author.Rules.{rules}
 use Rattle.finding.proofs.Answers.{original_value}
 use Rattle.finding.proofs.original_index.Goals as goal
 

@@ -1,7 +1,6 @@
 -- `finding::original_index_into` meets its contract. Assumes nothing.
 use mathlib.Core.Path.{◌≡◌, refl, sym, ◌∙◌}
 use mathlib.Core.Option.{none}
-use borrow.Author.Rules.{rules}
 use Rattle.strided.specs.Refusals.{layout_refused}
 use Rattle.laws.specs.Refusals.Rows.{served_none, refused_some}
 use Rattle.finding.specs.Mapped.{Sound}

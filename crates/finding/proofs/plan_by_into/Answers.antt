@@ -2,7 +2,6 @@
 use mathlib.Core.Path.{refl, sym, ◌∙◌}
 use mathlib.Core.List.{List}
 use Prim.Native.Nat.{ℕ}
-use borrow.Author.Rules.{rules}
 use Rattle.laws.specs.Base.Layouts.{true_within}
 use Rattle.finding.specs.Mapped.{raveled}
 use Rattle.finding.proofs.Turns.{raveled_long}

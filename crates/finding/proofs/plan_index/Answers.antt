@@ -1,5 +1,4 @@
 -- `finding::plan_index` meets its contract. Assumes nothing.
-use borrow.Author.Rules.{rules}
 use Rattle.finding.proofs.Answers.{plan_value}
 use Rattle.finding.proofs.plan_index.Goals as goal
 

@@ -6,8 +6,6 @@ use native.Mathlib.Nat.{mul-le-mul_right}
 use native.Mathlib.Omega.{arith}
 use lib.IntN.{pos}
 use lib.ListN.{length, get_or}
-use borrow.Author.Rules.{rules}
-use borrow.Author.Tests.{not-true, not-false}
 use Rattle.strided.specs.Layout.{stride_column}
 use Rattle.strided.specs.Fuse.{joins, all_join}
 use Rattle.laws.specs.Base.Signs.{back}

@@ -1,17 +1,8 @@
 -- The invariants of `all_join`.
-use mathlib.Core.Path.{◌≡◌, refl, sym, ap, ◌∙◌}
-use mathlib.Core.Bool.{Bool, true, false, ◌&&◌, and-true, and-false}
-use Prim.Native.Nat.{ℕ, ◌+◌, ◌-◌, ◌*◌, ◌≤◌}
-use native.Mathlib.Nat.{mul-le-mul_right}
-use native.Mathlib.Omega.{arith}
-use lib.IntN.{pos}
-use lib.ListN.{length, get_or}
-use borrow.Author.Rules.{rules}
-use borrow.Author.Tests.{not-true, not-false}
+use mathlib.Core.Path.{◌≡◌}
+use Prim.Native.Nat.{◌≤◌}
 use Rattle.strided.specs.Layout.{stride_column}
-use Rattle.strided.specs.Fuse.{joins, all_join}
-use Rattle.laws.specs.Base.Signs.{back}
-use Rattle.fuse.proofs.Joining.{join_turn}
+use Rattle.strided.specs.Fuse.{all_join}
 use Rattle.fuse.proofs.all_join.Given as goal
 
 abbrev pub invariant-loop-k : goal.invariant-loop-k

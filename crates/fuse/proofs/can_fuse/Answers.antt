@@ -1,7 +1,6 @@
 -- `fuse::can_fuse` meets its contract. Assumes nothing.
 use mathlib.Core.Path.{◌≡◌}
 use mathlib.Core.Bool.{Bool, true, false, ◌&&◌}
-use borrow.Author.Rules.{rules}
 use Rattle.fuse.proofs.can_fuse.Goals as goal
 
 both : (v x w y : Bool) → v ≡ x → v ≡ true → w ≡ y → w ≡ (x && y)

@@ -1,11 +1,10 @@
 -- `fuse::compute_costs` meets its contract. The invariant: the first i costs are stored. Assumes nothing.
 use mathlib.Core.Path.{◌≡◌, sym, ap, ap₂, ◌∙◌}
 use mathlib.Core.List.{List}
-use Prim.Native.Nat.{ℕ, ◌-◌, ◌≤◌}
+use Prim.Native.Nat.{ℕ}
 use native.Mathlib.Omega.{arith}
-use lib.ListN.{length, get_or, take, set}
+use lib.ListN.{length, get_or, set}
 use lib.Seq.{take_all}
-use borrow.Author.Rules.{rules}
 use Rattle.strided.specs.Base.{padded}
 use Rattle.strided.specs.Costs.{costs}
 use Rattle.laws.specs.Base.Filling.{fill_none}

@@ -3,7 +3,6 @@ use mathlib.Core.Path.{◌≡◌, sym, ap, ◌∙◌}
 use mathlib.Core.Bool.{true, false}
 use Prim.Native.Nat.{ℕ, ◌<◌}
 use native.Mathlib.Omega.{arith}
-use borrow.Author.Rules.{rules}
 use Rattle.strided.specs.Base.{least}
 use Rattle.strided.specs.Costs.{still, cost_number}
 use Rattle.laws.specs.Cut.Ranges.{least_in}

@@ -1,15 +1,8 @@
 -- The invariants of `fuse_dims`.
-use mathlib.Core.Path.{◌≡◌, ◌∙◌, subst}
-use mathlib.Core.Logic.{⊎_elim}
-use mathlib.Core.List.{List}
-use Prim.Native.Nat.{ℕ, ◌-◌, ◌<◌}
-use native.Mathlib.Omega.{arith}
-use lib.IntN.{ℤ}
-use lib.ListN.{length, get_or, take}
-use lib.Seq.{length-take-le}
-use Rattle.strided.specs.Layout.{Axis}
-use Rattle.laws.specs.Fuse.Places.{axis_at, column_by}
-use Rattle.fuse.proofs.Fusing.{Done, done_first, turn_left, turn_taken, joined_fits}
+use Prim.Native.Nat.{◌-◌, ◌<◌}
+use lib.ListN.{take}
+use Rattle.laws.specs.Fuse.Places.{column_by}
+use Rattle.fuse.proofs.Fusing.{Done}
 use Rattle.fuse.proofs.fuse_dims.Given as goal
 
 abbrev pub invariant-loop-k : goal.invariant-loop-k

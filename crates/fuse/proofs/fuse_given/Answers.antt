@@ -1,9 +1,8 @@
 -- `fuse::fuse_given` meets its contract. The invariant: the places from rank - k on are fused. At each place stands the axis of that number.
 -- Assumes nothing.
 use mathlib.Core.Path.{◌≡◌, ◌∙◌, subst}
-use mathlib.Core.Logic.{⊎_elim}
 use mathlib.Core.List.{List}
-use Prim.Native.Nat.{ℕ, ◌-◌, ◌*◌, ◌^◌, ◌<◌}
+use Prim.Native.Nat.{ℕ, ◌-◌, ◌*◌, ◌^◌}
 use mathlib.Core.Bool.{Bool, ◌&&◌}
 use lib.Dec.{ltb}
 use native.Mathlib.Omega.{arith}

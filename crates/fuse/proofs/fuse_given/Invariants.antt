@@ -1,20 +1,9 @@
 -- The invariants of `fuse_given`.
-use mathlib.Core.Path.{◌≡◌, ◌∙◌, subst}
-use mathlib.Core.Logic.{⊎_elim}
-use mathlib.Core.List.{List}
-use Prim.Native.Nat.{ℕ, ◌-◌, ◌*◌, ◌^◌, ◌<◌}
-use mathlib.Core.Bool.{Bool, ◌&&◌}
-use lib.Dec.{ltb}
-use native.Mathlib.Omega.{arith}
-use lib.IntN.{ℤ}
-use lib.ListN.{length, get_or, take}
-use lib.Seq.{length-take-le}
-use Rattle.strided.specs.Layout.{Axis, stride_column}
-use Rattle.strided.specs.Fuse.{can_fuse, all_join}
-use Rattle.laws.specs.Fuse.Places.{axis_at, column_by}
+use Prim.Native.Nat.{◌-◌, ◌<◌}
+use lib.ListN.{take}
+use Rattle.laws.specs.Fuse.Places.{column_by}
 use Rattle.fuse.specs.Named.{given}
-use Rattle.fuse.proofs.Given.{fuses_given}
-use Rattle.fuse.proofs.Fusing.{Done, done_first, turn_left, turn_taken, joined_fits}
+use Rattle.fuse.proofs.Fusing.{Done}
 use Rattle.fuse.proofs.fuse_given.Given as goal
 
 abbrev pub invariant-loop-k : goal.invariant-loop-k

@@ -1,9 +1,7 @@
 -- `fuse::given_axes_into` meets its contract: what is fused are the layout's axes as they are given. Assumes nothing.
-use mathlib.Core.Path.{◌≡◌, refl}
-use mathlib.Core.List.{List}
+use mathlib.Core.Path.{refl}
 use Prim.Native.Nat.{ℕ}
 use lib.ListN.{length, take}
-use borrow.Author.Rules.{rules}
 use Rattle.strided.specs.Base.{padded}
 use Rattle.strided.specs.Layout.{extents}
 use Rattle.strided.specs.Plan.{stride_table}

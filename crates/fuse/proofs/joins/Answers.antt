@@ -7,7 +7,6 @@ use mir.Syntax.{w64}
 use mir.Val.{SFits, of_z}
 use mir.Facts.{to_z_pos}
 use native.Mathlib.Omega.{arith}
-use borrow.Author.Rules.{rules}
 use borrow.Author.Tests.{leb-true, leb-false}
 use Rattle.laws.specs.Base.Signs.{back}
 use Rattle.fuse.specs.Room.{room_of}

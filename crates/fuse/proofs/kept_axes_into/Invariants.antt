@@ -1,11 +1,6 @@
 -- The invariants of `kept_axes_into`.
-use mathlib.Core.Path.{refl, ◌∙◌}
-use mathlib.Core.Logic.{⊎_elim}
-use Prim.Native.Nat.{◌-◌, ◌≤◌, ◌<◌}
-use lib.ListN.{length}
-use native.Mathlib.Omega.{arith}
-use Rattle.laws.specs.Base.Filling.{fill_none}
-use Rattle.fuse.proofs.Keeping.{Found, found_one, found_other, out_some, out_none, out_first}
+use Prim.Native.Nat.{◌-◌, ◌≤◌}
+use Rattle.fuse.proofs.Keeping.{Found}
 use Rattle.fuse.proofs.kept_axes_into.Given as goal
 
 abbrev pub invariant-loop-i : goal.invariant-loop-i

@@ -1,13 +1,12 @@
 -- `fuse::kept_given_into` meets its contract. The invariant: those kept of the first i places are found. Assumes nothing.
 use mathlib.Core.Path.{refl, sym, ap, ◌∙◌}
-use mathlib.Core.Logic.{⊎_elim}
-use Prim.Native.Nat.{◌-◌, ◌≤◌, ◌<◌}
+use Prim.Native.Nat.{◌<◌}
 use lib.ListN.{length, set}
 use native.Mathlib.Omega.{arith}
 use Rattle.laws.specs.Base.Filling.{fill_none}
 use Rattle.fuse.specs.Named.{given}
 use Rattle.fuse.proofs.Given.{given-at}
-use Rattle.fuse.proofs.Keeping.{Found, found_one, found_other, out_some, out_none, out_first}
+use Rattle.fuse.proofs.Keeping.{found_one, found_other, out_some, out_none, out_first}
 use Rattle.fuse.proofs.kept_given_into.Goals as goal
 use Rattle.fuse.proofs.kept_given_into.Goals.{then-f-ne1, else-f-ne1}
 

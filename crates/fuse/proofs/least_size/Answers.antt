@@ -1,10 +1,9 @@
 -- `fuse::least_size` meets its contract. The invariant: `size` is the least of the first k sizes. Assumes nothing.
 use mathlib.Core.Path.{◌≡◌, sym, ap, ap₂, ◌∙◌}
-use Prim.Native.Nat.{ℕ, ◌+◌, ◌-◌, ◌*◌, ◌≤◌, ◌<◌, min}
+use Prim.Native.Nat.{ℕ, ◌+◌, ◌*◌, min}
 use native.Mathlib.Omega.{arith}
 use lib.IntN.{pos, nat_abs}
 use lib.ListN.{get_or}
-use borrow.Author.Rules.{rules}
 use Rattle.strided.specs.Base.{least}
 use Rattle.laws.specs.Base.Signs.{back}
 use Rattle.laws.specs.Cut.Ranges.{least_first, least_more}

@@ -1,13 +1,7 @@
 -- The invariants of `least_size`.
-use mathlib.Core.Path.{◌≡◌, sym, ap, ap₂, ◌∙◌}
-use Prim.Native.Nat.{ℕ, ◌+◌, ◌-◌, ◌*◌, ◌≤◌, ◌<◌, min}
-use native.Mathlib.Omega.{arith}
-use lib.IntN.{pos, nat_abs}
-use lib.ListN.{get_or}
-use borrow.Author.Rules.{rules}
+use mathlib.Core.Path.{◌≡◌}
+use Prim.Native.Nat.{◌-◌, ◌≤◌, ◌<◌}
 use Rattle.strided.specs.Base.{least}
-use Rattle.laws.specs.Base.Signs.{back}
-use Rattle.laws.specs.Cut.Ranges.{least_first, least_more}
 use Rattle.fuse.proofs.Costing.{size_at}
 use Rattle.fuse.proofs.least_size.Given as goal
 

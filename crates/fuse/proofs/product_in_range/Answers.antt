@@ -5,7 +5,6 @@ use native.Mathlib.Nat.{le-div_iff_mul-le, mul-le-mul_left}
 use native.Mathlib.Omega.{arith}
 use lib.Dec.{leb}
 use lib.IntN.{ℤ, pos, negsuc, nat_abs}
-use borrow.Author.Rules.{rules}
 use borrow.Author.Tests.{le-leb}
 use Rattle.fuse.specs.Room.{room_of}
 use Rattle.laws.specs.Base.Signs.{back}

@@ -1,7 +1,6 @@
 -- `joining::begin_lent` meets its contract. Assumes nothing.
 use mathlib.Core.Path.{◌≡◌, refl, sym, ap, ◌∙◌}
 use mathlib.Core.Option.{none}
-use borrow.Author.Rules.{rules}
 use Rattle.strided.specs.declared.Answer.TheVariants.{Served}
 use Rattle.laws.specs.Refusals.Rows.{served_none}
 use Rattle.session.specs.declared.Numbers.{Numbers}

@@ -1,6 +1,5 @@
 -- `joining::join_lent` meets its contract. Assumes nothing.
 use mathlib.Core.Path.{◌≡◌, sym, ◌∙◌}
-use borrow.Author.Rules.{rules}
 use Rattle.strided.specs.Refusals.{refused_by, answered}
 use Rattle.strided.specs.declared.Answer.TheVariants.{Served}
 use Rattle.session.specs.declared.Session.{Session}

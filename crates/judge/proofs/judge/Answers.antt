@@ -2,7 +2,6 @@
 -- Assumes nothing.
 use mathlib.Core.Path.{sym, ◌∙◌}
 use lib.ListN.{length}
-use borrow.Author.Rules.{rules}
 use Rattle.strided.specs.declared.Refusal.TheVariants.{Rank, Total, TextTotal, Visits}
 use Rattle.judge.proofs.Judging.{refuses, judges, rank-refused, total-refused, cells-refused, none_refused, buffer_refused, none_refuses}
 use Rattle.judge.proofs.judge.Goals as goal

@@ -1,5 +1,4 @@
 -- `kernel::clear_axes` meets its contract: the second half is cleared where the first one ended. Assumes nothing.
-use borrow.Author.Rules.{rules}
 use native.Mathlib.Omega.{arith}
 use mathlib.Core.Path.{◌≡◌, refl, ap, ◌∙◌}
 use mathlib.Core.List.{List}

@@ -1,11 +1,8 @@
 -- The invariants of `clear_up_to`.
-use native.Mathlib.Omega.{arith}
-use mathlib.Core.Path.{◌≡◌, ap, ◌∙◌}
-use mathlib.Core.List.{List}
-use Prim.Native.Nat.{ℕ, ◌-◌, ◌≤◌, ◌<◌}
-use lib.IntN.{ℤ, pos}
-use lib.ListN.{length, set}
-use Rattle.kernel.proofs.Clearing.{cleared, clear_next}
+use mathlib.Core.Path.{◌≡◌}
+use Prim.Native.Nat.{◌-◌, ◌≤◌}
+use lib.IntN.{pos}
+use Rattle.kernel.proofs.Clearing.{cleared}
 use Rattle.kernel.proofs.clear_up_to.Given as goal
 
 abbrev pub invariant-loop-i : goal.invariant-loop-i

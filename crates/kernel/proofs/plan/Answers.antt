@@ -1,7 +1,6 @@
 -- `kernel::plan` meets its contract: what is made where rows 1 to 6 and 24 pass, and the refusal beside the zeros where one applies. Assumes nothing.
 use mathlib.Core.Path.{◌≡◌, refl, sym, ◌∙◌}
 use mathlib.Core.Option.{none}
-use borrow.Author.Rules.{rules}
 use Rattle.strided.specs.Refusals.{planning_refused}
 use Rattle.laws.specs.Refusals.Accepted.{accepted}
 use Rattle.laws.specs.Refusals.Record.{planning_allowed, planning_layout}

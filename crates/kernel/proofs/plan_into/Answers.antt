@@ -2,7 +2,6 @@
 -- loop order and cut. Assumes nothing.
 use mathlib.Core.Path.{sym, ◌∙◌}
 use lib.ListN.{length}
-use borrow.Author.Rules.{rules}
 use borrow.Author.Tests.{leb-false}
 use Rattle.strided.specs.Base.{padded}
 use Rattle.strided.specs.Layout.{total, extents}

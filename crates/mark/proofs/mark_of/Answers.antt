@@ -1,10 +1,8 @@
 -- `mark::mark_of` meets its contract: each test that answers agrees with those that the definition asks first. Assumes nothing.
 use mathlib.Core.Path.{◌≡◌, sym, ap, ◌∙◌}
 use mathlib.Core.Bool.{Bool, true, false, cond}
-use Prim.Native.Nat.{◌≤◌}
 use lib.Dec.{leb}
 use lib.ListN.{length}
-use borrow.Author.Rules.{rules}
 use borrow.Author.Tests.{leb-true}
 use Rattle.strided.specs.Base.{some_of}
 use Rattle.strided.specs.Layout.{has_zero, total}

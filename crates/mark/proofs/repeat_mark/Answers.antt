@@ -8,7 +8,6 @@ use native.Mathlib.Omega.{arith}
 use lib.Dec.{eqb}
 use lib.IntN.{ℤ}
 use lib.ListN.{length}
-use borrow.Author.Rules.{rules}
 use borrow.Author.Tests.{ltb-false, eqb-true, not-false}
 use Rattle.strided.specs.Refusals.{refused_by, answered, row3, row5, row6}
 use Rattle.strided.specs.Mark.{mark_rows, mark_refused, marked_or, mark_of, marked}

@@ -3,7 +3,6 @@
 use mathlib.Core.Path.{◌≡◌, refl, sym, ◌∙◌}
 use mathlib.Core.Bool.{false}
 use lib.ListN.{length}
-use borrow.Author.Rules.{rules}
 use Rattle.model.proofs.Filled.{rows_read}
 use Rattle.strided.specs.Region.{byte_table}
 use Rattle.laws.specs.Cut.Image.{Images}

@@ -1,9 +1,8 @@
 -- `model::byte_image` meets its contract: below 2 ^ 32 the high word is 0; else the remainder is that of both words. Assumes nothing.
 use native.Mathlib.Omega.{arith}
 use mathlib.Core.Path.{◌≡◌, sym, ap, ◌∙◌}
-use Prim.Native.Nat.{ℕ, ◌+◌, ◌*◌, ◌/◌, ◌%◌, ◌≤◌, ◌<◌}
+use Prim.Native.Nat.{ℕ, ◌+◌, ◌≤◌, ◌<◌}
 use native.Mathlib.Nat.{div-le_self}
-use borrow.Author.Rules.{rules}
 use borrow.Author.Tests.{ltb-true, ltb-false}
 use Rattle.wide.specs.Value.{value}
 use Rattle.laws.specs.Cut.Image.{image, image_small, image_big, beyond, beyond_le, rest_lt}

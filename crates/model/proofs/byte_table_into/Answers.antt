@@ -1,7 +1,7 @@
 -- `model::byte_table_into` meets its contract. The invariant: the rows of the first k operands stand. Assumes nothing.
 use native.Mathlib.Omega.{arith}
 use mathlib.Core.Path.{◌≡◌, ap, ◌∙◌}
-use Prim.Native.Nat.{◌-◌, ◌≤◌}
+use Prim.Native.Nat.{◌-◌}
 use lib.ListN.{length}
 use Rattle.laws.specs.Base.Filling.{fill_none}
 use Rattle.model.specs.ByteRows.{byte_rows}

@@ -1,11 +1,8 @@
 -- The invariants of `byte_table_into`.
-use native.Mathlib.Omega.{arith}
-use mathlib.Core.Path.{◌≡◌, ap, ◌∙◌}
+use mathlib.Core.Path.{◌≡◌}
 use Prim.Native.Nat.{◌-◌, ◌≤◌}
 use lib.ListN.{length}
-use Rattle.laws.specs.Base.Filling.{fill_none}
 use Rattle.model.specs.ByteRows.{byte_rows}
-use Rattle.model.proofs.Filled.{rows_none}
 use Rattle.model.proofs.byte_table_into.Given as goal
 
 abbrev pub invariant-loop-k : goal.invariant-loop-k

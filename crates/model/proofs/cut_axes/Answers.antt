@@ -6,7 +6,6 @@ use Prim.Native.Nat.{ℕ}
 use native.Mathlib.Nat.{sub-zero}
 use native.Mathlib.Omega.{arith}
 use lib.ListN.{length, get_or, replicate}
-use borrow.Author.Rules.{rules}
 use Rattle.strided.specs.Costs.{costs}
 use Rattle.strided.specs.Cut.{cutting}
 use Rattle.strided.specs.declared.Purpose.TheVariants.{Pointwise}

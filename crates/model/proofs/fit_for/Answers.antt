@@ -10,7 +10,6 @@ use Rattle.strided.specs.Layout.{chosen}
 use Rattle.strided.specs.Refusals.{missing}
 use Rattle.strided.specs.declared.Purpose.{Purpose}
 use Rattle.strided.specs.declared.Purpose.TheVariants.{PointwiseInto}
-use borrow.Author.Rules.{rules}
 use Rattle.model.proofs.fit_for.Goals as goal
 
 pub fit-requires : goal.fit-requires

@@ -5,7 +5,6 @@ use mathlib.Core.Bool.{Bool, true, false}
 use Prim.Native.Nat.{ℕ, ◌<◌, min}
 use native.Mathlib.Nat.{sub-zero}
 use lib.Dec.{leb}
-use borrow.Author.Rules.{rules}
 use borrow.Author.Tests.{leb-true, leb-false, le-leb, lt-leb}
 use Rattle.strided.specs.Region.{region}
 use Rattle.laws.specs.Cut.Saturate.{cap}

@@ -1,6 +1,5 @@
 -- `model::keeps_order` meets its contract: the two tests of `in_order`, in turn. Assumes nothing.
 use mathlib.Core.Path.{◌∙◌, sym}
-use borrow.Author.Rules.{rules}
 use Rattle.model.proofs.Whole.{in_order_none, in_order_some}
 use Rattle.model.proofs.keeps_order.Goals as goal
 

@@ -2,13 +2,13 @@
 -- Assumes nothing.
 use native.Mathlib.Omega.{arith}
 use mathlib.Core.Path.{◌≡◌, ap, ◌∙◌}
-use Prim.Native.Nat.{ℕ, ◌+◌, ◌-◌, ◌*◌, ◌≤◌}
+use Prim.Native.Nat.{ℕ, ◌+◌, ◌-◌, ◌*◌}
 use lib.IntN.{ℤ, pos, nat_abs}
 use lib.ListN.{get_or}
 use Rattle.laws.specs.Base.Bits.{read_back}
 use Rattle.laws.specs.Cut.Image.{image}
 use Rattle.model.specs.ByteRows.{byte_of}
-use Rattle.model.proofs.Filled.{Filling, row_first, row_turn, row_done}
+use Rattle.model.proofs.Filled.{row_first, row_turn, row_done}
 use Rattle.model.proofs.put_bytes.Goals as goal
 
 pub loop-i-init : goal.loop-i-init

@@ -12,7 +12,6 @@ use Rattle.laws.specs.Refusals.Rows.{few-axes}
 use Rattle.numpy.specs.Numpy.{reversed, any_of, no_multiple, element_stride}
 use Rattle.numpy.specs.Readers.{saying}
 use Rattle.numpy.proofs.Telling.{told_19, told_1, told-all, some_size}
-use borrow.Author.Rules.{rules}
 use Rattle.numpy.proofs.from_given.Goals as goal
 
 pub returns-then-given_wrong : goal.returns-then-given_wrong

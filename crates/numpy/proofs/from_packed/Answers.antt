@@ -20,7 +20,6 @@ use Rattle.numpy.specs.Readers.{saying}
 use Rattle.numpy.specs.Reversing.{length-reversed}
 use Rattle.numpy.specs.Units.{firsts, Near}
 use Rattle.numpy.proofs.Telling.{take-padded, told_19, told_1, told-all, some_size, packed-near}
-use borrow.Author.Rules.{rules}
 use Rattle.numpy.proofs.from_packed.Goals as goal
 
 pub returns-then-packed_wrong : goal.returns-then-packed_wrong

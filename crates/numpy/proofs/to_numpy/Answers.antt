@@ -15,7 +15,6 @@ use Rattle.numpy.specs.Reversing.{length-reversed}
 use Rattle.numpy.proofs.Fills.{turned-length}
 use Rattle.numpy.proofs.Spelling.{answering, Listed}
 use Rattle.numpy.proofs.Telling.{take-padded, some_size, back_19, back_1, back_3, back_text, stride_count}
-use borrow.Author.Rules.{rules}
 use Rattle.numpy.proofs.to_numpy.Goals as goal
 use mir.Syntax.{w64}
 

@@ -1,11 +1,10 @@
 -- `order::as_given_into` meets its contract. Assumes nothing.
-use mathlib.Core.Path.{◌≡◌, ap, ◌∙◌}
-use mathlib.Core.List.{List, map, map-id}
-use Prim.Native.Nat.{ℕ, ◌≤◌, ◌-◌}
+use mathlib.Core.Path.{ap, ◌∙◌}
+use mathlib.Core.List.{List, map-id}
+use Prim.Native.Nat.{ℕ}
 use native.Mathlib.Nat.{le_antisymm}
 use native.Mathlib.Omega.{arith}
 use lib.ListN.{set}
-use borrow.Author.Rules.{rules}
 use Rattle.strided.specs.Base.{padded, run}
 use Rattle.laws.specs.Base.Filling.{fill_none, fill_next}
 use Rattle.order.proofs.as_given_into.Goals as goal

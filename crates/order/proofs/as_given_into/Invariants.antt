@@ -1,13 +1,8 @@
 -- The invariants of `as_given_into`.
-use mathlib.Core.Path.{◌≡◌, ap, ◌∙◌}
-use mathlib.Core.List.{List, map, map-id}
+use mathlib.Core.Path.{◌≡◌}
+use mathlib.Core.List.{map}
 use Prim.Native.Nat.{ℕ, ◌≤◌, ◌-◌}
-use native.Mathlib.Nat.{le_antisymm}
-use native.Mathlib.Omega.{arith}
-use lib.ListN.{set}
-use borrow.Author.Rules.{rules}
 use Rattle.strided.specs.Base.{padded, run}
-use Rattle.laws.specs.Base.Filling.{fill_none, fill_next}
 use Rattle.order.proofs.as_given_into.Given as goal
 
 abbrev pub same : ℕ → ℕ

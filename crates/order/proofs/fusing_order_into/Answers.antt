@@ -6,7 +6,6 @@ use Prim.Native.Nat.{ℕ, ◌≤◌}
 use lib.Dec.{leb}
 use lib.IntN.{ℤ}
 use lib.ListN.{length, drop, replicate, length-replicate}
-use borrow.Author.Rules.{rules}
 use Rattle.strided.specs.Base.{padded, run}
 use Rattle.strided.specs.Layout.{total, lead}
 use Rattle.strided.specs.Order.{loop_order, fusing_order}

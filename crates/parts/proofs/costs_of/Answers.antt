@@ -1,5 +1,4 @@
 -- `parts::costs_of` meets its contract. Assumes nothing.
-use borrow.Author.Rules.{rules}
 use Rattle.parts.proofs.Fusing.{few-made, costs-made}
 use Rattle.parts.proofs.costs_of.Goals as goal
 

@@ -1,5 +1,4 @@
 -- `parts::parts_check` meets its contract. Assumes nothing.
-use borrow.Author.Rules.{rules}
 use mathlib.Core.Path.{◌∙◌}
 use Rattle.strided.specs.Refusals.{layout_refused}
 use Rattle.strided.specs.Memory.{purpose_of}

@@ -1,5 +1,4 @@
 -- `parts::parts_costs` meets its contract. Assumes nothing.
-use borrow.Author.Rules.{rules}
 use mathlib.Core.Path.{◌≡◌, ap, ◌∙◌}
 use lib.ListN.{length}
 use Rattle.strided.specs.Base.{padded}

@@ -1,5 +1,4 @@
 -- `parts::parts_order` meets its contract. Assumes nothing.
-use borrow.Author.Rules.{rules}
 use mathlib.Core.Path.{◌≡◌, refl, ap, ◌∙◌}
 use lib.ListN.{length}
 use Rattle.strided.specs.Base.{padded}

@@ -1,5 +1,4 @@
 -- `parts::parts_ranks` meets its contract. Assumes nothing.
-use borrow.Author.Rules.{rules}
 use mathlib.Core.Path.{◌≡◌, refl}
 use Rattle.strided.specs.Refusals.{answered}
 use Rattle.strided.specs.Memory.{purpose_of}

@@ -1,6 +1,5 @@
 -- `reading::read_text` meets its contract: a law for each way out: too long, no L line, other lines wrong, all there.
 -- Assumes nothing.
-use borrow.Author.Rules.{rules}
 use Rattle.reading.proofs.Texts.{text_long, text_none, text_open, text_told}
 use Rattle.reading.proofs.read_text.Goals as goal
 

@@ -1,9 +1,8 @@
 -- `region::memory_region` meets its contract. The invariant: r is the sum of the first k operands' regions, saturated.
 -- Saturating at each step is as good as at the end (laws, Cut/Saturate), and a sum at the limit stays there. Assumes nothing.
-use borrow.Author.Rules.{rules}
 use native.Mathlib.Omega.{arith}
 use mathlib.Core.Path.{◌≡◌, sym, ap, ◌∙◌}
-use Prim.Native.Nat.{ℕ, ◌-◌, ◌≤◌, min}
+use Prim.Native.Nat.{ℕ, min}
 use Rattle.strided.specs.Base.{sum}
 use Rattle.strided.specs.Region.{region_of, region}
 use Rattle.laws.specs.Base.Ranges.{sum-next, sum_mono}

@@ -1,13 +1,9 @@
 -- The invariants of `memory_region`.
-use borrow.Author.Rules.{rules}
-use native.Mathlib.Omega.{arith}
-use mathlib.Core.Path.{◌≡◌, sym, ap, ◌∙◌}
-use Prim.Native.Nat.{ℕ, ◌-◌, ◌≤◌, min}
+use mathlib.Core.Path.{◌≡◌}
+use Prim.Native.Nat.{◌-◌, ◌≤◌, min}
 use Rattle.strided.specs.Base.{sum}
-use Rattle.strided.specs.Region.{region_of, region}
-use Rattle.laws.specs.Base.Ranges.{sum-next, sum_mono}
-use Rattle.laws.specs.Cut.Ranges.{sum_none}
-use Rattle.laws.specs.Cut.Saturate.{cap, capped, add_sat}
+use Rattle.strided.specs.Region.{region_of}
+use Rattle.laws.specs.Cut.Saturate.{cap}
 use Rattle.region.specs.Tail.{axes}
 use Rattle.region.proofs.memory_region.Given as goal
 

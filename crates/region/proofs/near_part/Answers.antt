@@ -4,7 +4,6 @@ use native.Mathlib.Omega.{arith}
 use native.Mathlib.Nat.{mul-le-mul}
 use mathlib.Core.Path.{ap, ◌∙◌}
 use Prim.Native.Nat.{ℕ, ◌*◌, ◌≤◌}
-use borrow.Author.Rules.{rules}
 use Rattle.laws.specs.Cut.Saturate.{capped}
 use Rattle.region.proofs.near_part.Goals as goal
 

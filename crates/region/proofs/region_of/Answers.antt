@@ -1,11 +1,9 @@
 -- `region::region_of` meets its contract. The invariant over the axes before i: C, the sum of the near parts, is exact up to the cap and has
 -- room to grow, and M, the product of the far blocks, is saturated. Lines and product follow from both. Assumes nothing.
-use borrow.Author.Rules.{rules}
 use native.Mathlib.Omega.{arith}
 use mathlib.Core.Path.{◌≡◌, sym, ap, ◌∙◌}
-use mathlib.Core.Logic.{⊎_elim}
 use mathlib.Core.List.{List}
-use Prim.Native.Nat.{ℕ, ◌+◌, ◌-◌, ◌*◌, ◌≤◌, min}
+use Prim.Native.Nat.{ℕ, ◌+◌, ◌-◌, ◌*◌, min}
 use native.Mathlib.Nat.{mul-one, add-zero}
 use lib.ListN.{get_or}
 use borrow.Author.Tests.{lt-ltb, le-ltb}

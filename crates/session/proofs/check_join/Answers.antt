@@ -7,7 +7,6 @@ use Rattle.session.specs.declared.Session.{Session}
 use Rattle.session.specs.Session.{new_rows}
 use Rattle.session.specs.Made.{LayoutRight, session_at}
 use Rattle.session.proofs.Holding.{right_layout, past_10, at_10}
-use borrow.Author.Rules.{rules}
 use Rattle.session.proofs.check_join.Goals as goal
 
 pub check_joining-requires : goal.check_joining-requires

@@ -7,7 +7,6 @@ use Rattle.session.specs.declared.Session.{Session}
 use Rattle.session.specs.Session.{row21}
 use Rattle.session.specs.Made.{session_at}
 use Rattle.session.proofs.Holding.{past_10, at_10}
-use borrow.Author.Rules.{rules}
 use Rattle.session.proofs.check_leave.Goals as goal
 
 pub returns-then-holds : goal.returns-then-holds

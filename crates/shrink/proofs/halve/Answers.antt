@@ -1,15 +1,14 @@
 -- `shrink::halve` meets its contract. The invariant: the blocks end up by the rule as those at first would. The loop ends, since each turn
 -- leaves fewer cells; what a turn does is a law about the rule (laws, Cut/Steps). Assumes nothing.
-use borrow.Author.Rules.{rules}
 use native.Mathlib.Omega.{arith}
 use mathlib.Core.Path.{◌≡◌, refl, sym, ap, ◌∙◌}
 use mathlib.Core.Option.{some, none}
 use Prim.Native.Nat.{ℕ, ◌*◌, ◌≤◌, ◌<◌}
 use lib.ListN.{set}
 use Rattle.strided.specs.Region.{region}
-use Rattle.strided.specs.Cut.{greatest_score, cells, halved}
+use Rattle.strided.specs.Cut.{greatest_score, halved}
 use Rattle.laws.specs.Cut.Picks.{pick_is}
-use Rattle.laws.specs.Cut.Steps.{ScoresFit, halved_small, halved_nothing, Turn, halved_turn}
+use Rattle.laws.specs.Cut.Steps.{halved_small, halved_nothing, Turn, halved_turn}
 use Rattle.region.specs.Tail.{axes}
 use Rattle.shrink.specs.Picked.{picked}
 use Rattle.shrink.proofs.halve.Goals as goal

@@ -1,16 +1,8 @@
 -- The invariants of `halve`.
-use borrow.Author.Rules.{rules}
-use native.Mathlib.Omega.{arith}
-use mathlib.Core.Path.{◌≡◌, refl, sym, ap, ◌∙◌}
-use mathlib.Core.Option.{some, none}
-use Prim.Native.Nat.{ℕ, ◌*◌, ◌≤◌, ◌<◌}
-use lib.ListN.{set}
-use Rattle.strided.specs.Region.{region}
-use Rattle.strided.specs.Cut.{greatest_score, cells, halved}
-use Rattle.laws.specs.Cut.Picks.{pick_is}
-use Rattle.laws.specs.Cut.Steps.{ScoresFit, halved_small, halved_nothing, Turn, halved_turn}
+use mathlib.Core.Path.{◌≡◌}
+use Rattle.strided.specs.Cut.{cells, halved}
+use Rattle.laws.specs.Cut.Steps.{ScoresFit}
 use Rattle.region.specs.Tail.{axes}
-use Rattle.shrink.specs.Picked.{picked}
 use Rattle.shrink.proofs.halve.Given as goal
 
 abbrev pub invariant-loop-machine : goal.invariant-loop-machine

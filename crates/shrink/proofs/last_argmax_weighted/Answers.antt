@@ -2,13 +2,11 @@
 -- score of 0 does not, which is that of a block of 1 or of an axis without a cost; of equal scores the later wins. Assumes nothing.
 use native.Mathlib.Omega.{arith}
 use mathlib.Core.Path.{◌≡◌, refl, sym, ap, ◌∙◌}
-use mathlib.Core.Logic.{⊎_elim}
 use mathlib.Core.Option.{Option}
 use Prim.Native.Nat.{ℕ, ◌-◌, ◌*◌, ◌≤◌, ◌<◌}
 use lib.ListN.{get_or}
 use Rattle.strided.specs.Cut.{score, greatest_score}
 use Rattle.laws.specs.Cut.Picks.{bar_of, pick_start, pick_wins, pick_loses}
-use Rattle.shrink.specs.Picked.{picked}
 use Rattle.shrink.proofs.last_argmax_weighted.Goals as goal
 use Rattle.shrink.proofs.last_argmax_weighted.Goals.{then-s-top, else-s-top}
 

@@ -1,12 +1,8 @@
 -- The invariants of `last_argmax_weighted`.
-use native.Mathlib.Omega.{arith}
-use mathlib.Core.Path.{◌≡◌, refl, sym, ap, ◌∙◌}
-use mathlib.Core.Logic.{⊎_elim}
-use mathlib.Core.Option.{Option}
-use Prim.Native.Nat.{ℕ, ◌-◌, ◌*◌, ◌≤◌, ◌<◌}
-use lib.ListN.{get_or}
+use mathlib.Core.Path.{◌≡◌}
+use Prim.Native.Nat.{◌-◌, ◌≤◌}
 use Rattle.strided.specs.Cut.{score, greatest_score}
-use Rattle.laws.specs.Cut.Picks.{bar_of, pick_start, pick_wins, pick_loses}
+use Rattle.laws.specs.Cut.Picks.{bar_of}
 use Rattle.shrink.specs.Picked.{picked}
 use Rattle.shrink.proofs.last_argmax_weighted.Given as goal
 

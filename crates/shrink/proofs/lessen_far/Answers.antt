@@ -10,7 +10,6 @@ use Rattle.strided.specs.Cut.{lessened}
 use Rattle.laws.specs.Cut.Steps.{ScoresFit, lessened_fits}
 use Rattle.laws.specs.Cut.Jump.{clipped, clipped_over, over_itself, jump, clipped_scores}
 use Rattle.laws.specs.Cut.Level.{Least}
-use borrow.Author.Rules.{rules}
 use Rattle.region.specs.Tail.{axes}
 use Rattle.shrink.proofs.lessen_far.Goals as goal
 

@@ -1,11 +1,10 @@
 -- `shrink::level` meets its contract: a search that halves the way between a score too low and one that is not (laws, Cut/Level).
 -- Assumes nothing.
-use borrow.Author.Rules.{rules}
 use native.Mathlib.Omega.{arith}
 use mathlib.Core.List.{List}
-use Prim.Native.Nat.{ℕ, ◌-◌, ◌≤◌, ◌<◌, ◌^◌}
+use Prim.Native.Nat.{ℕ, ◌≤◌, ◌<◌}
 use Rattle.strided.specs.Region.{region}
-use Rattle.laws.specs.Cut.Level.{Seeking, seek-first, seek_down, seek-up, sought}
+use Rattle.laws.specs.Cut.Level.{seek-first, seek_down, seek-up, sought}
 use Rattle.region.specs.Tail.{axes}
 use Rattle.shrink.proofs.level.Goals as goal
 

@@ -1,10 +1,6 @@
 -- The invariants of `level`.
-use borrow.Author.Rules.{rules}
-use native.Mathlib.Omega.{arith}
-use mathlib.Core.List.{List}
-use Prim.Native.Nat.{ℕ, ◌-◌, ◌≤◌, ◌<◌, ◌^◌}
-use Rattle.strided.specs.Region.{region}
-use Rattle.laws.specs.Cut.Level.{Seeking, seek-first, seek_down, seek-up, sought}
+use Prim.Native.Nat.{◌-◌, ◌<◌, ◌^◌}
+use Rattle.laws.specs.Cut.Level.{Seeking}
 use Rattle.region.specs.Tail.{axes}
 use Rattle.shrink.proofs.level.Given as goal
 

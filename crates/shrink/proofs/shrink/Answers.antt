@@ -5,7 +5,6 @@ use mathlib.Core.List.{List}
 use Prim.Native.Nat.{ℕ}
 use Rattle.strided.specs.Cut.{halved, lessened, shrunk}
 use Rattle.laws.specs.Cut.Steps.{ScoresFit, scores_le, halved_le}
-use borrow.Author.Rules.{rules}
 use Rattle.region.specs.Tail.{axes}
 use Rattle.shrink.proofs.shrink.Goals as goal
 

@@ -1,6 +1,5 @@
 -- `shrink::top_score` meets its contract: the score of the pick, 0 where there is none. The pick is one of the tail, so that its product is a
 -- score, which fits. Assumes nothing.
-use borrow.Author.Rules.{rules}
 use native.Mathlib.Omega.{arith}
 use mathlib.Core.Path.{◌≡◌, sym, ap, ◌∙◌}
 use mathlib.Core.Option.{some, none}

@@ -2,7 +2,6 @@
 use Prim.Native.Nat.{◌≤◌}
 use lib.ListN.{length}
 use Rattle.strided.specs.Memory.{plan_of}
-use Rattle.strided.specs.declared.Plan.{Plan}
 use Rattle.states.proofs.Table.{begun-refused, served_axes, served_starts, begun_served}
 use native.Mathlib.Omega.{arith}
 use mathlib.Core.Path.{◌≡◌, sym, ◌∙◌}

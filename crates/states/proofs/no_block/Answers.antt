@@ -1,7 +1,6 @@
 -- `states::no_block` meets its contract. Assumes nothing.
 use lib.ListN.{length-take}
 use native.Mathlib.Omega.{arith}
-use borrow.Author.Rules.{rules}
 use Rattle.states.proofs.no_block.Goals as goal
 
 pub slice_bounds-has_zero-end : goal.slice_bounds-has_zero-end

@@ -3,13 +3,12 @@ use Rattle.states.proofs.Blanks.{starts_padded}
 use Rattle.advance.specs.Filled.{filled_to, filled_none, filled_more}
 use borrow.Author.Rules.{sfits_of}
 use mir.Facts.{to_z-of_z}
-use lib.ListN.{length, get_or, replicate}
+use lib.ListN.{get_or, replicate}
 use lib.IntN.{pos}
 use native.Mathlib.Nat.{le_antisymm}
-use Prim.Native.Nat.{ℕ, ◌≤◌, ◌-◌}
+use Prim.Native.Nat.{ℕ}
 use native.Mathlib.Omega.{arith}
-use mathlib.Core.Path.{◌≡◌, ap, ◌∙◌}
-use borrow.Author.Rules.{rules}
+use mathlib.Core.Path.{ap, ◌∙◌}
 use Rattle.states.proofs.offsets_of.Goals as goal
 use mir.Syntax.{w64}
 

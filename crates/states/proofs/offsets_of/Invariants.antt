@@ -1,15 +1,9 @@
 -- The invariants of `offsets_of`.
-use Rattle.states.proofs.Blanks.{starts_padded}
-use Rattle.advance.specs.Filled.{filled_to, filled_none, filled_more}
-use borrow.Author.Rules.{sfits_of}
-use mir.Facts.{to_z-of_z}
+use Rattle.advance.specs.Filled.{filled_to}
 use lib.ListN.{length, get_or, replicate}
 use lib.IntN.{pos}
-use native.Mathlib.Nat.{le_antisymm}
 use Prim.Native.Nat.{ℕ, ◌≤◌, ◌-◌}
-use native.Mathlib.Omega.{arith}
-use mathlib.Core.Path.{◌≡◌, ap, ◌∙◌}
-use borrow.Author.Rules.{rules}
+use mathlib.Core.Path.{◌≡◌}
 use Rattle.states.proofs.offsets_of.Given as goal
 
 abbrev pub invariant-loop-k : goal.invariant-loop-k

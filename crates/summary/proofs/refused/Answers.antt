@@ -1,7 +1,5 @@
 -- `summary::refused` meets its contract. Assumes nothing.
-use mathlib.Core.Path.{ap}
 use Rattle.strided.specs.declared.Answer.TheVariants.{Refused}
-use Rattle.summary.specs.declared.cell.Summary.{Summary}
 use Rattle.summary.proofs.refused.Goals as goal
 
 pub nothing_met-requires : goal.nothing_met-requires

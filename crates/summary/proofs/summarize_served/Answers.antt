@@ -1,7 +1,6 @@
 -- `summary::summarize_served` meets its contract: the plan is made; where row 22 applies the walk's beginning tells whether 9 does, and where it
 -- does not the cells are met.
 -- Assumes nothing.
-use borrow.Author.Rules.{rules}
 use mathlib.Core.Path.{◌≡◌, refl, sym, ap, ◌∙◌, subst}
 use mathlib.Core.Bool.{false}
 use mathlib.Core.List.{[], ◌∷◌}

@@ -5,7 +5,6 @@ use mir.Facts.{to_z-of_z}
 use Rattle.strided.specs.Refusals.{layout_refused}
 use Rattle.laws.specs.Refusals.Rows.{served_none, refused_some}
 use Rattle.text.proofs.Listings.{answering, layout_refused_lem, layout_total, layout_served}
-use borrow.Author.Rules.{rules}
 use Rattle.text.proofs.list_layout.Goals as goal
 use mir.Syntax.{w64}
 

@@ -5,7 +5,6 @@ use native.Mathlib.Omega.{arith}
 use lib.ListN.{length-take}
 use mir.Facts.{to_z-of_z}
 use Rattle.text.proofs.Listings.{answering, numbers-rank, numbers_operands, numbers_layout, Within, within}
-use borrow.Author.Rules.{rules}
 use Rattle.text.proofs.list_numbers.Goals as goal
 use mir.Syntax.{w64}
 

@@ -4,7 +4,6 @@ use mir.Facts.{to_z-of_z}
 use Rattle.laws.specs.Refusals.Accepted.{accepted}
 use Rattle.laws.specs.Refusals.Record.{fixed_allowed}
 use Rattle.text.proofs.Listings.{made_printable, made-listed}
-use borrow.Author.Rules.{rules}
 use Rattle.text.proofs.list_served.Goals as goal
 use mir.Syntax.{w64}
 

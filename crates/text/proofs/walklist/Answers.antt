@@ -3,7 +3,6 @@ use mathlib.Core.Path.{refl, ◌∙◌}
 use mir.Facts.{to_z-of_z}
 use Rattle.laws.specs.Text.Planning.{lists_said, lists_unformed}
 use Rattle.text.proofs.Listings.{answering, said-listed}
-use borrow.Author.Rules.{rules}
 use Rattle.text.proofs.walklist.Goals as goal
 use mir.Syntax.{w64}
 

@@ -1,5 +1,4 @@
 -- `views::block_visit` meets its contract. Assumes nothing.
-use borrow.Author.Rules.{rules}
 use mathlib.Core.Path.{◌∙◌}
 use lib.ListN.{take}
 use Rattle.finding.proofs.Answers.{fitting, cells-few}

@@ -1,6 +1,5 @@
 -- `views::check_visit` meets its contract: rows 1 and 2 of the layout and of the plan, then the layout's. Assumes nothing.
 use mathlib.Core.Path.{sym, ap, ◌∙◌}
-use borrow.Author.Rules.{rules}
 use Rattle.strided.specs.Refusals.{answered}
 use Rattle.laws.specs.Refusals.Rows.{past_none, past_next, past_refused}
 use Rattle.views.specs.Visits.{visit_rows, visit_refused}

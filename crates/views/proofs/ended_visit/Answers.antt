@@ -1,5 +1,4 @@
 -- `views::ended_visit` meets its contract. Assumes nothing.
-use borrow.Author.Rules.{rules}
 use mathlib.Core.Path.{ap}
 use Rattle.strided.specs.declared.Outcome.TheVariants.{Ended}
 use Rattle.views.specs.declared.Visit.{Visit}

@@ -1,5 +1,4 @@
 -- `views::not_visited` meets its contract. Assumes nothing.
-use borrow.Author.Rules.{rules}
 use mathlib.Core.Path.{ap}
 use Rattle.strided.specs.Begin.{no_walk}
 use Rattle.strided.specs.declared.Outcome.TheVariants.{Rejected}

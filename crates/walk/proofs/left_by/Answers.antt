@@ -1,6 +1,5 @@
 -- `walk::left_by` meets its contract: each answer by itself. Assumes nothing.
 use mathlib.Core.Path.{sym, ap}
-use borrow.Author.Rules.{rules}
 use Rattle.strided.specs.Step.{left_by}
 use Rattle.strided.specs.declared.Outcome.{Outcome}
 use Rattle.walk.proofs.left_by.Goals as goal

@@ -1,5 +1,4 @@
 -- `walk::step_on` meets its contract: the answer decides, and the block is that at the counters. Assumes nothing.
-use borrow.Author.Rules.{rules}
 use mathlib.Core.Path.{◌≡◌, ◌∙◌, subst}
 use Rattle.strided.specs.Memory.{plan_of}
 use Rattle.strided.specs.declared.Outcome.{Outcome}

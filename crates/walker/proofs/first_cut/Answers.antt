@@ -1,9 +1,8 @@
 -- `walker::first_cut` meets its contract. Assumes nothing.
 use Rattle.walker.proofs.Leading.{one_more_lem}
 use native.Mathlib.Omega.{arith}
-use borrow.Author.Rules.{rules}
 use mathlib.Core.Path.{◌≡◌}
-use Prim.Native.Nat.{ℕ, ◌-◌, ◌≤◌, ◌<◌}
+use Prim.Native.Nat.{ℕ, ◌-◌}
 use lib.ListN.{get_or}
 use Rattle.walker.proofs.first_cut.Goals as goal
 

@@ -1,7 +1,4 @@
 -- The invariants of `first_cut`.
-use Rattle.walker.proofs.Leading.{one_more_lem}
-use native.Mathlib.Omega.{arith}
-use borrow.Author.Rules.{rules}
 use mathlib.Core.Path.{◌≡◌}
 use Prim.Native.Nat.{ℕ, ◌-◌, ◌≤◌, ◌<◌}
 use lib.ListN.{get_or}

@@ -1,8 +1,7 @@
 -- `walker::first_tiled` meets its contract. Assumes nothing.
 use Rattle.walker.proofs.Leading.{one_more_lem}
 use native.Mathlib.Omega.{arith}
-use borrow.Author.Rules.{rules}
-use Prim.Native.Nat.{ℕ, ◌-◌, ◌≤◌, ◌<◌}
+use Prim.Native.Nat.{ℕ, ◌-◌, ◌≤◌}
 use lib.ListN.{get_or}
 use Rattle.walker.proofs.first_tiled.Goals as goal
 

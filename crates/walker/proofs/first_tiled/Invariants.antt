@@ -1,7 +1,4 @@
 -- The invariants of `first_tiled`.
-use Rattle.walker.proofs.Leading.{one_more_lem}
-use native.Mathlib.Omega.{arith}
-use borrow.Author.Rules.{rules}
 use Prim.Native.Nat.{ℕ, ◌-◌, ◌≤◌, ◌<◌}
 use lib.ListN.{get_or}
 use Rattle.walker.proofs.first_tiled.Given as goal

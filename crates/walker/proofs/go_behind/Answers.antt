@@ -1,6 +1,5 @@
 -- `walker::go_behind` meets its contract. Assumes nothing.
 use Rattle.walker.proofs.Going.{may_go, gone_on, last_less, left_above, end_below, end_at, limit_less, gone_last, passed_short, passed_all}
-use borrow.Author.Rules.{rules}
 use Rattle.walker.proofs.go_behind.Goals as goal
 
 pub go_steps-requires : goal.go_steps-requires

@@ -3,7 +3,6 @@ use Rattle.walker.proofs.Going.{gone_none, gone_inside, gone_tile}
 use native.Mathlib.Omega.{arith}
 use Prim.Native.Nat.{ℕ, ◌<◌}
 use mathlib.Core.Path.{◌≡◌}
-use borrow.Author.Rules.{rules}
 use Rattle.walker.proofs.go_steps.Goals as goal
 
 above : (n : ℕ) → (n ≡ 0 → ⊥) → 0 < n

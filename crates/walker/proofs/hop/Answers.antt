@@ -1,5 +1,4 @@
 -- `walker::hop` meets its contract. Assumes nothing.
-use borrow.Author.Rules.{rules}
 use Rattle.walker.proofs.Leaving.{not_hopped, hopped}
 use native.Mathlib.Omega.{arith}
 use mathlib.Core.Bool.{true}

@@ -2,7 +2,6 @@
 use Rattle.walker.proofs.Leaving.{shifts_there, tiled_there, tiled_stays, roomy_there, left_inside_at, left_tile_at, left-whole-at, home_tile, home-zero}
 use native.Mathlib.Omega.{arith}
 use mathlib.Core.Path.{refl}
-use borrow.Author.Rules.{rules}
 use Rattle.walker.proofs.leave.Goals as goal
 
 pub shift-requires : goal.shift-requires

@@ -1,14 +1,6 @@
 -- The invariants of `move_by`.
-use Rattle.walker.proofs.Rows.{sum_is}
-use borrow.Author.Rules.{rules, sfits_of}
-use native.Mathlib.Nat.{le_antisymm}
-use native.Mathlib.Omega.{arith}
-use mathlib.Core.Path.{◌≡◌, sym, ap, ◌∙◌, subst}
-use Prim.Native.Nat.{ℕ, ◌-◌, ◌≤◌}
-use mir.Facts.{to_z-of_z}
-use mir.Syntax.{w64}
-use mir.Val.{SFits}
-use Rattle.advance.specs.Filled.{filled_none, filled_more}
+use mathlib.Core.Path.{◌≡◌}
+use Prim.Native.Nat.{◌-◌, ◌≤◌}
 use Rattle.walker.specs.Way.{added}
 use Rattle.walker.proofs.move_by.Given as goal
 

@@ -1,6 +1,5 @@
 -- `walker::way_of` meets its contract. Assumes nothing.
 use Rattle.walker.proofs.Leading.{leads_inside, leads_tiled, leads_none}
-use borrow.Author.Rules.{rules}
 use Rattle.walker.proofs.way_of.Goals as goal
 
 pub step_along-requires : goal.step_along-requires

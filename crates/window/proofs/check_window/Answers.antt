@@ -1,6 +1,5 @@
 -- `window::check_window` meets its contract: its tests are the rows of the window's table, one after the other. Assumes nothing.
 use lib.ListN.{length}
-use borrow.Author.Rules.{rules}
 use Rattle.layout.proofs.Table.{rows-laid}
 use Rattle.laws.specs.Refusals.Rows.{few-axes, few_operands, past_none, past_next, past_refused, past_served}
 use Rattle.window.specs.Window.{window_rows, window_refused}

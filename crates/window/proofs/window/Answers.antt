@@ -1,7 +1,6 @@
 -- `window::window` meets its contract: what is made where no row applies, and the refusal beside zeros where one does. Assumes nothing.
 use mathlib.Core.Path.{◌≡◌, refl, sym, ◌∙◌}
 use mathlib.Core.Option.{none, some}
-use borrow.Author.Rules.{rules}
 use Rattle.laws.specs.Refusals.Rows.{served_none, refused_some}
 use Rattle.window.specs.Window.{window_refused}
 use Rattle.window.specs.Layouts.{window_taken}

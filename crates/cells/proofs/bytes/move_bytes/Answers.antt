@@ -1,15 +1,13 @@
 -- `cells::bytes::move_bytes` meets its contract. Assumes nothing.
-use mathlib.Core.Path.{◌≡◌, refl, sym, ap, ◌∙◌}
+use mathlib.Core.Path.{◌≡◌, refl, ap, ◌∙◌}
 use mathlib.Core.List.{List}
-use Prim.Native.Nat.{ℕ, ◌+◌, ◌-◌, ◌≤◌, ◌<◌}
+use Prim.Native.Nat.{ℕ, ◌+◌, ◌<◌}
 use native.Mathlib.Omega.{arith}
 use lib.ListN.{length, get_or, set, length-set}
 use borrow.Author.Rules.{rules}
 use Rattle.cells.specs.Copy.{moved}
 use Rattle.cells.specs.Meaning.{moved_none}
-use Rattle.cells.proofs.Moving.{Held, held_none, held_more, held_at, moved_more}
-use Rattle.cells.proofs.bytes.move_bytes.Reads as reads
-use Rattle.cells.proofs.bytes.move_bytes.Lts as lts
+use Rattle.cells.proofs.Moving.{held_none, held_more, held_at, moved_more}
 use Rattle.cells.proofs.bytes.move_bytes.Goals as goal
 
 pub loop-k-init : goal.loop-k-init

@@ -1,15 +1,9 @@
 -- The invariants of `bytes::move_bytes`.
-use mathlib.Core.Path.{◌≡◌, refl, sym, ap, ◌∙◌}
-use mathlib.Core.List.{List}
-use Prim.Native.Nat.{ℕ, ◌+◌, ◌-◌, ◌≤◌, ◌<◌}
-use native.Mathlib.Omega.{arith}
-use lib.ListN.{length, get_or, set, length-set}
-use borrow.Author.Rules.{rules}
+use mathlib.Core.Path.{◌≡◌}
+use Prim.Native.Nat.{◌-◌, ◌≤◌}
+use lib.ListN.{length}
 use Rattle.cells.specs.Copy.{moved}
-use Rattle.cells.specs.Meaning.{moved_none}
-use Rattle.cells.proofs.Moving.{Held, held_none, held_more, held_at, moved_more}
-use Rattle.cells.proofs.bytes.move_bytes.Reads as reads
-use Rattle.cells.proofs.bytes.move_bytes.Lts as lts
+use Rattle.cells.proofs.Moving.{Held}
 use Rattle.cells.proofs.bytes.move_bytes.Given as goal
 
 abbrev pub invariant-loop-k : goal.invariant-loop-k

@@ -1,10 +1,9 @@
 -- `cells::fours::copy_across` meets its contract: four cells, one after the other. Assumes nothing.
 use mathlib.Core.Path.{◌≡◌, sym, ap, ◌∙◌, subst}
 use mathlib.Core.List.{List}
-use Prim.Native.Nat.{ℕ, ◌+◌, ◌≤◌, ◌<◌}
+use Prim.Native.Nat.{ℕ, ◌+◌, ◌<◌}
 use native.Mathlib.Omega.{arith}
 use lib.ListN.{length}
-use borrow.Author.Rules.{rules}
 use Rattle.cells.specs.Copy.{moved}
 use Rattle.cells.specs.Meaning.{moved_length}
 use Rattle.cells.specs.Patch.{place}

@@ -1,10 +1,8 @@
 -- `cells::packed::copy_down` meets its contract. Assumes nothing.
-use mathlib.Core.Path.{◌≡◌, refl, sym, ap, ◌∙◌, subst}
-use Prim.Native.Nat.{ℕ, ◌-◌, ◌≤◌, ◌<◌}
+use mathlib.Core.Path.{◌≡◌, sym, ap, ◌∙◌, subst}
+use Prim.Native.Nat.{◌-◌, ◌<◌}
 use native.Mathlib.Omega.{arith}
-use lib.IntN.{pos}
 use lib.ListN.{length}
-use borrow.Author.Rules.{rules}
 use Rattle.cells.specs.declared.Side.{Side}
 use Rattle.cells.specs.Copy.{copied}
 use Rattle.cells.specs.Patch.{patch_cells}

@@ -1,15 +1,9 @@
 -- The invariants of `packed::move_runs`.
-use mathlib.Core.Path.{◌≡◌, refl, sym, ap, ap₂, ◌∙◌, subst}
-use mathlib.Core.List.{List}
-use Prim.Native.Nat.{ℕ, ◌+◌, ◌-◌, ◌*◌, ◌≤◌, ◌<◌}
-use native.Mathlib.Omega.{arith}
+use mathlib.Core.Path.{◌≡◌}
+use Prim.Native.Nat.{◌-◌, ◌≤◌}
 use lib.ListN.{length}
-use Rattle.cells.specs.Copy.{moved, copied}
-use Rattle.cells.specs.Meaning.{moved_length}
-use Rattle.cells.specs.Patch.{place, run_cells, patch_cells}
-use Rattle.cells.proofs.Running.{run_more}
-use Rattle.cells.proofs.Patching.{patch_cell, patch_start}
-use Rattle.cells.proofs.Packing.{begin, packed-run, run-from, run-bytes, run-place}
+use Rattle.cells.specs.Copy.{copied}
+use Rattle.cells.specs.Patch.{patch_cells}
 use Rattle.cells.proofs.packed.move_runs.Given as goal
 
 abbrev pub invariant-loop-j : goal.invariant-loop-j

@@ -1,7 +1,7 @@
 -- `cells::packed::upwards` meets its contract. Assumes nothing.
 use mathlib.Core.Path.{◌≡◌}
-use Prim.Native.Nat.{ℕ, ◌-◌}
-use lib.IntN.{ℤ, pos}
+use Prim.Native.Nat.{◌-◌}
+use lib.IntN.{pos}
 use mir.Syntax.{w64}
 use mir.Val.{SFits, to_z, of_z}
 use mir.Facts.{to_z-of_z, to_z_pos}

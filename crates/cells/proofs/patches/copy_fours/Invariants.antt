@@ -1,15 +1,9 @@
 -- The invariants of `patches::copy_fours`.
-use mathlib.Core.Path.{◌≡◌, refl, sym, ap, ◌∙◌, subst}
-use mathlib.Core.List.{List}
-use Prim.Native.Nat.{ℕ, ◌+◌, ◌-◌, ◌≤◌, ◌<◌}
-use native.Mathlib.Omega.{arith}
+use mathlib.Core.Path.{◌≡◌}
+use Prim.Native.Nat.{◌-◌, ◌≤◌}
 use lib.ListN.{length}
 use Rattle.cells.specs.Copy.{copied}
-use Rattle.cells.specs.Meaning.{copied-length}
-use Rattle.cells.specs.Patch.{run_cells, patch_cells}
-use Rattle.cells.specs.Reaching.{RunIn, RunsIn, runs_from}
-use Rattle.cells.proofs.Running.{run_more}
-use Rattle.cells.proofs.Patching.{patch-run, patch_runs, patch_start, runs_more, runs_apart}
+use Rattle.cells.specs.Patch.{patch_cells}
 use Rattle.cells.proofs.patches.copy_fours.Given as goal
 
 abbrev pub invariant-loop-j : goal.invariant-loop-j

@@ -1,10 +1,8 @@
 -- `cells::runs::copy_cell` meets its contract. Assumes nothing.
-use mathlib.Core.Path.{◌≡◌, ap, ap₂, ◌∙◌}
-use mathlib.Core.List.{List}
+use mathlib.Core.Path.{◌≡◌, ap₂, ◌∙◌}
 use Prim.Native.Nat.{ℕ}
 use Rattle.cells.specs.Copy.{moved}
 use Rattle.cells.specs.Patch.{place}
-use borrow.Author.Rules.{rules}
 use Rattle.cells.proofs.runs.copy_cell.Goals as goal
 
 pub returns : goal.returns

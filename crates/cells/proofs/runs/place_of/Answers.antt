@@ -1,6 +1,6 @@
 -- `cells::runs::place_of` meets its contract. Assumes nothing.
 use mathlib.Core.Path.{◌≡◌, sym, ap, ◌∙◌, subst}
-use Prim.Native.Nat.{ℕ, ◌<◌}
+use Prim.Native.Nat.{ℕ}
 use native.Mathlib.Omega.{arith}
 use lib.Dec.{T}
 use lib.Signed.{non_neg}
@@ -11,7 +11,7 @@ use mir.Facts.{to_z-of_z, to_z_pos}
 use borrow.Author.Rules.{rules}
 use Rattle.cells.specs.Patch.{spot}
 use Rattle.cells.specs.Reaching.{run_spot, Reaches}
-use Rattle.cells.proofs.Placing.{first_fits, across_fits, run_fits, along_fits, spot_fits}
+use Rattle.cells.proofs.Placing.{across_fits, run_fits, along_fits, spot_fits}
 use Rattle.cells.proofs.runs.place_of.Goals as goal
 
 pub steps_from-run-requires : goal.steps_from-run-requires

@@ -4,7 +4,6 @@ use lib.IntN.{ℤ, pos, ◌+ℤ◌, ◌*ℤ◌}
 use mir.Syntax.{w64}
 use mir.Val.{SFits, to_z, of_z}
 use mir.Facts.{to_z-of_z, to_z_pos}
-use borrow.Author.Rules.{rules}
 use Rattle.cells.proofs.runs.steps_from.Goals as goal
 
 pub overflow_mul-result : goal.overflow_mul-result

@@ -1,10 +1,9 @@
 -- `cells::widths::copy_runs_by_width` meets its contract: in each arm the width is the literal. Assumes nothing.
 use mathlib.Core.Path.{◌≡◌, sym, ap, ◌∙◌, subst}
 use mathlib.Core.List.{List}
-use Prim.Native.Nat.{ℕ, ◌≤◌}
+use Prim.Native.Nat.{ℕ}
 use native.Mathlib.Omega.{arith}
 use lib.ListN.{length}
-use borrow.Author.Rules.{rules}
 use Rattle.cells.specs.Copy.{copied}
 use Rattle.cells.specs.Patch.{patch_cells}
 use Rattle.cells.specs.Reaching.{PatchIn}

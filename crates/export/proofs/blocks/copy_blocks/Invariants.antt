@@ -1,13 +1,9 @@
 -- The invariants of `blocks::copy_blocks`.
-use native.Mathlib.Omega.{arith}
-use mathlib.Core.Bool.{true}
 use Prim.Native.Nat.{◌-◌}
 use lib.ListN.{length, take}
-use Rattle.strided.specs.declared.Plan.{Plan}
 use Rattle.strided.specs.Memory.{plan_of}
 use Rattle.laws.specs.Walk.Placed.{placed_walk}
-use Rattle.walker.proofs.Walked.{may_move}
-use Rattle.export.proofs.Copies.{Copies, copy_ready, copies_while, copies_none, first_taken, widths_some, copies_start, copies_asks, stretching, copies_next, number_fits, copies_less, copies_end}
+use Rattle.export.proofs.Copies.{Copies}
 use Rattle.export.proofs.blocks.copy_blocks.Given as goal
 
 abbrev pub invariant-loop-more : goal.invariant-loop-more

@@ -9,7 +9,6 @@ use lib.Signed.{non_neg}
 use mir.Syntax.{w64}
 use mir.Val.{to_z, of_z}
 use mir.Facts.{to_z-of_z, Fits-nat_abs}
-use borrow.Author.Rules.{rules}
 use borrow.Author.Tests.{ltb-false}
 use Rattle.export.proofs.Gaps.{not-below}
 use Rattle.export.proofs.packed.beyond.Goals as goal

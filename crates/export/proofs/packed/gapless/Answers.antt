@@ -1,15 +1,14 @@
 -- `export::packed::gapless` meets its contract. Assumes nothing.
 use mathlib.Core.Path.{◌≡◌, refl, sym, ◌∙◌}
 use mathlib.Core.List.{List}
-use Prim.Native.Nat.{ℕ, ◌+◌, ◌-◌, ◌*◌, ◌≤◌, ◌<◌}
+use Prim.Native.Nat.{ℕ, ◌+◌, ◌-◌, ◌*◌, ◌<◌}
 use native.Mathlib.Nat.{one-mul, le_antisymm}
 use native.Mathlib.Omega.{arith}
 use lib.IntN.{ℤ, pos}
-use lib.ListN.{length, get_or, drop}
-use borrow.Author.Rules.{rules}
-use Rattle.strided.specs.Layout.{stride_row, total}
+use lib.ListN.{length, get_or}
+use Rattle.strided.specs.Layout.{stride_row}
 use Rattle.laws.specs.Base.Bits.{read_back}
-use Rattle.export.proofs.Gaps.{Rest, rest_start, rest-next, rest_end, product-next, product_fits, product_end, row_long, to_at, from_at}
+use Rattle.export.proofs.Gaps.{rest_start, rest-next, rest_end, product-next, product_fits, product_end, row_long, to_at, from_at}
 use Rattle.export.proofs.packed.gapless.Goals as goal
 
 pub loop-i-init : goal.loop-i-init

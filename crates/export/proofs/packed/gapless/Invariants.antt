@@ -1,15 +1,9 @@
 -- The invariants of `packed::gapless`.
-use mathlib.Core.Path.{◌≡◌, refl, sym, ◌∙◌}
-use mathlib.Core.List.{List}
-use Prim.Native.Nat.{ℕ, ◌+◌, ◌-◌, ◌*◌, ◌≤◌, ◌<◌}
-use native.Mathlib.Nat.{one-mul, le_antisymm}
-use native.Mathlib.Omega.{arith}
-use lib.IntN.{ℤ, pos}
-use lib.ListN.{length, get_or, drop}
-use borrow.Author.Rules.{rules}
+use mathlib.Core.Path.{◌≡◌}
+use Prim.Native.Nat.{◌-◌, ◌*◌, ◌≤◌}
+use lib.ListN.{length, drop}
 use Rattle.strided.specs.Layout.{stride_row, total}
-use Rattle.laws.specs.Base.Bits.{read_back}
-use Rattle.export.proofs.Gaps.{Rest, rest_start, rest-next, rest_end, product-next, product_fits, product_end, row_long, to_at, from_at}
+use Rattle.export.proofs.Gaps.{Rest}
 use Rattle.export.proofs.packed.gapless.Given as goal
 
 abbrev pub invariant-loop-i : goal.invariant-loop-i

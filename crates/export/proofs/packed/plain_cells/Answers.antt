@@ -3,9 +3,8 @@ use mathlib.Core.Path.{◌≡◌, sym, ap, ◌∙◌, subst}
 use mathlib.Core.Bool.{false}
 use Prim.Native.Nat.{ℕ, ◌*◌, ◌/◌, ◌<◌}
 use native.Mathlib.Omega.{arith}
-use lib.IntN.{ℤ, pos}
+use lib.IntN.{ℤ}
 use lib.ListN.{length, get_or}
-use borrow.Author.Rules.{rules}
 use Rattle.strided.specs.Layout.{NoZero}
 use Rattle.laws.specs.Refusals.Zeros.{no_zero_of, total_some}
 use Rattle.layout.proofs.Caps.{elem_read}

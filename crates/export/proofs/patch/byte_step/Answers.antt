@@ -6,7 +6,6 @@ use lib.IntN.{ℤ, pos, ◌*ℤ◌}
 use mir.Syntax.{w64}
 use mir.Val.{SFits, to_z, of_z}
 use mir.Facts.{to_z-of_z, to_z_pos}
-use borrow.Author.Rules.{rules}
 use Rattle.export.proofs.patch.byte_step.Goals as goal
 
 pub overflow_mul-result : goal.overflow_mul-result

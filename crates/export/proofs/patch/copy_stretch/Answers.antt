@@ -5,7 +5,6 @@ use Prim.Native.Nat.{◌<◌, ◌^◌}
 use native.Mathlib.Omega.{arith}
 use lib.IntN.{pos}
 use lib.ListN.{length, get_or}
-use borrow.Author.Rules.{rules}
 use Rattle.layout.proofs.Caps.{elem_read}
 use Rattle.cells.specs.Copy.{Pair, copied}
 use Rattle.export.specs.Blocks.{InBytes}

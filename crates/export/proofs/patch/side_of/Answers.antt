@@ -3,7 +3,6 @@ use mathlib.Core.Path.{sym, ap, ◌∙◌}
 use Prim.Native.Nat.{◌*◌}
 use lib.IntN.{ℤ, pos, nat_abs, ◌*ℤ◌}
 use mir.Facts.{to_z-of_z, Fits-nat_abs}
-use borrow.Author.Rules.{rules}
 use Rattle.cells.specs.Offsets.{place-bytes}
 use Rattle.export.proofs.patch.side_of.Goals as goal
 use mir.Syntax.{w64}

@@ -5,7 +5,6 @@ use Prim.Native.Nat.{ℕ, ◌/◌, ◌<◌}
 use native.Mathlib.Omega.{arith}
 use lib.IntN.{ℤ}
 use lib.ListN.{length, get_or}
-use borrow.Author.Rules.{rules}
 use Rattle.strided.specs.Layout.{stride_row}
 use Rattle.layout.proofs.Caps.{elem_read}
 use Rattle.span.specs.Span.{outside}

@@ -2,7 +2,6 @@
 use mathlib.Core.Path.{◌∙◌}
 use Prim.Native.Nat.{◌/◌}
 use mir.Facts.{to_z-of_z}
-use borrow.Author.Rules.{rules}
 use Rattle.export.proofs.Tests.{part_spans, part_outside}
 use Rattle.export.proofs.rows.outside_at.Goals as goal
 use mir.Syntax.{w64}

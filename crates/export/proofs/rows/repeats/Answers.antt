@@ -1,7 +1,6 @@
 -- `export::rows::repeats` meets its contract. Assumes nothing.
 use mathlib.Core.Path.{ap, ◌∙◌}
 use mathlib.Core.Bool.{not}
-use borrow.Author.Rules.{rules}
 use Rattle.strided.specs.declared.Mark.{Mark}
 use Rattle.strided.specs.declared.Marked.{Marked}
 use Rattle.export.specs.Export.{is_no}

@@ -1,5 +1,4 @@
 -- `export::rows::sizes_wrong` meets its contract. Assumes nothing.
-use borrow.Author.Rules.{rules}
 use borrow.Author.Tests.{eq-eqb, ne_eqb}
 use Rattle.export.proofs.rows.sizes_wrong.Goals as goal
 

@@ -1,5 +1,4 @@
 -- `finding::radix::below` meets its contract. Assumes nothing.
-use borrow.Author.Rules.{rules}
 use borrow.Author.Tests.{lt-ltb, le-ltb}
 use Rattle.finding.proofs.radix.below.Goals as goal
 

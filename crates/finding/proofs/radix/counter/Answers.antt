@@ -1,7 +1,6 @@
 -- `finding::radix::counter` meets its contract. Assumes nothing.
 use mathlib.Core.Path.{sym}
 use lib.ListN.{get_or-eq_default}
-use borrow.Author.Rules.{rules}
 use Rattle.finding.proofs.radix.counter.Goals as goal
 
 pub returns-else-j-counters : goal.returns-else-j-counters

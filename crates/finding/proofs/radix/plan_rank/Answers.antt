@@ -1,8 +1,7 @@
 -- `finding::radix::plan_rank` meets its contract. The invariant: the axes before i are passed, and those kept are counted. Assumes nothing.
 use mathlib.Core.Path.{sym, ap, subst}
-use mathlib.Core.Logic.{inl, inr, ⊎_elim}
-use Prim.Native.Nat.{◌+◌, ◌-◌}
-use native.Mathlib.Omega.{arith}
+use mathlib.Core.Logic.{inl, inr}
+use Prim.Native.Nat.{◌+◌}
 use lib.ListN.{length}
 use Rattle.finding.proofs.Kept.{Passed, pass_none, pass_one, pass_other, pass_stays, pass_count}
 use Rattle.finding.proofs.radix.plan_rank.Goals as goal

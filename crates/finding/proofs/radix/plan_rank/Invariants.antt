@@ -1,10 +1,6 @@
 -- The invariants of `radix::plan_rank`.
-use mathlib.Core.Path.{sym, ap, subst}
-use mathlib.Core.Logic.{inl, inr, ⊎_elim}
-use Prim.Native.Nat.{◌+◌, ◌-◌}
-use native.Mathlib.Omega.{arith}
-use lib.ListN.{length}
-use Rattle.finding.proofs.Kept.{Passed, pass_none, pass_one, pass_other, pass_stays, pass_count}
+use Prim.Native.Nat.{◌-◌}
+use Rattle.finding.proofs.Kept.{Passed}
 use Rattle.finding.proofs.radix.plan_rank.Given as goal
 
 abbrev pub invariant-loop-i : goal.invariant-loop-i

@@ -1,9 +1,8 @@
 -- `finding::radix::plan_within` meets its contract. The invariant: the axes before i are passed, and what is left decides the whole. Assumes nothing.
 use mathlib.Core.Path.{refl, sym, subst}
-use mathlib.Core.Logic.{inl, inr, ⊎_elim}
-use Prim.Native.Nat.{◌+◌, ◌-◌}
+use mathlib.Core.Logic.{inl, inr}
+use Prim.Native.Nat.{◌+◌}
 use native.Mathlib.Omega.{arith}
-use borrow.Author.Rules.{rules}
 use Rattle.finding.proofs.Kept.{Held, held_none, held_one, held_other, held_out, held-single, held_several, held_end}
 use Rattle.finding.proofs.radix.plan_within.Goals as goal
 use Rattle.finding.proofs.radix.plan_within.Goals.{then-j-eq0+else-rank-gt0, else-j-eq0}

@@ -1,7 +1,6 @@
 -- `finding::radix::quotient` meets its contract. Assumes nothing.
 use mathlib.Core.Path.{sym}
 use native.Mathlib.Nat.{div-eq_of_lt}
-use borrow.Author.Rules.{rules}
 use Rattle.finding.proofs.radix.quotient.Goals as goal
 
 pub returns-then-x-e : goal.returns-then-x-e

@@ -1,10 +1,7 @@
 -- The invariants of `radix::ravel_index`.
-use mathlib.Core.Path.{◌≡◌, subst}
-use Prim.Native.Nat.{ℕ, ◌+◌, ◌-◌, ◌*◌, ◌^◌, ◌≤◌, ◌<◌}
-use native.Mathlib.Omega.{arith}
-use lib.ListN.{length, get_or, take}
-use Rattle.finding.proofs.Kept.{extents-few}
-use Rattle.finding.proofs.Turns.{Done, done_none, done_end, done_fits, done_one, done_left, done_other, axis_there, index_long, fused_counted}
+use Prim.Native.Nat.{◌≤◌}
+use lib.ListN.{length}
+use Rattle.finding.proofs.Turns.{Done}
 use Rattle.finding.proofs.radix.ravel_index.Given as goal
 
 abbrev pub invariant-loop-i : goal.invariant-loop-i

@@ -1,7 +1,6 @@
 -- `finding::radix::remainder` meets its contract. Assumes nothing.
 use mathlib.Core.Path.{sym}
 use native.Mathlib.Nat.{mod-eq_of_lt}
-use borrow.Author.Rules.{rules}
 use Rattle.finding.proofs.radix.remainder.Goals as goal
 
 pub returns-then-x-e : goal.returns-then-x-e

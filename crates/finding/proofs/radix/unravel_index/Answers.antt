@@ -1,14 +1,12 @@
 -- `finding::radix::unravel_index` meets its contract. The invariant: the axes before i are told, and what is left tells the others. Assumes nothing.
 use mathlib.Core.Path.{◌≡◌, ◌∙◌}
-use mathlib.Core.Logic.{⊎_elim}
 use mathlib.Core.Bool.{cond}
 use mathlib.Core.List.{List}
-use Prim.Native.Nat.{ℕ, suc, ◌+◌, ◌-◌, ◌≤◌}
+use Prim.Native.Nat.{ℕ, suc, ◌+◌, ◌≤◌}
 use native.Mathlib.Omega.{arith}
 use lib.Dec.{eqb}
-use lib.ListN.{length, get_or, drop}
-use borrow.Author.Rules.{rules}
-use Rattle.finding.proofs.Turns.{Telling, tell_none, tell_turn, tell_end, next_counter, same_counter, axis_there, extent_positive}
+use lib.ListN.{get_or, drop}
+use Rattle.finding.proofs.Turns.{tell_none, tell_turn, tell_end, next_counter, same_counter, axis_there, extent_positive}
 use Rattle.finding.proofs.radix.unravel_index.Goals as goal
 use Rattle.finding.proofs.radix.unravel_index.Goals.{then-fused-i-ne1, else-fused-i-ne1}
 

@@ -1,9 +1,6 @@
 -- `finding::radix::within` meets its contract. The invariant: what is left decides the whole. Assumes nothing.
-use mathlib.Core.Path.{◌≡◌, refl, sym, ◌∙◌}
-use Prim.Native.Nat.{◌-◌, ◌≤◌}
+use mathlib.Core.Path.{refl, sym, ◌∙◌}
 use native.Mathlib.Omega.{arith}
-use lib.ListN.{length, drop}
-use Rattle.strided.specs.Layout.{within}
 use Rattle.finding.proofs.Ranges.{other_length, one_below, one_above, all-below}
 use Rattle.finding.proofs.radix.within.Goals as goal
 

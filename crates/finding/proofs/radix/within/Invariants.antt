@@ -1,10 +1,8 @@
 -- The invariants of `radix::within`.
-use mathlib.Core.Path.{◌≡◌, refl, sym, ◌∙◌}
+use mathlib.Core.Path.{◌≡◌}
 use Prim.Native.Nat.{◌-◌, ◌≤◌}
-use native.Mathlib.Omega.{arith}
 use lib.ListN.{length, drop}
 use Rattle.strided.specs.Layout.{within}
-use Rattle.finding.proofs.Ranges.{other_length, one_below, one_above, all-below}
 use Rattle.finding.proofs.radix.within.Given as goal
 
 abbrev pub invariant-loop-i : goal.invariant-loop-i

@@ -1,5 +1,4 @@
 -- `gougelily::checks::gougelily_check_layout` meets its contract. Assumes nothing.
-use borrow.Author.Rules.{rules}
 use mathlib.Core.Path.{ap, ◌∙◌}
 use lib.IntN.{pos}
 use mir.Facts.{to_z-of_z}

@@ -4,7 +4,6 @@ use lib.IntN.{pos}
 use Rattle.strided.specs.Memory.{code_or}
 use Rattle.strided.specs.declared.Answer.{Answer}
 use mir.Facts.{to_z-of_z}
-use borrow.Author.Rules.{rules}
 use Rattle.gougelily.proofs.codes.code_of.Goals as goal
 use mir.Syntax.{w64}
 

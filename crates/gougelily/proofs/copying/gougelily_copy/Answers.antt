@@ -1,5 +1,4 @@
 -- `gougelily::copying::gougelily_copy` meets its contract: the copy is that of `export::copy`, its answer as a number. Assumes nothing.
-use borrow.Author.Rules.{rules}
 use mathlib.Core.Path.{ap, ◌∙◌}
 use lib.IntN.{pos}
 use mir.Facts.{to_z-of_z}

@@ -1,6 +1,5 @@
 -- `gougelily::descriptions::gougelily_from_numpy` meets its contract: what the text says is handed out, or every lent byte is kept.
 -- Assumes nothing.
-use borrow.Author.Rules.{rules}
 use mathlib.Core.Path.{refl, ◌∙◌}
 use mir.Facts.{to_z-of_z}
 use Rattle.numpy.specs.Memory.{described_memory}

@@ -1,5 +1,4 @@
 -- `gougelily::indices::gougelily_plan_index` meets its contract. Assumes nothing.
-use borrow.Author.Rules.{rules}
 use mathlib.Core.Path.{refl, ◌∙◌}
 use mir.Facts.{to_z-of_z}
 use Rattle.strided.specs.Index.{told_plan}

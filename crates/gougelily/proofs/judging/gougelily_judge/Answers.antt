@@ -1,5 +1,4 @@
 -- `gougelily::judging::gougelily_judge` meets its contract: the judgement is that of `judge`, its answer as a number. Assumes nothing.
-use borrow.Author.Rules.{rules}
 use mathlib.Core.Path.{sym, ap, ◌∙◌}
 use Prim.Native.Nat.{◌<◌, ◌^◌}
 use native.Mathlib.Omega.{arith}

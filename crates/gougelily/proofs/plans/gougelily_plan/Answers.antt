@@ -1,6 +1,5 @@
 -- `gougelily::plans::gougelily_plan` meets its contract: what is made where rows 1 to 6 and 24 pass, and every lent byte kept where one applies.
 -- Assumes nothing.
-use borrow.Author.Rules.{rules}
 use mathlib.Core.Path.{◌≡◌, refl, sym, ◌∙◌}
 use mathlib.Core.Option.{none}
 use mir.Facts.{to_z-of_z}

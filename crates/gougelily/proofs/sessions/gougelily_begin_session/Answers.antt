@@ -8,7 +8,6 @@ use Rattle.session.specs.Session.{Given, given, begun}
 use Rattle.session.specs.declared.Session.{Session}
 use Rattle.session.specs.Made.{Lent}
 use mir.Facts.{to_z-of_z}
-use borrow.Author.Rules.{rules}
 use Rattle.gougelily.proofs.Numbers.{handed}
 use Rattle.gougelily.proofs.sessions.gougelily_begin_session.Goals as goal
 use mir.Syntax.{w64}

@@ -3,7 +3,6 @@ use Rattle.session.specs.Session.{joined}
 use Rattle.session.specs.declared.Session.{Session}
 use mir.Facts.{to_z-of_z}
 use mathlib.Core.Path.{◌∙◌}
-use borrow.Author.Rules.{rules}
 use Rattle.gougelily.proofs.Numbers.{handed}
 use Rattle.gougelily.proofs.sessions.gougelily_join_session.Goals as goal
 use mir.Syntax.{w64}

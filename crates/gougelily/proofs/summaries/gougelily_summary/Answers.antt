@@ -1,6 +1,5 @@
 -- `gougelily::summaries::gougelily_summary` meets its contract: the summary in lent memory where the call is served, and every lent byte kept
 -- where it is refused. Assumes nothing.
-use borrow.Author.Rules.{rules}
 use mathlib.Core.Path.{◌≡◌, ap, ◌∙◌}
 use mathlib.Core.List.{[], ◌∷◌}
 use Prim.Native.Nat.{ℕ}

@@ -1,5 +1,4 @@
 -- `gougelily::visits::gougelily_visit` meets its contract. Assumes nothing.
-use borrow.Author.Rules.{rules}
 use mathlib.Core.Path.{◌≡◌, refl, sym, ap, ◌∙◌, subst}
 use mir.Facts.{to_z-of_z}
 use lib.IntN.{ℤ}

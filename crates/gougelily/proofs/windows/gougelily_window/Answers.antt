@@ -1,6 +1,5 @@
 -- `gougelily::windows::gougelily_window` meets its contract: what is made where no row applies, and every lent byte kept where one does.
 -- Assumes nothing.
-use borrow.Author.Rules.{rules}
 use mathlib.Core.Path.{◌≡◌, refl, sym, ◌∙◌}
 use mathlib.Core.Option.{none}
 use mir.Facts.{to_z-of_z}

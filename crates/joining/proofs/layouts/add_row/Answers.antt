@@ -3,7 +3,6 @@ use Rattle.joining.proofs.Laying.{row-blank, row-added}
 use mathlib.Core.List.{[]}
 use mathlib.Core.Path.{ap, ◌∙◌}
 use lib.ListN.{set, replicate}
-use borrow.Author.Rules.{rules}
 use Rattle.joining.proofs.layouts.add_row.Goals as goal
 
 pub index_order_into-requires : goal.index_order_into-requires

@@ -1,14 +1,8 @@
 -- The invariants of `layouts::clear_from`.
-use mathlib.Core.Path.{◌≡◌, ap, ap₂, ◌∙◌}
-use mathlib.Core.List.{List}
-use Prim.Native.Nat.{ℕ, suc, ◌-◌, ◌≤◌}
-use native.Mathlib.Nat.{le_antisymm}
-use native.Mathlib.Omega.{arith}
-use lib.ListN.{length, take, set}
+use mathlib.Core.Path.{◌≡◌}
+use Prim.Native.Nat.{◌-◌, ◌≤◌}
+use lib.ListN.{take}
 use Rattle.strided.specs.Base.{padded}
-use Rattle.laws.specs.Base.Arrays.{length-padded}
-use Rattle.joining.proofs.Closing.{clear_next}
-use borrow.Author.Rules.{rules}
 use Rattle.joining.proofs.layouts.clear_from.Given as goal
 
 abbrev pub invariant-loop-i : goal.invariant-loop-i

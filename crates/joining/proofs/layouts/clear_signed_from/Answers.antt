@@ -1,7 +1,7 @@
 -- `joining::layouts::clear_signed_from` meets its contract. Assumes nothing.
-use mathlib.Core.Path.{◌≡◌, ap, ap₂, ◌∙◌}
+use mathlib.Core.Path.{◌≡◌, ap, ◌∙◌}
 use mathlib.Core.List.{List}
-use Prim.Native.Nat.{ℕ, suc, ◌-◌, ◌≤◌}
+use Prim.Native.Nat.{ℕ, suc, ◌-◌}
 use native.Mathlib.Nat.{le_antisymm}
 use native.Mathlib.Omega.{arith}
 use lib.IntN.{ℤ, pos}
@@ -9,7 +9,6 @@ use lib.ListN.{length, take, set}
 use Rattle.strided.specs.Base.{padded}
 use Rattle.laws.specs.Base.Arrays.{length-padded}
 use Rattle.joining.proofs.Closing.{clear_next}
-use borrow.Author.Rules.{rules}
 use Rattle.joining.proofs.layouts.clear_signed_from.Goals as goal
 
 pub loop-i-init : goal.loop-i-init

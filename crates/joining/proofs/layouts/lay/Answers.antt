@@ -1,11 +1,9 @@
 -- `joining::layouts::lay` meets its contract. Assumes nothing.
-use mathlib.Core.Path.{◌≡◌, refl, ◌∙◌}
-use Prim.Native.Nat.{◌-◌, ◌≤◌}
+use mathlib.Core.Path.{refl, ◌∙◌}
+use Prim.Native.Nat.{◌-◌}
 use native.Mathlib.Omega.{arith}
-use lib.ListN.{length, take, length-set}
-use Rattle.strided.specs.Base.{padded}
+use lib.ListN.{length-set}
 use Rattle.joining.proofs.Laying.{lay_next, lay_over}
-use borrow.Author.Rules.{rules}
 use Rattle.joining.proofs.layouts.lay.Goals as goal
 
 pub loop-i-init : goal.loop-i-init

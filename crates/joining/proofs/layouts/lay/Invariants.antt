@@ -1,11 +1,8 @@
 -- The invariants of `layouts::lay`.
-use mathlib.Core.Path.{◌≡◌, refl, ◌∙◌}
+use mathlib.Core.Path.{◌≡◌}
 use Prim.Native.Nat.{◌-◌, ◌≤◌}
-use native.Mathlib.Omega.{arith}
-use lib.ListN.{length, take, length-set}
+use lib.ListN.{length, take}
 use Rattle.strided.specs.Base.{padded}
-use Rattle.joining.proofs.Laying.{lay_next, lay_over}
-use borrow.Author.Rules.{rules}
 use Rattle.joining.proofs.layouts.lay.Given as goal
 
 abbrev pub invariant-loop-i : goal.invariant-loop-i

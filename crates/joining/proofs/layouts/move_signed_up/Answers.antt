@@ -1,14 +1,13 @@
 -- `joining::layouts::move_signed_up` meets its contract. Assumes nothing.
-use mathlib.Core.Path.{◌≡◌, refl, sym, ap, ◌∙◌}
-use Prim.Native.Nat.{ℕ, ◌+◌, ◌-◌, ◌≤◌}
+use mathlib.Core.Path.{◌≡◌, ap, ◌∙◌}
+use Prim.Native.Nat.{ℕ, ◌+◌, ◌-◌}
 use native.Mathlib.Nat.{le_antisymm}
 use native.Mathlib.Omega.{arith}
 use lib.IntN.{pos}
 use mir.Facts.{to_z-of_z}
-use lib.ListN.{length, drop, length-set}
-use lib.Seq.{paste, paste-zero, length-paste}
+use lib.ListN.{drop, length-set}
+use lib.Seq.{paste, paste-zero}
 use Rattle.joining.proofs.Closing.{move_next}
-use borrow.Author.Rules.{rules}
 use Rattle.joining.proofs.layouts.move_signed_up.Goals as goal
 use mir.Syntax.{w64}
 

@@ -1,14 +1,8 @@
 -- The invariants of `layouts::move_signed_up`.
-use mathlib.Core.Path.{◌≡◌, refl, sym, ap, ◌∙◌}
-use Prim.Native.Nat.{ℕ, ◌+◌, ◌-◌, ◌≤◌}
-use native.Mathlib.Nat.{le_antisymm}
-use native.Mathlib.Omega.{arith}
-use lib.IntN.{pos}
-use mir.Facts.{to_z-of_z}
-use lib.ListN.{length, drop, length-set}
-use lib.Seq.{paste, paste-zero, length-paste}
-use Rattle.joining.proofs.Closing.{move_next}
-use borrow.Author.Rules.{rules}
+use mathlib.Core.Path.{◌≡◌}
+use Prim.Native.Nat.{◌+◌, ◌-◌, ◌≤◌}
+use lib.ListN.{length, drop}
+use lib.Seq.{paste}
 use Rattle.joining.proofs.layouts.move_signed_up.Given as goal
 
 abbrev pub invariant-loop-i : goal.invariant-loop-i

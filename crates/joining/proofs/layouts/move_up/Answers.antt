@@ -1,12 +1,11 @@
 -- `joining::layouts::move_up` meets its contract. Assumes nothing.
-use mathlib.Core.Path.{◌≡◌, refl, sym, ap, ◌∙◌}
-use Prim.Native.Nat.{ℕ, ◌+◌, ◌-◌, ◌≤◌}
+use mathlib.Core.Path.{◌≡◌, refl, ap, ◌∙◌}
+use Prim.Native.Nat.{ℕ, ◌+◌, ◌-◌}
 use native.Mathlib.Nat.{le_antisymm}
 use native.Mathlib.Omega.{arith}
-use lib.ListN.{length, drop, length-set}
-use lib.Seq.{paste, paste-zero, length-paste}
+use lib.ListN.{drop, length-set}
+use lib.Seq.{paste, paste-zero}
 use Rattle.joining.proofs.Closing.{move_next}
-use borrow.Author.Rules.{rules}
 use Rattle.joining.proofs.layouts.move_up.Goals as goal
 
 pub loop-i-init : goal.loop-i-init

@@ -1,6 +1,5 @@
 -- `joining::layouts::new_place` meets its contract. Assumes nothing.
 use borrow.Author.Tests.{lt-ltb, le-ltb}
-use borrow.Author.Rules.{rules}
 use Rattle.joining.proofs.layouts.new_place.Goals as goal
 
 pub returns-then-k-chosen : goal.returns-then-k-chosen

@@ -1,7 +1,6 @@
 -- `joining::layouts::old_place` meets its contract. Assumes nothing.
 use native.Mathlib.Numerals.{add-one}
 use borrow.Author.Tests.{lt-ltb, le-ltb}
-use borrow.Author.Rules.{rules}
 use Rattle.joining.proofs.layouts.old_place.Goals as goal
 
 pub returns-then-j-k : goal.returns-then-j-k

@@ -1,6 +1,5 @@
 -- `joining::layouts::purpose_without` meets its contract. Assumes nothing.
 use Rattle.joining.proofs.Laying.{into_gone, into_moves, fold_gone, fold_moves}
-use borrow.Author.Rules.{rules}
 use Rattle.joining.proofs.layouts.purpose_without.Goals as goal
 
 pub returns-then-c-k : goal.returns-then-c-k

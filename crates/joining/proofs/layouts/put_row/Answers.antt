@@ -1,12 +1,8 @@
 -- `joining::layouts::put_row` meets its contract. Assumes nothing.
 use Rattle.joining.proofs.Laying.{put_none, put_next, put-over}
-use mathlib.Core.Path.{◌≡◌, refl}
-use Prim.Native.Nat.{◌+◌, ◌-◌, ◌≤◌}
+use mathlib.Core.Path.{refl}
+use Prim.Native.Nat.{◌-◌}
 use native.Mathlib.Omega.{arith}
-use lib.ListN.{length, take}
-use mathlib.Core.List.{◌++◌}
-use Rattle.strided.specs.Base.{padded}
-use borrow.Author.Rules.{rules}
 use Rattle.joining.proofs.layouts.put_row.Goals as goal
 
 pub loop-i-init : goal.loop-i-init

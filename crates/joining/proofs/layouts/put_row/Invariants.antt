@@ -1,12 +1,9 @@
 -- The invariants of `layouts::put_row`.
-use Rattle.joining.proofs.Laying.{put_none, put_next, put-over}
-use mathlib.Core.Path.{◌≡◌, refl}
+use mathlib.Core.Path.{◌≡◌}
 use Prim.Native.Nat.{◌+◌, ◌-◌, ◌≤◌}
-use native.Mathlib.Omega.{arith}
 use lib.ListN.{length, take}
 use mathlib.Core.List.{◌++◌}
 use Rattle.strided.specs.Base.{padded}
-use borrow.Author.Rules.{rules}
 use Rattle.joining.proofs.layouts.put_row.Given as goal
 
 abbrev pub invariant-loop-i : goal.invariant-loop-i

@@ -1,14 +1,9 @@
 -- `joining::layouts::put_strides` meets its contract. Assumes nothing.
 use mir.Facts.{to_z-of_z}
 use Rattle.joining.proofs.Laying.{put_none, put_next, put-over}
-use mathlib.Core.Path.{◌≡◌}
-use Prim.Native.Nat.{◌+◌, ◌-◌, ◌≤◌}
+use Prim.Native.Nat.{◌-◌}
 use native.Mathlib.Omega.{arith}
-use lib.ListN.{length, take}
-use mathlib.Core.List.{◌++◌}
-use Rattle.strided.specs.Base.{padded}
 use lib.IntN.{pos}
-use borrow.Author.Rules.{rules}
 use Rattle.joining.proofs.layouts.put_strides.Goals as goal
 use mir.Syntax.{w64}
 

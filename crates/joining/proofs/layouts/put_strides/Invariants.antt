@@ -1,14 +1,10 @@
 -- The invariants of `layouts::put_strides`.
-use mir.Facts.{to_z-of_z}
-use Rattle.joining.proofs.Laying.{put_none, put_next, put-over}
 use mathlib.Core.Path.{◌≡◌}
 use Prim.Native.Nat.{◌+◌, ◌-◌, ◌≤◌}
-use native.Mathlib.Omega.{arith}
 use lib.ListN.{length, take}
 use mathlib.Core.List.{◌++◌}
 use Rattle.strided.specs.Base.{padded}
 use lib.IntN.{pos}
-use borrow.Author.Rules.{rules}
 use Rattle.joining.proofs.layouts.put_strides.Given as goal
 
 abbrev pub invariant-loop-i : goal.invariant-loop-i

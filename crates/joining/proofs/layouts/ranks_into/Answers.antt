@@ -1,6 +1,6 @@
 -- `joining::layouts::ranks_into` meets its contract. Assumes nothing.
-use mathlib.Core.Path.{◌≡◌, refl, ap, ◌∙◌}
-use Prim.Native.Nat.{ℕ, ◌-◌, ◌≤◌}
+use mathlib.Core.Path.{refl, ap, ◌∙◌}
+use Prim.Native.Nat.{ℕ, ◌-◌}
 use native.Mathlib.Omega.{arith}
 use lib.ListN.{get_or}
 use mathlib.Core.List.{[]}
@@ -9,7 +9,6 @@ use Rattle.laws.specs.Base.Filling.{fill_none}
 use native.Mathlib.Nat.{le_antisymm}
 use Rattle.joining.proofs.Laying.{rows-front, rows_next}
 use Rattle.session.specs.Made.{rows_of}
-use borrow.Author.Rules.{rules}
 use Rattle.joining.proofs.layouts.ranks_into.Goals as goal
 
 pub loop-k-init : goal.loop-k-init

@@ -1,14 +1,11 @@
 -- `joining::layouts::rows_without` meets its contract. Assumes nothing.
-use Rattle.joining.proofs.Laying.{stayed, stays-next, stays-over}
+use Rattle.joining.proofs.Laying.{stays-next, stays-over}
 use Rattle.session.specs.Afresh.{old-there}
-use mathlib.Core.Path.{◌≡◌}
-use Prim.Native.Nat.{◌-◌, ◌≤◌, ◌<◌}
+use Prim.Native.Nat.{◌-◌, ◌<◌}
 use native.Mathlib.Omega.{arith}
 use lib.ListN.{replicate}
-use Rattle.strided.specs.Base.{padded}
 use mathlib.Core.List.{[]}
 use Rattle.laws.specs.Base.Filling.{fill_none}
-use borrow.Author.Rules.{rules}
 use Rattle.joining.proofs.layouts.rows_without.Goals as goal
 
 pub loop-j-init : goal.loop-j-init

@@ -1,14 +1,10 @@
 -- The invariants of `layouts::rows_without`.
-use Rattle.joining.proofs.Laying.{stayed, stays-next, stays-over}
-use Rattle.session.specs.Afresh.{old-there}
+use Rattle.joining.proofs.Laying.{stayed}
 use mathlib.Core.Path.{◌≡◌}
 use Prim.Native.Nat.{◌-◌, ◌≤◌, ◌<◌}
-use native.Mathlib.Omega.{arith}
 use lib.ListN.{replicate}
 use Rattle.strided.specs.Base.{padded}
 use mathlib.Core.List.{[]}
-use Rattle.laws.specs.Base.Filling.{fill_none}
-use borrow.Author.Rules.{rules}
 use Rattle.joining.proofs.layouts.rows_without.Given as goal
 
 abbrev pub invariant-loop-j : goal.invariant-loop-j

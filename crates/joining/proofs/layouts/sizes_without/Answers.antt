@@ -3,12 +3,11 @@ use lib.Seq.{get_or-take, length-take-le}
 use Rattle.joining.proofs.Laying.{stayed, stays-next, stays-over}
 use Rattle.session.specs.Afresh.{old-there}
 use mathlib.Core.Path.{◌≡◌, sym, ap, ◌∙◌}
-use Prim.Native.Nat.{ℕ, ◌-◌, ◌≤◌, ◌<◌}
+use Prim.Native.Nat.{ℕ, ◌-◌, ◌<◌}
 use native.Mathlib.Omega.{arith}
 use lib.ListN.{length, take, set}
 use Rattle.strided.specs.Base.{padded}
 use Rattle.laws.specs.Base.Filling.{fill_none}
-use borrow.Author.Rules.{rules}
 use Rattle.joining.proofs.layouts.sizes_without.Goals as goal
 
 pub loop-j-init : goal.loop-j-init

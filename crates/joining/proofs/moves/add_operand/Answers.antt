@@ -1,11 +1,10 @@
 -- `joining::moves::add_operand` meets its contract. Assumes nothing.
-use mathlib.Core.Path.{◌≡◌, refl}
+use mathlib.Core.Path.{refl}
 use Prim.Native.Nat.{◌+◌, ◌≤◌}
 use native.Mathlib.Omega.{arith}
-use borrow.Author.Rules.{rules}
 use Rattle.session.specs.Afresh.{few_strides}
 use Rattle.session.proofs.Tabling.{table_even, table_front}
-use Rattle.joining.proofs.Moving.{stand_strides, stand_table, ranks-front, table_after, add_stands}
+use Rattle.joining.proofs.Moving.{stand_table, ranks-front, table_after, add_stands}
 use Rattle.joining.proofs.moves.add_operand.Goals as goal
 
 pub add_row-requires : goal.add_row-requires

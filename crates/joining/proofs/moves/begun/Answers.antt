@@ -1,5 +1,4 @@
 -- `joining::moves::begun` meets its contract. Assumes nothing.
-use borrow.Author.Rules.{rules}
 use Rattle.joining.proofs.moves.begun.Goals as goal
 
 pub returns : goal.returns

@@ -1,9 +1,8 @@
 -- `joining::moves::lay_operands` meets its contract. Assumes nothing.
-use mathlib.Core.Path.{◌≡◌, refl}
+use mathlib.Core.Path.{refl}
 use native.Mathlib.Omega.{arith}
 use lib.IntN.{pos}
 use lib.ListN.{length}
-use borrow.Author.Rules.{rules}
 use Rattle.laws.specs.Base.Filling.{fill_none}
 use Rattle.session.specs.Afresh.{few_strides}
 use Rattle.session.proofs.Tabling.{table_even}

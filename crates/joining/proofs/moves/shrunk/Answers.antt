@@ -1,7 +1,6 @@
 -- `joining::moves::shrunk` meets its contract. Assumes nothing.
-use mathlib.Core.Path.{◌≡◌, ap, ◌∙◌}
+use mathlib.Core.Path.{ap, ◌∙◌}
 use Prim.Native.Nat.{◌-◌}
-use borrow.Author.Rules.{rules}
 use Rattle.strided.specs.Layout.{lead}
 use Rattle.session.specs.Session.{kind_of, purpose_without}
 use Rattle.joining.proofs.moves.shrunk.Goals as goal

@@ -1,6 +1,5 @@
 -- `joining::values::begin` meets its contract. Assumes nothing.
 use mathlib.Core.Path.{◌∙◌}
-use borrow.Author.Rules.{rules}
 use Rattle.session.specs.Session.{given}
 use Rattle.joining.proofs.Answering.{begun-value}
 use Rattle.joining.proofs.values.begin.Goals as goal

@@ -1,6 +1,5 @@
 -- `joining::values::join` meets its contract. Assumes nothing.
 use mathlib.Core.Path.{◌∙◌}
-use borrow.Author.Rules.{rules}
 use Rattle.joining.proofs.Answering.{joined-value, joined_none}
 use Rattle.joining.proofs.values.join.Goals as goal
 

@@ -1,6 +1,5 @@
 -- `joining::values::leave` meets its contract. Assumes nothing.
 use mathlib.Core.Path.{◌∙◌}
-use borrow.Author.Rules.{rules}
 use Rattle.joining.proofs.Answering.{left-value, left_none}
 use Rattle.joining.proofs.values.leave.Goals as goal
 

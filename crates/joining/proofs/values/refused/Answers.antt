@@ -1,6 +1,5 @@
 -- `joining::values::refused` meets its contract. Assumes nothing.
 use mathlib.Core.Path.{◌∙◌}
-use borrow.Author.Rules.{rules}
 use Rattle.joining.proofs.Answering.{none_value}
 use Rattle.joining.proofs.values.refused.Goals as goal
 

@@ -1,6 +1,5 @@
 -- `judge::line::read_front` meets its contract: `V` in front of two numbers.
 -- Assumes nothing.
-use borrow.Author.Rules.{rules}
 use Rattle.judge.proofs.Fronts.{front-told, front_none}
 use Rattle.judge.proofs.line.read_front.Goals as goal
 

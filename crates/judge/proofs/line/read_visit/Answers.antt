@@ -1,7 +1,6 @@
 -- `judge::line::read_visit` meets its contract: a law for each way out: no front, an axis or a length that may not be, no row, all.
 -- Assumes nothing.
 use mathlib.Core.Path.{sym, ◌∙◌}
-use borrow.Author.Rules.{rules}
 use Rattle.judge.proofs.Fronts.{visit_told, visit_open, visit_unsound, visit_none}
 use Rattle.judge.proofs.line.read_visit.Goals as goal
 

@@ -2,10 +2,9 @@
 -- Assumes nothing.
 use mathlib.Core.Path.{◌≡◌, refl, ap, ◌∙◌}
 use mathlib.Core.List.{List, ◌++◌}
-use Prim.Native.Nat.{ℕ, ◌+◌, ◌<◌, ◌≤◌, ◌-◌}
+use Prim.Native.Nat.{ℕ, ◌+◌, ◌<◌, ◌-◌}
 use native.Mathlib.Omega.{arith}
 use lib.ListN.{set, length-set, length, drop, replicate}
-use borrow.Author.Rules.{rules}
 use Rattle.judge.proofs.Steps.{sweep_turn, sweep_end}
 use Rattle.judge.proofs.marks.clear.Goals as goal
 

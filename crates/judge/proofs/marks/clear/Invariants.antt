@@ -1,11 +1,8 @@
 -- The invariants of `marks::clear`.
-use mathlib.Core.Path.{◌≡◌, refl, ap, ◌∙◌}
-use mathlib.Core.List.{List, ◌++◌}
-use Prim.Native.Nat.{ℕ, ◌+◌, ◌<◌, ◌≤◌, ◌-◌}
-use native.Mathlib.Omega.{arith}
-use lib.ListN.{set, length-set, length, drop, replicate}
-use borrow.Author.Rules.{rules}
-use Rattle.judge.proofs.Steps.{sweep_turn, sweep_end}
+use mathlib.Core.Path.{◌≡◌}
+use mathlib.Core.List.{◌++◌}
+use Prim.Native.Nat.{◌+◌, ◌≤◌, ◌-◌}
+use lib.ListN.{length, drop, replicate}
 use Rattle.judge.proofs.marks.clear.Given as goal
 
 abbrev pub invariant-loop-i : goal.invariant-loop-i

@@ -1,7 +1,6 @@
 -- `judge::marks::decide` meets its contract.
 -- Assumes nothing.
 use mathlib.Core.Path.{sym, ◌∙◌}
-use borrow.Author.Rules.{rules}
 use Rattle.judge.specs.Marks.{decided}
 use Rattle.judge.proofs.marks.decide.Goals as goal
 

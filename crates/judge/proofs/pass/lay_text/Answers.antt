@@ -1,10 +1,8 @@
 -- `judge::pass::lay_text` meets its contract: the loop keeps `Onward`: the runs before p are laid. A line is always there, since the first pass found it.
 -- Assumes nothing.
 use Prim.Native.Nat.{◌-◌}
-use lib.ListN.{length}
 use borrow.Author.Rules.{rules}
-use Rattle.judge.specs.Readers.{Roomy}
-use Rattle.judge.proofs.Passing.{Onward, onward_start, onward_safe, onward_less, onward_turn, onward_none, onward_end}
+use Rattle.judge.proofs.Passing.{onward_start, onward_safe, onward_less, onward_turn, onward_none, onward_end}
 use Rattle.judge.proofs.pass.lay_text.Goals as goal
 
 pub loop-p-init : goal.loop-p-init

@@ -1,9 +1,8 @@
 -- The invariants of `pass::lay_text`.
 use Prim.Native.Nat.{◌-◌}
 use lib.ListN.{length}
-use borrow.Author.Rules.{rules}
 use Rattle.judge.specs.Readers.{Roomy}
-use Rattle.judge.proofs.Passing.{Onward, onward_start, onward_safe, onward_less, onward_turn, onward_none, onward_end}
+use Rattle.judge.proofs.Passing.{Onward}
 use Rattle.judge.proofs.pass.lay_text.Given as goal
 
 abbrev pub invariant-loop-p : goal.invariant-loop-p

@@ -1,7 +1,6 @@
 -- `judge::pass::lay_visit` meets its contract: the index is read back from the array, and its run stays in the buffer.
 -- Assumes nothing.
 use mathlib.Core.Path.{sym}
-use borrow.Author.Rules.{rules}
 use Rattle.judge.proofs.Passing.{index_long, lay_within, lay_nozero, lay_axis, lay_below, lays_to, lays_bad}
 use Rattle.judge.proofs.pass.lay_visit.Goals as goal
 

@@ -1,9 +1,8 @@
 -- `judge::pass::see_text` meets its contract: the loop keeps `Checking`: whoever goes through the lines that are left has gone through all.
 -- Assumes nothing.
 use Prim.Native.Nat.{◌-◌}
-use lib.ListN.{length}
 use borrow.Author.Rules.{rules}
-use Rattle.judge.proofs.Passing.{Checking, checking_start, checking_less, checking_turn, checking_bad, checking_end}
+use Rattle.judge.proofs.Passing.{checking_start, checking_less, checking_turn, checking_bad, checking_end}
 use Rattle.judge.proofs.pass.see_text.Goals as goal
 
 pub loop-p-init : goal.loop-p-init

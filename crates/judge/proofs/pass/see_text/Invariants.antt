@@ -1,8 +1,7 @@
 -- The invariants of `pass::see_text`.
 use Prim.Native.Nat.{◌-◌}
 use lib.ListN.{length}
-use borrow.Author.Rules.{rules}
-use Rattle.judge.proofs.Passing.{Checking, checking_start, checking_less, checking_turn, checking_bad, checking_end}
+use Rattle.judge.proofs.Passing.{Checking}
 use Rattle.judge.proofs.pass.see_text.Given as goal
 
 abbrev pub invariant-loop-p : goal.invariant-loop-p

@@ -2,7 +2,6 @@
 -- Assumes nothing.
 use mathlib.Core.Path.{sym, ap, ◌∙◌}
 use mathlib.Core.Bool.{true, false, not}
-use borrow.Author.Rules.{rules}
 use Rattle.judge.proofs.Passing.{index_long, sees_to, sees_bad}
 use Rattle.judge.proofs.pass.see_visit.Goals as goal
 

@@ -1,6 +1,5 @@
 -- `judge::run::hit` meets its contract.
 -- Assumes nothing.
-use borrow.Author.Rules.{rules}
 use Rattle.judge.proofs.run.hit.Goals as goal
 
 pub returns : goal.returns

@@ -1,9 +1,9 @@
 -- `judge::run::place_of` meets its contract: Horner over the axes from i on.
 -- Assumes nothing.
 use mathlib.Core.Path.{◌≡◌, ap, ◌∙◌}
-use Prim.Native.Nat.{ℕ, ◌+◌, ◌≤◌, ◌-◌}
+use Prim.Native.Nat.{ℕ, ◌+◌, ◌-◌}
 use native.Mathlib.Omega.{arith}
-use lib.ListN.{length, drop}
+use lib.ListN.{drop}
 use borrow.Author.Rules.{rules}
 use Rattle.laws.specs.Base.Layouts.{within-length}
 use Rattle.judge.specs.Laying.{place}

@@ -1,16 +1,10 @@
 -- The invariants of `run::stays`.
-use mathlib.Core.Path.{◌≡◌, sym, ap, ◌∙◌}
+use mathlib.Core.Path.{◌≡◌}
 use mathlib.Core.Bool.{true}
-use Prim.Native.Nat.{ℕ, ◌+◌, ◌≤◌, ◌-◌}
-use native.Mathlib.Nat.{le_antisymm}
-use native.Mathlib.Omega.{arith}
-use lib.Dec.{leb}
-use lib.ListN.{get_or, length}
-use borrow.Author.Rules.{rules}
+use Prim.Native.Nat.{◌≤◌, ◌-◌}
+use lib.ListN.{length}
 use Rattle.strided.specs.Base.{every}
-use Rattle.judge.specs.Readers.{stays_at, stays}
-use Rattle.laws.specs.Base.Ranges.{every-next}
-use Rattle.judge.proofs.Steps.{every_none, every_fails_at}
+use Rattle.judge.specs.Readers.{stays_at}
 use Rattle.judge.proofs.run.stays.Given as goal
 
 abbrev pub invariant-loop-i : goal.invariant-loop-i

@@ -1,10 +1,8 @@
 -- `l1::L1Sets::fit` meets its contract. The loop goes down from the outermost axis; the invariant: `fit_from` on the axes below n gives what is
 -- wanted. Each turn is a case of `fit_from` (laws, Cut/Cases), with its tests by the L1Sets (Loads). Assumes nothing.
-use borrow.Author.Rules.{rules}
 use native.Mathlib.Omega.{arith}
 use mathlib.Core.Path.{◌≡◌, sym, ap, ◌∙◌}
 use mathlib.Core.List.{List}
-use mathlib.Core.Logic.{⊎_elim}
 use mathlib.Core.Bool.{not, ◌&&◌}
 use Prim.Native.Nat.{ℕ, ◌+◌, ◌-◌, ◌*◌, ◌≤◌, ◌<◌}
 use lib.Dec.{ltb, eqb}
@@ -13,7 +11,7 @@ use lib.ListN.{get_or, set}
 use lib.Seq.{set-set}
 use mir.Syntax.{w64}
 use mir.Val.{of_z}
-use Rattle.strided.specs.Fit.{load, shortens, fit_from, fitted}
+use Rattle.strided.specs.Fit.{load, shortens, fit_from}
 use Rattle.laws.specs.Base.Bits.{zero_bits}
 use Rattle.laws.specs.Cut.Cases.{shortens_above, fit_none, fit_skip, fit_on, fit_last, fitted_small, fitted_big}
 use Rattle.l1.specs.Live.{load_by, most_by, chosen_size}

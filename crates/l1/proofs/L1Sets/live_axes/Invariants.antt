@@ -1,21 +1,14 @@
 -- The invariants of `L1Sets::live_axes`.
-use native.Mathlib.Omega.{arith}
-use mathlib.Core.Path.{◌≡◌, sym, ap, ◌∙◌}
+use mathlib.Core.Path.{◌≡◌}
 use mathlib.Core.Bool.{Bool}
 use mathlib.Core.List.{List}
-use Prim.Native.Nat.{ℕ, ◌+◌, ◌-◌, ◌*◌, ◌%◌, ◌^◌, ◌≤◌}
-use native.Mathlib.Nat.{sub-zero}
-use lib.Dec.{ltb, eqb}
-use lib.Pow.{pow_mono}
-use mir.Val.{bool_byte}
-use borrow.Author.Tests.{lt-ltb, le-ltb, eq-eqb, ne_eqb}
+use Prim.Native.Nat.{ℕ, ◌-◌, ◌≤◌}
+use lib.Dec.{ltb}
 use Rattle.strided.specs.Base.{seek}
 use Rattle.strided.specs.Region.{byte_at}
 use Rattle.strided.specs.Fit.{reuse}
 use Rattle.strided.specs.declared.Machine.{Machine}
-use Rattle.laws.specs.Cut.Ranges.{seek_none, seek_hit, seek_miss}
-use Rattle.l1.specs.Live.{Holds, aliases_at, live_count}
-use Rattle.l1.proofs.Loads.{holds_none, holds_more}
+use Rattle.l1.specs.Live.{Holds, aliases_at}
 use Rattle.l1.proofs.L1Sets.live_axes.Given as goal
 
 -- whether operand k's byte stride on axis j is below a line

@@ -1,13 +1,6 @@
 -- The invariants of `L1Sets::operand_load`.
-use native.Mathlib.Omega.{arith}
-use mathlib.Core.Path.{◌≡◌, ap, ◌∙◌}
-use mathlib.Core.Logic.{⊎_elim}
-use Prim.Native.Nat.{ℕ, ◌-◌, ◌*◌, ◌≤◌, min}
-use native.Mathlib.Nat.{mul-one}
-use lib.ListN.{get_or}
-use borrow.Author.Tests.{eq-eqb, ne_eqb}
-use Rattle.laws.specs.Cut.Saturate.{min-mul-left}
-use Rattle.l1.proofs.Loads.{product_by_none, product_by_more}
+use mathlib.Core.Path.{◌≡◌}
+use Prim.Native.Nat.{◌-◌, ◌≤◌, min}
 use Rattle.l1.specs.Live.{top, product_by}
 use Rattle.l1.proofs.L1Sets.operand_load.Given as goal
 

@@ -1,10 +1,9 @@
 -- `l1::L1Sets::widen` meets its contract. The invariant: the load fits at block `lo` and at none above `hi`; whatever block axis i was tried
 -- with, the other blocks stay. The load grows with the block, so that one trial decides for all on its side. Assumes nothing.
-use borrow.Author.Rules.{rules}
 use native.Mathlib.Omega.{arith}
 use mathlib.Core.Path.{◌≡◌, refl, sym, ap, ◌∙◌}
 use mathlib.Core.List.{List}
-use Prim.Native.Nat.{ℕ, ◌-◌, ◌/◌, ◌≤◌, ◌<◌, min}
+use Prim.Native.Nat.{ℕ, ◌-◌, ◌/◌, min}
 use lib.Dec.{leb}
 use lib.ListN.{set}
 use lib.Seq.{set-set}

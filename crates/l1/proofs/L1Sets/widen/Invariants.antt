@@ -1,16 +1,8 @@
 -- The invariants of `L1Sets::widen`.
-use borrow.Author.Rules.{rules}
-use native.Mathlib.Omega.{arith}
-use mathlib.Core.Path.{◌≡◌, refl, sym, ap, ◌∙◌}
-use mathlib.Core.List.{List}
-use Prim.Native.Nat.{ℕ, ◌-◌, ◌/◌, ◌≤◌, ◌<◌, min}
-use lib.Dec.{leb}
+use mathlib.Core.Path.{◌≡◌}
+use Prim.Native.Nat.{ℕ, ◌-◌, ◌≤◌, ◌<◌}
 use lib.ListN.{set}
-use lib.Seq.{set-set}
-use borrow.Author.Tests.{le-leb, lt-leb}
-use Rattle.laws.specs.Cut.Ranges.{greatest_is}
-use Rattle.l1.specs.Live.{top, load_by, most_by}
-use Rattle.l1.proofs.Loads.{load_by_mono}
+use Rattle.l1.specs.Live.{load_by}
 use Rattle.l1.proofs.L1Sets.widen.Given as goal
 
 abbrev pub invariant-loop-lo : goal.invariant-loop-lo

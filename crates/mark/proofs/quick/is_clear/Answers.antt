@@ -9,7 +9,6 @@ use Rattle.laws.specs.Base.Bits.{read_back}
 use Rattle.laws.specs.Refusals.Reaches.{term_reach}
 use Rattle.laws.specs.Mark.Sizes.{size_at}
 use Rattle.mark.proofs.Parts.{size_le, clear_small, clear_test}
-use borrow.Author.Rules.{rules}
 use Rattle.mark.proofs.quick.is_clear.Goals as goal
 
 pub returns-then-extent-le1 : goal.returns-then-extent-le1

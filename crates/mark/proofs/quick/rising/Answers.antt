@@ -1,9 +1,7 @@
 -- `mark::quick::rising` meets its contract. The invariant: the axes before i pass. Assumes nothing.
 use mathlib.Core.Path.{sym, ◌∙◌}
 use mathlib.Core.Bool.{false≢true}
-use Prim.Native.Nat.{ℕ, ◌-◌, ◌≤◌, ◌<◌}
 use native.Mathlib.Omega.{arith}
-use lib.ListN.{length}
 use borrow.Author.Count.{below_more}
 use Rattle.laws.specs.Mark.Sizes.{ClearAt}
 use Rattle.laws.specs.Mark.Rises.{clear_rises, unclear_rises}

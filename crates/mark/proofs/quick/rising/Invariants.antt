@@ -1,12 +1,7 @@
 -- The invariants of `quick::rising`.
-use mathlib.Core.Path.{sym, ◌∙◌}
-use mathlib.Core.Bool.{false≢true}
 use Prim.Native.Nat.{ℕ, ◌-◌, ◌≤◌, ◌<◌}
-use native.Mathlib.Omega.{arith}
 use lib.ListN.{length}
-use borrow.Author.Count.{below_more}
 use Rattle.laws.specs.Mark.Sizes.{ClearAt}
-use Rattle.laws.specs.Mark.Rises.{clear_rises, unclear_rises}
 use Rattle.mark.proofs.quick.rising.Given as goal
 
 abbrev pub invariant-loop-i : goal.invariant-loop-i

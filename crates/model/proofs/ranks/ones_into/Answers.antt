@@ -1,9 +1,8 @@
 -- `model::ranks::ones_into` meets its contract. The invariant: the first i places hold 1, the others 0. Assumes nothing.
 use mathlib.Core.Path.{◌≡◌, ap, ◌∙◌}
 use mathlib.Core.List.{map}
-use Prim.Native.Nat.{ℕ, ◌-◌, ◌≤◌, ◌<◌}
+use Prim.Native.Nat.{ℕ, ◌-◌, ◌<◌}
 use native.Mathlib.Omega.{arith}
-use borrow.Author.Rules.{rules}
 use Rattle.strided.specs.Base.{padded, run}
 use Rattle.laws.specs.Base.Filling.{rows_alike, fill_none, fill_next}
 use Rattle.model.proofs.ranks.ones_into.Goals as goal

@@ -1,11 +1,8 @@
 -- The invariants of `ranks::ones_into`.
-use mathlib.Core.Path.{◌≡◌, ap, ◌∙◌}
+use mathlib.Core.Path.{◌≡◌}
 use mathlib.Core.List.{map}
-use Prim.Native.Nat.{ℕ, ◌-◌, ◌≤◌, ◌<◌}
-use native.Mathlib.Omega.{arith}
-use borrow.Author.Rules.{rules}
+use Prim.Native.Nat.{ℕ, ◌-◌, ◌≤◌}
 use Rattle.strided.specs.Base.{padded, run}
-use Rattle.laws.specs.Base.Filling.{rows_alike, fill_none, fill_next}
 use Rattle.model.proofs.ranks.ones_into.Given as goal
 
 -- the rank of each axis

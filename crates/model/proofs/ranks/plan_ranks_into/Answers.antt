@@ -2,16 +2,15 @@
 use mathlib.Core.Path.{◌≡◌, sym, ◌∙◌, ap}
 use mathlib.Core.Bool.{cond}
 use mathlib.Core.List.{List, [], map}
-use Prim.Native.Nat.{ℕ, ◌+◌, ◌*◌, ◌-◌, ◌≤◌, ◌<◌}
+use Prim.Native.Nat.{ℕ, ◌+◌, ◌*◌, ◌-◌, ◌<◌}
 use native.Mathlib.Omega.{arith}
 use lib.Dec.{eqb}
 use lib.IntN.{ℤ}
 use lib.ListN.{length, get_or, set, replicate, take, drop, length-take, length-drop}
-use borrow.Author.Rules.{rules}
 use Rattle.strided.specs.Base.{padded, run}
 use Rattle.strided.specs.Ranks.{ranks}
 use Rattle.laws.specs.Base.Filling.{fill_none, fill_next, fill_here}
-use Rattle.laws.specs.Plan.Ranks.{rank_row, ranks-rows}
+use Rattle.laws.specs.Plan.Ranks.{ranks-rows}
 use Rattle.model.proofs.ranks.plan_ranks_into.Goals as goal
 use Rattle.model.proofs.ranks.plan_ranks_into.Invariants.{row_of}
 

@@ -1,17 +1,11 @@
 -- The invariants of `ranks::plan_ranks_into`.
-use mathlib.Core.Path.{◌≡◌, sym, ◌∙◌, ap}
-use mathlib.Core.Bool.{cond}
-use mathlib.Core.List.{List, [], map}
-use Prim.Native.Nat.{ℕ, ◌+◌, ◌*◌, ◌-◌, ◌≤◌, ◌<◌}
-use native.Mathlib.Omega.{arith}
-use lib.Dec.{eqb}
+use mathlib.Core.Path.{◌≡◌}
+use mathlib.Core.List.{List, map}
+use Prim.Native.Nat.{ℕ, ◌-◌, ◌≤◌}
 use lib.IntN.{ℤ}
-use lib.ListN.{length, get_or, set, replicate, take, drop, length-take, length-drop}
-use borrow.Author.Rules.{rules}
+use lib.ListN.{length, replicate}
 use Rattle.strided.specs.Base.{padded, run}
-use Rattle.strided.specs.Ranks.{ranks}
-use Rattle.laws.specs.Base.Filling.{fill_none, fill_next, fill_here}
-use Rattle.laws.specs.Plan.Ranks.{rank_row, ranks-rows}
+use Rattle.laws.specs.Plan.Ranks.{rank_row}
 use Rattle.model.proofs.ranks.plan_ranks_into.Given as goal
 
 -- the row of operand k, as an array

@@ -1,5 +1,4 @@
 -- `model::ranks::ranks_into` meets its contract: each way out rewrites by the test that led there. Assumes nothing.
-use borrow.Author.Rules.{rules}
 use borrow.Author.Tests.{eq-eqb, ne_eqb}
 use Rattle.model.proofs.ranks.ranks_into.Goals as goal
 

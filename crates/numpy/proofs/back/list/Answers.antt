@@ -8,7 +8,6 @@ use mir.Syntax.{w64}
 use mir.Facts.{to_z_pos, to_z-of_z}
 use Rattle.numpy.specs.Readers.{spelled}
 use Rattle.numpy.proofs.Spelling.{answering, listed_full, listed_filled}
-use borrow.Author.Rules.{rules}
 use Rattle.numpy.proofs.back.list.Goals as goal
 
 pub returns-then-room-n : goal.returns-then-room-n

@@ -2,7 +2,6 @@
 -- Assumes nothing.
 use native.Mathlib.Omega.{arith}
 use Rattle.numpy.proofs.Spelling.{spelled_measure}
-use borrow.Author.Rules.{rules}
 use Rattle.numpy.proofs.back.measure.Goals as goal
 
 pub returns : goal.returns

@@ -3,7 +3,6 @@
 use native.Mathlib.Omega.{arith}
 use Rattle.writing.proofs.Putting.{wrote_then, wrote_is, wrote_first}
 use Rattle.numpy.proofs.Spelling.{head_of, shape_of, bytes_of, spelled_parts, spelled-length}
-use borrow.Author.Rules.{rules}
 use Rattle.numpy.proofs.back.write.Goals as goal
 
 pub put_line-a-requires : goal.put_line-a-requires

@@ -1,7 +1,6 @@
 -- `numpy::lines::read_description` meets its contract: a law for each way out.
 -- Assumes nothing.
 use Rattle.numpy.proofs.Forms.{text_long, text_head, text_lines}
-use borrow.Author.Rules.{rules}
 use Rattle.numpy.proofs.lines.read_description.Goals as goal
 
 pub returns-then-s-gt-MAX_TEXT : goal.returns-then-s-gt-MAX_TEXT

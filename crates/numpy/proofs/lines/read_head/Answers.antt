@@ -1,7 +1,6 @@
 -- `numpy::lines::read_head` meets its contract: a law for each way out: all, no line's end, no numbers, another letter.
 -- Assumes nothing.
 use Rattle.numpy.proofs.Forms.{head-told, head_end, head-counts, head_letter}
-use borrow.Author.Rules.{rules}
 use Rattle.numpy.proofs.lines.read_head.Goals as goal
 
 pub returns-in-To-behind : goal.returns-in-To-behind

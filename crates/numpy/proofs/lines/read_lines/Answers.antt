@@ -1,7 +1,6 @@
 -- `numpy::lines::read_lines` meets its contract: a law for each way out.
 -- Assumes nothing.
 use Rattle.numpy.proofs.Forms.{lines_bad, lines_packed, lines_strides, lines_more, lines_given}
-use borrow.Author.Rules.{rules}
 use Rattle.numpy.proofs.lines.read_lines.Goals as goal
 
 pub returns-then-s-next : goal.returns-then-s-next

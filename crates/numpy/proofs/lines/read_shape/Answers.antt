@@ -3,7 +3,6 @@
 use Rattle.strided.specs.Digits.{digits_of}
 use Rattle.strided.specs.Text.{FitU}
 use Rattle.numpy.proofs.Forms.{line_there, line_row, line_letter}
-use borrow.Author.Rules.{rules}
 use Rattle.numpy.proofs.lines.read_shape.Goals as goal
 
 pub returns-in-To-read_row : goal.returns-in-To-read_row

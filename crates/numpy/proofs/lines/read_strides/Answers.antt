@@ -5,7 +5,6 @@ use lib.ListN.{length-drop}
 use Rattle.strided.specs.Digits.{signed_of}
 use Rattle.strided.specs.Text.{FitI}
 use Rattle.numpy.proofs.Forms.{line_there, line_row, line_letter}
-use borrow.Author.Rules.{rules}
 use Rattle.numpy.proofs.lines.read_strides.Goals as goal
 
 pub read_signed_row-requires : goal.read_signed_row-requires

@@ -2,7 +2,6 @@
 -- Assumes nothing.
 use mathlib.Core.Path.{sym, ◌∙◌}
 use borrow.Author.Tests.{eq-eqb, ne_eqb}
-use borrow.Author.Rules.{rules}
 use Rattle.numpy.proofs.rows.given_wrong.Goals as goal
 
 pub returns-then-size-eq0 : goal.returns-then-size-eq0

@@ -3,7 +3,6 @@
 use mathlib.Core.Path.{sym, ◌∙◌}
 use borrow.Author.Tests.{eq-eqb, ne_eqb}
 use Rattle.numpy.proofs.Peaks.{peaked_test}
-use borrow.Author.Rules.{rules}
 use Rattle.numpy.proofs.rows.packed_wrong.Goals as goal
 
 pub returns-then-size-eq0 : goal.returns-then-size-eq0

@@ -6,9 +6,8 @@ use Rattle.strided.specs.Digits.{digits_of}
 use Rattle.strided.specs.Text.{FitU}
 use Rattle.laws.specs.Text.Numbers.{digits_once}
 use Rattle.numpy.specs.Readers.{Peaked}
-use Rattle.numpy.proofs.Reading.{Reading, reading_start, reading_turn, reading_bad, reading_end}
+use Rattle.numpy.proofs.Reading.{reading_start, reading_turn, reading_bad, reading_end}
 use Rattle.numpy.proofs.Peaks.{peaked_more}
-use borrow.Author.Rules.{rules}
 use Rattle.numpy.proofs.rows.peak.Goals as goal
 
 pub loop-i-init : goal.loop-i-init

@@ -1,13 +1,9 @@
 -- The invariants of `rows::peak`.
-use mathlib.Core.Path.{refl}
 use Prim.Native.Nat.{◌-◌}
 use Rattle.strided.specs.Digits.{digits_of}
 use Rattle.strided.specs.Text.{FitU}
-use Rattle.laws.specs.Text.Numbers.{digits_once}
 use Rattle.numpy.specs.Readers.{Peaked}
-use Rattle.numpy.proofs.Reading.{Reading, reading_start, reading_turn, reading_bad, reading_end}
-use Rattle.numpy.proofs.Peaks.{peaked_more}
-use borrow.Author.Rules.{rules}
+use Rattle.numpy.proofs.Reading.{Reading}
 use Rattle.numpy.proofs.rows.peak.Given as goal
 
 abbrev pub invariant-loop-i : goal.invariant-loop-i

@@ -9,10 +9,9 @@ use Rattle.strided.specs.Digits.{signed_of}
 use Rattle.strided.specs.Text.{FitI}
 use Rattle.laws.specs.Text.Numbers.{signed_once}
 use Rattle.laws.specs.Base.Bits.{read_back}
-use Rattle.numpy.specs.Numpy.{any_of, no_multiple}
+use Rattle.numpy.specs.Numpy.{no_multiple}
 use Rattle.numpy.specs.Reversing.{any_append}
-use Rattle.numpy.proofs.Reading.{Reading, reading_start, reading_turn, reading_bad, reading_end}
-use borrow.Author.Rules.{rules}
+use Rattle.numpy.proofs.Reading.{reading_start, reading_turn, reading_bad, reading_end}
 use Rattle.numpy.proofs.rows.some_no_multiple.Goals as goal
 use Rattle.numpy.proofs.rows.some_no_multiple.Invariants.{Found}
 

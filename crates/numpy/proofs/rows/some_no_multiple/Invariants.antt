@@ -1,17 +1,13 @@
 -- The invariants of `rows::some_no_multiple`.
-use mathlib.Core.Path.{◌≡◌, refl, sym, ap, ap₂, ◌∙◌}
-use mathlib.Core.Bool.{Bool, true, false, ◌||◌}
-use mathlib.Core.List.{List, [], ◌∷◌, ◌++◌}
+use mathlib.Core.Path.{◌≡◌}
+use mathlib.Core.Bool.{Bool}
+use mathlib.Core.List.{List}
 use Prim.Native.Nat.{ℕ, ◌-◌}
 use lib.IntN.{ℤ}
 use Rattle.strided.specs.Digits.{signed_of}
 use Rattle.strided.specs.Text.{FitI}
-use Rattle.laws.specs.Text.Numbers.{signed_once}
-use Rattle.laws.specs.Base.Bits.{read_back}
 use Rattle.numpy.specs.Numpy.{any_of, no_multiple}
-use Rattle.numpy.specs.Reversing.{any_append}
-use Rattle.numpy.proofs.Reading.{Reading, reading_start, reading_turn, reading_bad, reading_end}
-use borrow.Author.Rules.{rules}
+use Rattle.numpy.proofs.Reading.{Reading}
 use Rattle.numpy.proofs.rows.some_no_multiple.Given as goal
 
 -- what is known of the byte strides read

@@ -6,7 +6,6 @@ use native.Mathlib.Omega.{arith}
 use Prim.Native.Nat.{ℕ, ◌*◌, ◌^◌, ◌<◌}
 use lib.IntN.{pos, nat_abs}
 use lib.Signed.{lt_z}
-use borrow.Author.Rules.{rules}
 use mir.Facts.{to_z-of_z}
 use Rattle.laws.specs.Base.Signs.{back}
 use Rattle.numpy.specs.Numpy.{byte_stride}

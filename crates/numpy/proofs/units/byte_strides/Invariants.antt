@@ -1,18 +1,11 @@
 -- The invariants of `units::byte_strides`.
-use mathlib.Core.Path.{◌≡◌, ap, ◌∙◌}
+use mathlib.Core.Path.{◌≡◌}
 use mathlib.Core.List.{map}
-use Prim.Native.Nat.{◌+◌, ◌-◌, ◌≤◌}
-use native.Mathlib.Omega.{arith}
-use lib.IntN.{ℤ, pos}
-use lib.ListN.{length, get_or, take}
-use mir.Facts.{to_z-of_z}
+use Prim.Native.Nat.{◌-◌, ◌≤◌}
+use lib.IntN.{pos}
+use lib.ListN.{length, take}
 use Rattle.strided.specs.Base.{padded}
-use Rattle.laws.specs.Base.Bits.{read_back}
-use Rattle.laws.specs.Base.Filling.{fill_none}
-use Rattle.numpy.specs.Numpy.{reversed, byte_stride, stride_out}
-use Rattle.numpy.specs.Reversing.{any_at}
-use Rattle.numpy.proofs.Fills.{filling_turn, filling_end, turned-length, turned-map}
-use borrow.Author.Rules.{rules}
+use Rattle.numpy.specs.Numpy.{reversed, byte_stride}
 use Rattle.numpy.proofs.units.byte_strides.Given as goal
 
 abbrev pub invariant-loop-i : goal.invariant-loop-i

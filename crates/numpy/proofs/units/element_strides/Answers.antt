@@ -1,19 +1,17 @@
 -- `numpy::units::element_strides` meets its contract: after i turns the array holds the last i strides, the last one first.
 -- Assumes nothing.
-use mathlib.Core.Path.{◌≡◌, ap, ◌∙◌}
+use mathlib.Core.Path.{ap, ◌∙◌}
 use mathlib.Core.List.{map}
 use Prim.Native.Nat.{◌+◌, ◌-◌, ◌≤◌}
 use native.Mathlib.Omega.{arith}
 use lib.IntN.{ℤ, pos}
-use lib.ListN.{length, get_or, take}
+use lib.ListN.{length, get_or}
 use mir.Facts.{to_z-of_z}
-use Rattle.strided.specs.Base.{padded}
 use Rattle.laws.specs.Base.Bits.{read_back}
 use Rattle.laws.specs.Base.Filling.{fill_none}
 use Rattle.numpy.specs.Numpy.{reversed, element_stride, no_multiple}
 use Rattle.numpy.specs.Reversing.{any_at}
 use Rattle.numpy.proofs.Fills.{filling_turn, filling_end, turned-length, turned-map}
-use borrow.Author.Rules.{rules}
 use Rattle.numpy.proofs.units.element_strides.Goals as goal
 use mir.Syntax.{w64}
 

@@ -2,17 +2,15 @@
 -- Assumes nothing.
 use mathlib.Core.Path.{◌≡◌, ◌∙◌}
 use mathlib.Core.List.{map}
-use Prim.Native.Nat.{◌+◌, ◌-◌, ◌^◌, ◌≤◌, ◌<◌, min}
+use Prim.Native.Nat.{◌+◌, ◌-◌, ◌^◌, ◌≤◌, ◌<◌}
 use native.Mathlib.Omega.{arith}
 use lib.IntN.{pos}
 use lib.ListN.{length, take}
 use mir.Facts.{to_z-of_z}
-use Rattle.strided.specs.Base.{padded}
 use Rattle.strided.specs.Layout.{total}
 use Rattle.laws.specs.Base.Filling.{fill_none}
 use Rattle.numpy.specs.Units.{firsts}
 use Rattle.numpy.proofs.Fills.{filling_turn, filling_end, packed-length, packed-at, step-near, step_turn}
-use borrow.Author.Rules.{rules}
 use Rattle.numpy.proofs.units.packed_strides.Goals as goal
 use mir.Syntax.{w64}
 

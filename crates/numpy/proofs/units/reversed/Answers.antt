@@ -1,15 +1,12 @@
 -- `numpy::units::reversed` meets its contract: after i turns the array holds the last i numbers, the last one first.
 -- Assumes nothing.
-use mathlib.Core.Path.{◌≡◌}
-use Prim.Native.Nat.{◌-◌, ◌≤◌}
+use Prim.Native.Nat.{◌-◌}
 use native.Mathlib.Omega.{arith}
-use lib.ListN.{length, take}
-use Rattle.strided.specs.Base.{padded}
+use lib.ListN.{length}
 use Rattle.laws.specs.Base.Filling.{fill_none}
 use Rattle.numpy.specs.Numpy.{reversed}
 use Rattle.numpy.specs.Reversing.{length-reversed}
 use Rattle.numpy.proofs.Fills.{filling_turn, filling_end, turned-at}
-use borrow.Author.Rules.{rules}
 use Rattle.numpy.proofs.units.reversed.Goals as goal
 
 pub loop-i-init : goal.loop-i-init

@@ -1,14 +1,9 @@
 -- The invariants of `units::reversed`.
 use mathlib.Core.Path.{◌≡◌}
 use Prim.Native.Nat.{◌-◌, ◌≤◌}
-use native.Mathlib.Omega.{arith}
 use lib.ListN.{length, take}
 use Rattle.strided.specs.Base.{padded}
-use Rattle.laws.specs.Base.Filling.{fill_none}
 use Rattle.numpy.specs.Numpy.{reversed}
-use Rattle.numpy.specs.Reversing.{length-reversed}
-use Rattle.numpy.proofs.Fills.{filling_turn, filling_end, turned-at}
-use borrow.Author.Rules.{rules}
 use Rattle.numpy.proofs.units.reversed.Given as goal
 
 abbrev pub invariant-loop-i : goal.invariant-loop-i

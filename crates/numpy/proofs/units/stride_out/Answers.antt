@@ -5,7 +5,6 @@ use mathlib.Core.Bool.{true, false}
 use Prim.Native.Nat.{◌*◌, min}
 use lib.IntN.{pos, nat_abs}
 use lib.Signed.{lt_z}
-use borrow.Author.Rules.{rules}
 use Rattle.laws.specs.Base.Signs.{back}
 use Rattle.numpy.proofs.Strides.{neg-out, pos_out}
 use Rattle.numpy.proofs.units.stride_out.Goals as goal

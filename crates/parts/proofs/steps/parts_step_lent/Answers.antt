@@ -1,5 +1,4 @@
 -- `parts::steps::parts_step_lent` meets its contract. Assumes nothing.
-use borrow.Author.Rules.{rules}
 use mathlib.Core.Path.{ap, ap₂, ◌∙◌}
 use mir.Facts.{to_z-of_z}
 use Rattle.strided.specs.Step.{stepped, left}

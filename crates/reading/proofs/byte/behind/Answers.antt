@@ -1,6 +1,5 @@
 -- `reading::byte::behind` meets its contract: a law for each way out: past the end, the byte, another byte.
 -- Assumes nothing.
-use borrow.Author.Rules.{rules}
 use Rattle.reading.proofs.Bytes.{behind_here, behind_other, behind_out}
 use Rattle.reading.proofs.byte.behind.Goals as goal
 

@@ -1,7 +1,6 @@
 -- `reading::byte::digit` meets its contract: its two tests are those of `is_digit`, and behind the end no digit stands.
 -- Assumes nothing.
 use mathlib.Core.Path.{sym, ◌∙◌}
-use borrow.Author.Rules.{rules}
 use borrow.Author.Tests.{lt-leb, le-leb}
 use Rattle.reading.proofs.Bytes.{goes_at, goes_out}
 use Rattle.reading.proofs.byte.digit.Goals as goal

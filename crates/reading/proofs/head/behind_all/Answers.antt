@@ -1,9 +1,6 @@
 -- `reading::head::behind_all` meets its contract: the loop keeps `Passing`: what is left of the bytes is to stand at p.
 -- Assumes nothing.
-use Prim.Native.Nat.{◌-◌}
-use lib.ListN.{length}
-use borrow.Author.Rules.{rules}
-use Rattle.reading.proofs.Bytes.{Passing, passing_turn, passing_bad, passing_end}
+use Rattle.reading.proofs.Bytes.{passing_turn, passing_bad, passing_end}
 use Rattle.reading.proofs.head.behind_all.Goals as goal
 
 pub returns-in-Bad : goal.returns-in-Bad

@@ -1,8 +1,7 @@
 -- The invariants of `head::behind_all`.
 use Prim.Native.Nat.{◌-◌}
 use lib.ListN.{length}
-use borrow.Author.Rules.{rules}
-use Rattle.reading.proofs.Bytes.{Passing, passing_turn, passing_bad, passing_end}
+use Rattle.reading.proofs.Bytes.{Passing}
 use Rattle.reading.proofs.head.behind_all.Given as goal
 
 abbrev pub invariant-loop-i : goal.invariant-loop-i

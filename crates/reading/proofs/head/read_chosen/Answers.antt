@@ -1,6 +1,5 @@
 -- `reading::head::read_chosen` meets its contract: the letter picks the reader.
 -- Assumes nothing.
-use borrow.Author.Rules.{rules}
 use Rattle.reading.proofs.head.read_chosen.Goals as goal
 
 pub returns-then-fold : goal.returns-then-fold

@@ -1,6 +1,5 @@
 -- `reading::head::read_counts` meets its contract: a law for each way out: no field, one, two.
 -- Assumes nothing.
-use borrow.Author.Rules.{rules}
 use Rattle.reading.proofs.Heads.{counts-told, counts_open, counts_none}
 use Rattle.reading.proofs.head.read_counts.Goals as goal
 

@@ -1,6 +1,5 @@
 -- `reading::head::read_fold` meets its contract: with F a number is chosen.
 -- Assumes nothing.
-use borrow.Author.Rules.{rules}
 use Rattle.reading.proofs.Heads.{fold_told, fold_bad}
 use Rattle.reading.proofs.head.read_fold.Goals as goal
 

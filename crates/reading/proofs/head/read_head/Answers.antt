@@ -1,6 +1,5 @@
 -- `reading::head::read_head` meets its contract: the text begins with `L,P`, with `L,F`, or it has no L line.
 -- Assumes nothing.
-use borrow.Author.Rules.{rules}
 use Rattle.reading.proofs.Heads.{head_reads, head_none}
 use Rattle.reading.proofs.head.read_head.Goals as goal
 

@@ -1,6 +1,5 @@
 -- `reading::head::read_last` meets its contract: a law for each way out: no field, a field that does not end the line, one that does.
 -- Assumes nothing.
-use borrow.Author.Rules.{rules}
 use Rattle.reading.proofs.Heads.{last_told, last_open, last_none}
 use Rattle.reading.proofs.head.read_last.Goals as goal
 

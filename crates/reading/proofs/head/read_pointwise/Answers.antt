@@ -1,6 +1,5 @@
 -- `reading::head::read_pointwise` meets its contract: with P either `-` or a number is chosen.
 -- Assumes nothing.
-use borrow.Author.Rules.{rules}
 use Rattle.reading.proofs.Heads.{point_none, point_into, point_bad}
 use Rattle.reading.proofs.head.read_pointwise.Goals as goal
 

@@ -1,6 +1,5 @@
 -- `reading::head::read_told` meets its contract: a law for each way out: no counts, counts and no line's end, both.
 -- Assumes nothing.
-use borrow.Author.Rules.{rules}
 use Rattle.reading.proofs.Heads.{told_is, told_open, told_none}
 use Rattle.reading.proofs.head.read_told.Goals as goal
 

@@ -1,6 +1,5 @@
 -- `reading::line::read_extents` meets its contract: `E` in front of a row.
 -- Assumes nothing.
-use borrow.Author.Rules.{rules}
 use Rattle.reading.proofs.Lines.{extents_reads, extents_none}
 use Rattle.reading.proofs.line.read_extents.Goals as goal
 

@@ -1,6 +1,5 @@
 -- `reading::line::read_lines` meets its contract: a law for each way out: no E line, no O lines, all lines and the text's end or not.
 -- Assumes nothing.
-use borrow.Author.Rules.{rules}
 use Rattle.reading.proofs.Lines.{lines_told, lines_open, lines_none}
 use Rattle.reading.proofs.line.read_lines.Goals as goal
 

@@ -2,7 +2,6 @@
 -- of the text is left.
 -- Assumes nothing.
 use native.Mathlib.Omega.{arith}
-use borrow.Author.Rules.{rules}
 use Rattle.reading.proofs.Lines.{size_short, operand_told, operand_open, operand_none}
 use Rattle.reading.proofs.line.read_operand.Goals as goal
 

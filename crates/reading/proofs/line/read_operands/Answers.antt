@@ -1,9 +1,8 @@
 -- `reading::line::read_operands` meets its contract: the loop keeps `Lining`: whoever reads the lines that are left has read all. A
 -- line takes more bytes than its rank, so `from` does not wrap.
 -- Assumes nothing.
-use Prim.Native.Nat.{◌-◌}
 use borrow.Author.Rules.{rules}
-use Rattle.reading.proofs.Lines.{Lining, lining_start, lining_short, lining_turn, lining_bad, lining_end}
+use Rattle.reading.proofs.Lines.{lining_start, lining_short, lining_turn, lining_bad, lining_end}
 use Rattle.reading.proofs.line.read_operands.Goals as goal
 
 pub loop-k-init : goal.loop-k-init

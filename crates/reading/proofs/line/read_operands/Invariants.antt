@@ -1,7 +1,6 @@
 -- The invariants of `line::read_operands`.
 use Prim.Native.Nat.{◌-◌}
-use borrow.Author.Rules.{rules}
-use Rattle.reading.proofs.Lines.{Lining, lining_start, lining_short, lining_turn, lining_bad, lining_end}
+use Rattle.reading.proofs.Lines.{Lining}
 use Rattle.reading.proofs.line.read_operands.Given as goal
 
 abbrev pub invariant-loop-k : goal.invariant-loop-k

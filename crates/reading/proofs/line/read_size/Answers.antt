@@ -1,6 +1,5 @@
 -- `reading::line::read_size` meets its contract: `O` in front of a field.
 -- Assumes nothing.
-use borrow.Author.Rules.{rules}
 use Rattle.strided.specs.Text.{field}
 use Rattle.reading.proofs.Answers.{front_reads, front_bad}
 use Rattle.reading.proofs.line.read_size.Goals as goal

@@ -1,6 +1,5 @@
 -- `reading::number::field` meets its contract: a comma in front of a number.
 -- Assumes nothing.
-use borrow.Author.Rules.{rules}
 use Rattle.strided.specs.Digits.{digits_of}
 use Rattle.reading.proofs.Answers.{front_reads, front_bad}
 use Rattle.reading.proofs.number.field.Goals as goal

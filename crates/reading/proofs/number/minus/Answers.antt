@@ -4,7 +4,6 @@ use mathlib.Core.Path.{refl}
 use Prim.Native.Nat.{◌-◌, ◌^◌, ◌<◌}
 use native.Mathlib.Omega.{arith}
 use lib.IntN.{negsuc}
-use borrow.Author.Rules.{rules}
 use Rattle.laws.specs.Base.Bits.{read_back}
 use Rattle.reading.proofs.number.minus.Goals as goal
 

@@ -2,7 +2,6 @@
 -- Assumes nothing.
 use Prim.Native.Nat.{◌-◌}
 use native.Mathlib.Omega.{arith}
-use borrow.Author.Rules.{rules}
 use Rattle.reading.proofs.Signs.{minus_fits, minus_back}
 use Rattle.reading.proofs.number.negative.Goals as goal
 

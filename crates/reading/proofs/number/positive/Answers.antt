@@ -2,7 +2,6 @@
 -- Assumes nothing.
 use mir.Syntax.{w64}
 use mir.Facts.{to_z_pos}
-use borrow.Author.Rules.{rules}
 use Rattle.reading.proofs.number.positive.Goals as goal
 
 pub returns : goal.returns

@@ -1,6 +1,5 @@
 -- `reading::number::read_i64` meets its contract: a law for each way out: with and without `-`, a size or none.
 -- Assumes nothing.
-use borrow.Author.Rules.{rules}
 use Rattle.reading.proofs.Signs.{minus_reads, minus_none, plus_reads, plus_none}
 use Rattle.reading.proofs.number.read_i64.Goals as goal
 

@@ -1,13 +1,10 @@
 -- `reading::number::read_more` meets its contract: what stands behind the digits read so far is what stood at the start.
 -- Assumes nothing.
 use mathlib.Core.Path.{refl, sym, ◌∙◌}
-use mathlib.Core.List.{List}
-use mathlib.Core.Logic.{◌↔◌}
-use Prim.Native.Nat.{ℕ, ◌+◌, ◌-◌, ◌*◌, ◌^◌, ◌≤◌, ◌<◌}
+use Prim.Native.Nat.{◌+◌, ◌-◌, ◌*◌, ◌^◌, ◌≤◌}
 use native.Mathlib.Omega.{arith}
-use lib.ListN.{length, drop}
 use borrow.Author.Rules.{rules}
-use Rattle.reading.specs.Numbers.{More, ReadsMore}
+use Rattle.reading.specs.Numbers.{ReadsMore}
 use Rattle.reading.specs.declared.number.Number.TheVariants.{Bad}
 use Rattle.reading.proofs.Bytes.{DigitAt, digit_at}
 use Rattle.reading.proofs.Digits.{more_none, more_turn, more_over, more_value, more_bad}

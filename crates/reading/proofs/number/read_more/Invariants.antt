@@ -1,15 +1,9 @@
 -- The invariants of `number::read_more`.
-use mathlib.Core.Path.{refl, sym, ◌∙◌}
 use mathlib.Core.List.{List}
 use mathlib.Core.Logic.{◌↔◌}
-use Prim.Native.Nat.{ℕ, ◌+◌, ◌-◌, ◌*◌, ◌^◌, ◌≤◌, ◌<◌}
-use native.Mathlib.Omega.{arith}
+use Prim.Native.Nat.{ℕ, ◌-◌, ◌^◌, ◌<◌}
 use lib.ListN.{length, drop}
-use borrow.Author.Rules.{rules}
-use Rattle.reading.specs.Numbers.{More, ReadsMore}
-use Rattle.reading.specs.declared.number.Number.TheVariants.{Bad}
-use Rattle.reading.proofs.Bytes.{DigitAt, digit_at}
-use Rattle.reading.proofs.Digits.{more_none, more_turn, more_over, more_value, more_bad}
+use Rattle.reading.specs.Numbers.{More}
 use Rattle.reading.proofs.number.read_more.Given as goal
 
 abbrev pub invariant-loop-d : goal.invariant-loop-d

@@ -1,6 +1,5 @@
 -- `reading::number::signed_field` meets its contract: a comma in front of a number with a sign.
 -- Assumes nothing.
-use borrow.Author.Rules.{rules}
 use Rattle.strided.specs.Digits.{signed_of}
 use Rattle.reading.proofs.Answers.{front-signed, front_bad_signed}
 use Rattle.reading.proofs.number.signed_field.Goals as goal

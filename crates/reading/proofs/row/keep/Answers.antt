@@ -2,7 +2,6 @@
 -- Assumes nothing.
 use mathlib.Core.Path.{sym}
 use lib.Seq.{set_out}
-use borrow.Author.Rules.{rules}
 use Rattle.reading.proofs.row.keep.Goals as goal
 
 pub returns-else-i-out : goal.returns-else-i-out

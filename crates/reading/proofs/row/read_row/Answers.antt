@@ -1,14 +1,13 @@
 -- `reading::row::read_row` meets its contract: the loop keeps `Rowing`: whoever reads what is left of the row has read the row.
 -- Assumes nothing.
 use mathlib.Core.Path.{◌≡◌, sym, ap, ◌∙◌}
-use Prim.Native.Nat.{◌-◌, ℕ, ◌+◌}
+use Prim.Native.Nat.{ℕ, ◌+◌}
 use native.Mathlib.Nat.{zero-add}
 use lib.ListN.{set}
-use borrow.Author.Rules.{rules}
 use Rattle.strided.specs.Digits.{digits_of}
 use Rattle.strided.specs.Text.{FitU}
 use Rattle.laws.specs.Text.Numbers.{digits_once}
-use Rattle.reading.proofs.Rows.{Rowing, rowing_start, rowing_turn, rowing_bad, rowing_end}
+use Rattle.reading.proofs.Rows.{rowing_start, rowing_turn, rowing_bad, rowing_end}
 use Rattle.reading.proofs.row.read_row.Goals as goal
 
 pub loop-i-init : goal.loop-i-init

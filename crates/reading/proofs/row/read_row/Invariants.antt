@@ -1,13 +1,8 @@
 -- The invariants of `row::read_row`.
-use mathlib.Core.Path.{◌≡◌, sym, ap, ◌∙◌}
-use Prim.Native.Nat.{◌-◌, ℕ, ◌+◌}
-use native.Mathlib.Nat.{zero-add}
-use lib.ListN.{set}
-use borrow.Author.Rules.{rules}
+use Prim.Native.Nat.{◌-◌}
 use Rattle.strided.specs.Digits.{digits_of}
 use Rattle.strided.specs.Text.{FitU}
-use Rattle.laws.specs.Text.Numbers.{digits_once}
-use Rattle.reading.proofs.Rows.{Rowing, rowing_start, rowing_turn, rowing_bad, rowing_end}
+use Rattle.reading.proofs.Rows.{Rowing}
 use Rattle.reading.proofs.row.read_row.Given as goal
 
 abbrev pub invariant-loop-i : goal.invariant-loop-i

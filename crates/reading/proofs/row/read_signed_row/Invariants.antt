@@ -1,14 +1,8 @@
 -- The invariants of `row::read_signed_row`.
-use mathlib.Core.Path.{◌≡◌, ap, ◌∙◌}
-use Prim.Native.Nat.{◌-◌, ◌+◌}
-use lib.ListN.{set}
-use lib.IntN.{ℤ}
-use borrow.Author.Rules.{rules}
+use Prim.Native.Nat.{◌-◌}
 use Rattle.strided.specs.Digits.{signed_of}
 use Rattle.strided.specs.Text.{FitI}
-use Rattle.laws.specs.Text.Numbers.{signed_once}
-use Rattle.laws.specs.Base.Bits.{read_back}
-use Rattle.reading.proofs.Rows.{Rowing, rowing_start, rowing_turn, rowing_bad, rowing_end}
+use Rattle.reading.proofs.Rows.{Rowing}
 use Rattle.reading.proofs.row.read_signed_row.Given as goal
 
 abbrev pub invariant-loop-i : goal.invariant-loop-i

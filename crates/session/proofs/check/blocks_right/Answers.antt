@@ -1,7 +1,6 @@
 -- `session::check::blocks_right` meets its contract. Assumes nothing.
-use mathlib.Core.Path.{◌≡◌, sym, ap, ◌∙◌}
+use mathlib.Core.Path.{◌≡◌, sym, ◌∙◌}
 use lib.ListN.{length}
-use borrow.Author.Rules.{rules}
 use Rattle.session.specs.Made.{BlocksAt}
 use Rattle.session.proofs.Holding.{blocks_places, blocks_decide}
 use Rattle.session.proofs.check.blocks_right.Goals as goal

@@ -3,7 +3,6 @@ use mathlib.Core.Path.{◌≡◌, sym}
 use native.Mathlib.Omega.{arith}
 use lib.ListN.{length, take}
 use lib.Seq.{length-take-le}
-use borrow.Author.Rules.{rules}
 use Rattle.session.proofs.check.check_joining.Goals as goal
 
 pub slice_bounds-check_new-end : goal.slice_bounds-check_new-end

@@ -11,7 +11,6 @@ use Rattle.strided.specs.Refusals.{Row, row3, row6}
 use Rattle.session.specs.Session.{new_rows}
 use Rattle.session.proofs.Holding.{new_far}
 use mathlib.Core.List.{[], ◌∷◌}
-use borrow.Author.Rules.{rules}
 use Rattle.session.proofs.check.check_new.Goals as goal
 
 pub returns-then-operands-ge-MAX_OPERANDS : goal.returns-then-operands-ge-MAX_OPERANDS

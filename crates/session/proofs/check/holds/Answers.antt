@@ -1,7 +1,6 @@
 -- `session::check::holds` meets its contract. Assumes nothing.
 use mathlib.Core.Bool.{false≢true}
 use Rattle.session.proofs.Holding.{decides_not, right_layout}
-use borrow.Author.Rules.{rules}
 use Rattle.session.proofs.check.holds.Goals as goal
 
 pub layout_right-requires : goal.layout_right-requires

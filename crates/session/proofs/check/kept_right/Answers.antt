@@ -1,7 +1,4 @@
 -- `session::check::kept_right` meets its contract. Assumes nothing.
-use mathlib.Core.Path.{◌≡◌, sym, ◌∙◌}
-use borrow.Author.Rules.{rules}
-use Rattle.session.specs.Made.{LayoutRight, with_plan}
 use Rattle.session.proofs.Holding.{decides_as, decides_not, laid_of, weighed_of, cuttable, keeps_axes, keeps_blocks, keeps_of}
 use Rattle.session.proofs.check.kept_right.Goals as goal
 

@@ -6,7 +6,6 @@ use lib.Seq.{length-take-le}
 use Rattle.laws.specs.Refusals.Rows.{few-axes, few_operands}
 use Rattle.session.specs.Afresh.{few_strides}
 use Rattle.session.proofs.Holding.{decides_not, layout_far, layout_many, layout_decides}
-use borrow.Author.Rules.{rules}
 use Rattle.session.proofs.check.layout_right.Goals as goal
 
 pub returns-then-rank_over : goal.returns-then-rank_over

@@ -1,7 +1,6 @@
 -- `session::check::parts_right` meets its contract. Assumes nothing.
 use mathlib.Core.Path.{◌≡◌, sym, ◌∙◌}
 use mathlib.Core.Bool.{false≢true}
-use borrow.Author.Rules.{rules}
 use Rattle.session.specs.Session.{ranks_of}
 use Rattle.session.specs.Made.{LayoutRight, ranks_in, given_in}
 use Rattle.session.proofs.Tabling.{table_even}

@@ -1,14 +1,12 @@
 -- `session::check::ranks_right` meets its contract. Assumes nothing.
-use mathlib.Core.Path.{◌≡◌, refl, sym, ap, ◌∙◌}
-use mathlib.Core.Bool.{Bool}
-use Prim.Native.Nat.{ℕ, ◌+◌, ◌-◌, ◌*◌, ◌≤◌}
+use mathlib.Core.Path.{◌≡◌, refl, ap, ◌∙◌}
+use Prim.Native.Nat.{ℕ, ◌+◌, ◌-◌, ◌*◌}
 use native.Mathlib.Omega.{arith}
 use native.Mathlib.Nat.{le_antisymm}
 use lib.ListN.{length, take, drop, length-drop}
 use lib.Seq.{length-take-le}
-use borrow.Author.Rules.{rules}
 use Rattle.session.specs.Session.{same_nats}
-use Rattle.session.specs.Made.{Even, rows_of}
+use Rattle.session.specs.Made.{rows_of}
 use Rattle.strided.specs.Step.{blank}
 use Rattle.session.proofs.Holding.{rest_is, row_next, ranks_decide}
 use Rattle.session.proofs.check.ranks_right.Goals as goal

@@ -1,7 +1,7 @@
 -- `session::check::row_picked` meets its contract. Assumes nothing.
 use mathlib.Core.Path.{◌≡◌, refl, sym, ap, ◌∙◌}
 use mathlib.Core.Bool.{◌&&◌}
-use Prim.Native.Nat.{ℕ, ◌+◌, ◌-◌, ◌≤◌, ◌<◌}
+use Prim.Native.Nat.{ℕ, ◌+◌, ◌-◌}
 use native.Mathlib.Nat.{le_antisymm}
 use native.Mathlib.Omega.{arith}
 use mir.Syntax.{w64}
@@ -9,8 +9,7 @@ use mir.Val.{Fits, of_z}
 use Rattle.std.proofs.Math.Facts.{Fits-or, Fits-xor, Fits-of_z, of_z-to_z}
 use lib.Dec.{eqb}
 use lib.IntN.{ℤ, pos}
-use lib.ListN.{length, get_or, drop}
-use borrow.Author.Rules.{rules}
+use lib.ListN.{get_or, drop}
 use Rattle.strided.specs.Step.{blank_z}
 use Rattle.strided.specs.Fuse.{eq_z}
 use Rattle.fuse.proofs.Joining.{eqb_bits}

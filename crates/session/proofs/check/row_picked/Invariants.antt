@@ -1,22 +1,13 @@
 -- The invariants of `check::row_picked`.
-use mathlib.Core.Path.{◌≡◌, refl, sym, ap, ◌∙◌}
+use mathlib.Core.Path.{◌≡◌}
 use mathlib.Core.Bool.{◌&&◌}
 use Prim.Native.Nat.{ℕ, ◌+◌, ◌-◌, ◌≤◌, ◌<◌}
-use native.Mathlib.Nat.{le_antisymm}
-use native.Mathlib.Omega.{arith}
 use mir.Syntax.{w64}
 use mir.Val.{of_z}
 use lib.Dec.{eqb}
-use lib.IntN.{ℤ, pos}
 use lib.ListN.{length, get_or, drop}
-use borrow.Author.Rules.{rules}
-use Rattle.strided.specs.Step.{blank_z}
-use Rattle.strided.specs.Fuse.{eq_z}
-use Rattle.fuse.proofs.Joining.{eqb_bits}
 use Rattle.session.specs.Session.{same_ints}
-use Rattle.session.proofs.Comparing.{xor_none, same_z-next}
-use Rattle.session.proofs.Holding.{rest_is}
-use Rattle.session.proofs.Picking.{fresh, fresh_long, fresh_at, row-over}
+use Rattle.session.proofs.Picking.{fresh}
 use Rattle.session.proofs.check.row_picked.Given as goal
 
 abbrev pub invariant-loop-i : goal.invariant-loop-i

@@ -1,12 +1,7 @@
 -- `session::check::row_right` meets its contract. Assumes nothing.
-use mathlib.Core.Path.{◌≡◌, refl, sym, ◌∙◌}
-use mathlib.Core.Bool.{◌&&◌}
-use Prim.Native.Nat.{◌-◌, ◌≤◌}
+use mathlib.Core.Path.{refl}
+use Prim.Native.Nat.{◌-◌}
 use native.Mathlib.Omega.{arith}
-use lib.Dec.{eqb}
-use lib.ListN.{length, drop}
-use borrow.Author.Rules.{rules}
-use Rattle.session.specs.Session.{same_nats}
 use Rattle.session.proofs.Comparing.{same_next, same_over}
 use Rattle.session.proofs.check.row_right.Goals as goal
 

@@ -1,13 +1,10 @@
 -- The invariants of `check::row_right`.
-use mathlib.Core.Path.{◌≡◌, refl, sym, ◌∙◌}
+use mathlib.Core.Path.{◌≡◌}
 use mathlib.Core.Bool.{◌&&◌}
 use Prim.Native.Nat.{◌-◌, ◌≤◌}
-use native.Mathlib.Omega.{arith}
 use lib.Dec.{eqb}
 use lib.ListN.{length, drop}
-use borrow.Author.Rules.{rules}
 use Rattle.session.specs.Session.{same_nats}
-use Rattle.session.proofs.Comparing.{same_next, same_over}
 use Rattle.session.proofs.check.row_right.Given as goal
 
 abbrev pub invariant-loop-i : goal.invariant-loop-i

@@ -3,7 +3,6 @@ use mathlib.Core.Path.{◌≡◌}
 use Prim.Native.Nat.{ℕ}
 use native.Mathlib.Omega.{arith}
 use Rattle.session.proofs.Holding.{decides_not, decides_yes}
-use borrow.Author.Rules.{rules}
 use Rattle.session.proofs.check.served.Goals as goal
 
 pub returns-in-Served : goal.returns-in-Served

@@ -1,17 +1,9 @@
 -- The invariants of `check::strides_right`.
-use mathlib.Core.Path.{◌≡◌, refl, sym, ap, ◌∙◌}
-use Prim.Native.Nat.{ℕ, ◌+◌, ◌-◌, ◌*◌, ◌≤◌}
-use native.Mathlib.Omega.{arith}
-use native.Mathlib.Nat.{le_antisymm, mul_comm}
-use lib.ListN.{length, get_or, take, drop, length-drop}
-use lib.Seq.{length-take-le}
-use borrow.Author.Rules.{rules}
-use Rattle.strided.specs.Step.{blank_z}
-use Rattle.laws.specs.Base.Rows.{row_fits}
+use mathlib.Core.Path.{◌≡◌}
+use Prim.Native.Nat.{◌-◌, ◌*◌, ◌≤◌}
+use lib.ListN.{length, take}
 use Rattle.laws.specs.Fuse.Arrays.{pick_rows}
 use Rattle.session.specs.Session.{same_ints}
-use Rattle.session.proofs.Holding.{rest_is}
-use Rattle.session.proofs.Picking.{row_inside, rows_next, rows-over}
 use Rattle.session.proofs.check.strides_right.Given as goal
 
 abbrev pub invariant-loop-k : goal.invariant-loop-k

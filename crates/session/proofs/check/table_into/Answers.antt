@@ -1,7 +1,6 @@
 -- `session::check::table_into` meets its contract. Assumes nothing.
 use mathlib.Core.Path.{sym}
 use native.Mathlib.Omega.{arith}
-use borrow.Author.Rules.{rules}
 use Rattle.session.specs.Afresh.{few_strides}
 use Rattle.session.proofs.Tabling.{own_strides, own_fits}
 use Rattle.session.proofs.check.table_into.Goals as goal

@@ -6,7 +6,6 @@ use mathlib.Core.Bool.{◌&&◌}
 use Rattle.session.specs.Afresh.{few_strides}
 use Rattle.strided.specs.Step.{blank, blank_z}
 use Rattle.session.proofs.Holding.{rest_is}
-use borrow.Author.Rules.{rules}
 use Rattle.session.proofs.check.tidy.Goals as goal
 
 pub overflow_mul-count : goal.overflow_mul-count

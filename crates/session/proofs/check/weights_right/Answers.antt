@@ -2,7 +2,6 @@
 use mathlib.Core.Path.{◌≡◌, sym, ap, ◌∙◌}
 use Prim.Native.Nat.{◌*◌}
 use lib.ListN.{length, take}
-use borrow.Author.Rules.{rules}
 use Rattle.strided.specs.Layout.{lead}
 use Rattle.strided.specs.Weights.{weights}
 use Rattle.laws.specs.Base.Arrays.{length-padded}

@@ -1,13 +1,8 @@
 -- `session::compare::all_zero` meets its contract. Assumes nothing.
-use mathlib.Core.Path.{◌≡◌, refl}
-use Prim.Native.Nat.{◌-◌, ◌≤◌}
+use mathlib.Core.Path.{refl}
+use Prim.Native.Nat.{◌-◌}
 use native.Mathlib.Omega.{arith}
-use lib.Dec.{eqb}
-use lib.ListN.{length, drop}
-use mathlib.Core.Bool.{◌&&◌}
-use Rattle.strided.specs.Step.{blank}
 use Rattle.session.proofs.Comparing.{zero-next, zero-over}
-use borrow.Author.Rules.{rules}
 use Rattle.session.proofs.compare.all_zero.Goals as goal
 
 pub loop-i-init : goal.loop-i-init

@@ -1,13 +1,10 @@
 -- The invariants of `compare::all_zero`.
-use mathlib.Core.Path.{◌≡◌, refl}
+use mathlib.Core.Path.{◌≡◌}
 use Prim.Native.Nat.{◌-◌, ◌≤◌}
-use native.Mathlib.Omega.{arith}
 use lib.Dec.{eqb}
 use lib.ListN.{length, drop}
 use mathlib.Core.Bool.{◌&&◌}
 use Rattle.strided.specs.Step.{blank}
-use Rattle.session.proofs.Comparing.{zero-next, zero-over}
-use borrow.Author.Rules.{rules}
 use Rattle.session.proofs.compare.all_zero.Given as goal
 
 abbrev pub invariant-loop-i : goal.invariant-loop-i

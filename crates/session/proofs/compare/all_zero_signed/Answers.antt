@@ -1,15 +1,11 @@
 -- `session::compare::all_zero_signed` meets its contract. Assumes nothing.
 use lib.IntN.{ℤ, pos}
 use Rattle.laws.specs.Base.Bits.{zero_bits}
-use mathlib.Core.Path.{◌≡◌, refl, sym}
-use Prim.Native.Nat.{◌-◌, ◌≤◌}
+use mathlib.Core.Path.{refl, sym}
+use Prim.Native.Nat.{◌-◌}
 use native.Mathlib.Omega.{arith}
-use lib.Dec.{eqb}
-use lib.ListN.{length, get_or, drop}
-use mathlib.Core.Bool.{◌&&◌}
-use Rattle.strided.specs.Step.{blank_z}
+use lib.ListN.{get_or}
 use Rattle.session.proofs.Comparing.{zero_z_next, zero_z_over}
-use borrow.Author.Rules.{rules}
 use mir.Syntax.{w64}
 use mir.Val.{Fits, of_z}
 use Rattle.std.proofs.Math.Facts.{Fits-or, Fits-of_z, of_z-to_z}

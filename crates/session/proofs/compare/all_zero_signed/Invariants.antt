@@ -1,17 +1,12 @@
 -- The invariants of `compare::all_zero_signed`.
-use lib.IntN.{ℤ, pos}
-use Rattle.laws.specs.Base.Bits.{zero_bits}
-use mathlib.Core.Path.{◌≡◌, refl, sym}
+use mathlib.Core.Path.{◌≡◌}
 use Prim.Native.Nat.{◌-◌, ◌≤◌}
-use native.Mathlib.Omega.{arith}
 use mir.Syntax.{w64}
 use mir.Val.{of_z}
 use lib.Dec.{eqb}
-use lib.ListN.{length, get_or, drop}
+use lib.ListN.{length, drop}
 use mathlib.Core.Bool.{◌&&◌}
 use Rattle.strided.specs.Step.{blank_z}
-use Rattle.session.proofs.Comparing.{zero_z_next, zero_z_over}
-use borrow.Author.Rules.{rules}
 use Rattle.session.proofs.compare.all_zero_signed.Given as goal
 
 abbrev pub invariant-loop-i : goal.invariant-loop-i

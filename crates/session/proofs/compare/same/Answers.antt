@@ -1,13 +1,8 @@
 -- `session::compare::same` meets its contract. Assumes nothing.
-use mathlib.Core.Path.{◌≡◌, refl}
-use lib.Dec.{eqb}
-use Prim.Native.Nat.{◌-◌, ◌≤◌}
+use mathlib.Core.Path.{refl}
+use Prim.Native.Nat.{◌-◌}
 use native.Mathlib.Omega.{arith}
-use lib.ListN.{length, drop}
-use mathlib.Core.Bool.{◌&&◌}
-use Rattle.session.specs.Session.{same_nats}
 use Rattle.session.proofs.Comparing.{same_next, same_over}
-use borrow.Author.Rules.{rules}
 use Rattle.session.proofs.compare.same.Goals as goal
 
 pub loop-i-init : goal.loop-i-init

@@ -1,13 +1,10 @@
 -- The invariants of `compare::same`.
-use mathlib.Core.Path.{◌≡◌, refl}
+use mathlib.Core.Path.{◌≡◌}
 use lib.Dec.{eqb}
 use Prim.Native.Nat.{◌-◌, ◌≤◌}
-use native.Mathlib.Omega.{arith}
 use lib.ListN.{length, drop}
 use mathlib.Core.Bool.{◌&&◌}
 use Rattle.session.specs.Session.{same_nats}
-use Rattle.session.proofs.Comparing.{same_next, same_over}
-use borrow.Author.Rules.{rules}
 use Rattle.session.proofs.compare.same.Given as goal
 
 abbrev pub invariant-loop-i : goal.invariant-loop-i

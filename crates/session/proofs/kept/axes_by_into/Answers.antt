@@ -7,7 +7,6 @@ use Rattle.strided.specs.Order.{fusing_order}
 use Rattle.strided.specs.Plan.{stride_table}
 use Rattle.arrange.specs.Fusing.{in_order_lem, as_planned}
 use Rattle.session.proofs.Keeping.{order_is}
-use borrow.Author.Rules.{rules}
 use Rattle.session.proofs.kept.axes_by_into.Goals as goal
 
 pub plan_axes_into-requires : goal.plan_axes_into-requires

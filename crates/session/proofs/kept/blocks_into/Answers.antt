@@ -1,6 +1,5 @@
 -- `session::kept::blocks_into` meets its contract. Assumes nothing.
 use mathlib.Core.Path.{sym, ◌∙◌}
-use borrow.Author.Rules.{rules}
 use borrow.Author.Tests.{leb-false}
 use Rattle.strided.specs.Layout.{total}
 use Rattle.session.proofs.kept.blocks_into.Goals as goal

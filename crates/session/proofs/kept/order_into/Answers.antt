@@ -4,7 +4,6 @@ use mathlib.Core.Bool.{Bool, cond}
 use mathlib.Core.Path.{sym, ap, ◌∙◌}
 use lib.ListN.{length}
 use Rattle.strided.specs.Base.{padded, run}
-use borrow.Author.Rules.{rules}
 use Rattle.session.proofs.kept.order_into.Goals as goal
 
 pub returns-then-total_at_most : goal.returns-then-total_at_most

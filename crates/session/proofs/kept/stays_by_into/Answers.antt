@@ -2,20 +2,17 @@
 use mathlib.Core.Path.{◌≡◌, refl, ◌∙◌}
 use Prim.Native.Nat.{ℕ, ◌≤◌, ◌<◌}
 use native.Mathlib.Omega.{arith}
-use lib.IntN.{pos}
 use lib.ListN.{length, take}
 use Rattle.strided.specs.Base.{padded}
 use Rattle.strided.specs.Layout.{extents}
 use Rattle.strided.specs.Order.{fusing_order}
 use Rattle.strided.specs.Plan.{stride_table}
-use Rattle.laws.specs.Fuse.Arrays.{pick_rows}
 use Rattle.arrange.specs.Axes.{InOrder}
 use Rattle.arrange.specs.Fusing.{in_order_lem, as_planned}
 use Rattle.fuse.specs.Kept.{stays}
 use Rattle.fuse.proofs.Keeping.{Stand, stand_few, stand_long, stand_inside, stand_rank, stand_extents, stand_strides}
 use Rattle.fuse.proofs.Planning.{zeros_behind, named, put_long, put-padded, made_long, as_planned as as-fused}
 use Rattle.session.proofs.Keeping.{order_is}
-use borrow.Author.Rules.{rules}
 use Rattle.session.proofs.kept.stays_by_into.Goals as goal
 
 -- the number of an axis is a byte

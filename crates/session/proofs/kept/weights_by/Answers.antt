@@ -1,10 +1,9 @@
 -- `session::kept::weights_by` meets its contract. Assumes nothing.
-use mathlib.Core.Path.{◌≡◌, refl, ap, ◌∙◌}
+use mathlib.Core.Path.{refl, ap, ◌∙◌}
 use Prim.Native.Nat.{ℕ}
 use Rattle.strided.specs.Base.{padded}
 use Rattle.strided.specs.Weights.{weights}
 use Rattle.session.specs.Tabled.{tabled_ranked}
-use borrow.Author.Rules.{rules}
 use Rattle.session.proofs.kept.weights_by.Goals as goal
 
 pub first_weights_into-requires : goal.first_weights_into-requires

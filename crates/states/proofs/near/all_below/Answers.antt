@@ -1,12 +1,8 @@
 -- `states::near::all_below` meets its contract. Assumes nothing.
-use mathlib.Core.Path.{◌≡◌, refl}
-use mathlib.Core.Bool.{◌&&◌}
-use Prim.Native.Nat.{◌≤◌, ◌-◌, ◌^◌}
+use mathlib.Core.Path.{refl}
+use Prim.Native.Nat.{◌^◌}
 use native.Mathlib.Omega.{arith}
-use lib.Dec.{eqb}
-use lib.ListN.{length, get_or, drop}
-use borrow.Author.Rules.{rules}
-use Rattle.states.specs.Near.{all_below}
+use lib.ListN.{get_or}
 use Rattle.states.proofs.Blanks.{gathered_next, gathered_end}
 use Rattle.states.proofs.Nearness.{each_below, shifted_none}
 use Rattle.states.proofs.near.all_below.Goals as goal

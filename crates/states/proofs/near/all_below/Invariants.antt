@@ -1,14 +1,10 @@
 -- The invariants of `near::all_below`.
-use mathlib.Core.Path.{◌≡◌, refl}
+use mathlib.Core.Path.{◌≡◌}
 use mathlib.Core.Bool.{◌&&◌}
 use Prim.Native.Nat.{◌≤◌, ◌-◌, ◌^◌}
-use native.Mathlib.Omega.{arith}
 use lib.Dec.{eqb}
-use lib.ListN.{length, get_or, drop}
-use borrow.Author.Rules.{rules}
+use lib.ListN.{length, drop}
 use Rattle.states.specs.Near.{all_below}
-use Rattle.states.proofs.Blanks.{gathered_next, gathered_end}
-use Rattle.states.proofs.Nearness.{each_below, shifted_none}
 use Rattle.states.proofs.near.all_below.Given as goal
 
 abbrev pub invariant-loop-i : goal.invariant-loop-i

@@ -1,7 +1,6 @@
 -- `states::near::all_near` meets its contract. Assumes nothing.
 use mathlib.Core.Path.{sym, ◌∙◌}
 use mathlib.Core.Bool.{false≢true}
-use borrow.Author.Rules.{rules}
 use Rattle.states.proofs.near.all_near.Goals as goal
 
 pub returns-then-all_below : goal.returns-then-all_below

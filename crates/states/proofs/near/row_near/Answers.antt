@@ -1,6 +1,5 @@
 -- `states::near::row_near` meets its contract. Assumes nothing.
 use mathlib.Core.Path.{◌∙◌}
-use borrow.Author.Rules.{rules}
 use Rattle.states.proofs.Nearness.{row_part}
 use Rattle.states.proofs.near.row_near.Goals as goal
 

@@ -1,9 +1,6 @@
 -- `states::near::rows_near` meets its contract. Assumes nothing.
 use mathlib.Core.Bool.{false≢true}
-use Prim.Native.Nat.{◌≤◌, ◌-◌}
 use native.Mathlib.Omega.{arith}
-use borrow.Author.Rules.{rules}
-use Rattle.states.specs.Near.{RowsNear}
 use Rattle.states.proofs.Nearness.{row_room, rows_none, rows_next, rows_all}
 use Rattle.states.proofs.near.rows_near.Goals as goal
 

@@ -1,14 +1,11 @@
 -- `states::near::sizes_below` meets its contract. Assumes nothing.
 use mathlib.Core.Path.{◌≡◌, refl, ◌∙◌, ap}
-use mathlib.Core.Bool.{◌&&◌}
-use Prim.Native.Nat.{ℕ, ◌≤◌, ◌-◌, ◌^◌}
+use Prim.Native.Nat.{ℕ, ◌^◌}
 use native.Mathlib.Omega.{arith}
-use lib.Dec.{ltb, eqb}
+use lib.Dec.{ltb}
 use lib.IntN.{pos, nat_abs}
-use lib.ListN.{length, get_or, drop}
-use borrow.Author.Rules.{rules}
+use lib.ListN.{get_or}
 use Rattle.layout.proofs.Caps.{elem_read}
-use Rattle.states.specs.Near.{sizes_below}
 use Rattle.states.proofs.Blanks.{gathered_next, gathered_end}
 use Rattle.states.proofs.Nearness.{each_size, shifted_none}
 use Rattle.states.proofs.near.sizes_below.Goals as goal

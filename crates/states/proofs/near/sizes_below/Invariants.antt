@@ -1,16 +1,10 @@
 -- The invariants of `near::sizes_below`.
-use mathlib.Core.Path.{◌≡◌, refl, ◌∙◌, ap}
+use mathlib.Core.Path.{◌≡◌}
 use mathlib.Core.Bool.{◌&&◌}
-use Prim.Native.Nat.{ℕ, ◌≤◌, ◌-◌, ◌^◌}
-use native.Mathlib.Omega.{arith}
-use lib.Dec.{ltb, eqb}
-use lib.IntN.{pos, nat_abs}
-use lib.ListN.{length, get_or, drop}
-use borrow.Author.Rules.{rules}
-use Rattle.layout.proofs.Caps.{elem_read}
+use Prim.Native.Nat.{◌≤◌, ◌-◌, ◌^◌}
+use lib.Dec.{eqb}
+use lib.ListN.{length, drop}
 use Rattle.states.specs.Near.{sizes_below}
-use Rattle.states.proofs.Blanks.{gathered_next, gathered_end}
-use Rattle.states.proofs.Nearness.{each_size, shifted_none}
 use Rattle.states.proofs.near.sizes_below.Given as goal
 
 abbrev pub invariant-loop-i : goal.invariant-loop-i

@@ -4,7 +4,6 @@ use lib.IntN.{nat_abs}
 use mir.Facts.{to_z-of_z}
 use native.Mathlib.Omega.{arith}
 use mathlib.Core.Path.{ap, ◌∙◌}
-use borrow.Author.Rules.{rules}
 use Rattle.states.proofs.starts.below_along.Goals as goal
 use mir.Syntax.{w64}
 

@@ -4,7 +4,6 @@ use native.Mathlib.Omega.{arith}
 use Rattle.states.proofs.Ways.{placed_part, low_fits, low_le, high_fits, too_low, high_test}
 use borrow.Author.Rules.{sfits_of}
 use mir.Facts.{to_z-of_z}
-use borrow.Author.Rules.{rules}
 use Rattle.states.proofs.starts.leaves_at.Goals as goal
 use mir.Syntax.{w64}
 

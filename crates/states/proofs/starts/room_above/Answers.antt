@@ -1,6 +1,5 @@
 -- `states::starts::room_above` meets its contract. Assumes nothing.
 use Rattle.states.proofs.Rooms.{greatest_fits, compared_above, room-over}
-use borrow.Author.Rules.{rules}
 use Rattle.states.proofs.starts.room_above.Goals as goal
 
 pub overflow_sub-greatest : goal.overflow_sub-greatest

@@ -1,6 +1,5 @@
 -- `states::starts::room_below` meets its contract. Assumes nothing.
 use Rattle.states.proofs.Rooms.{least_fits, compared, room}
-use borrow.Author.Rules.{rules}
 use Rattle.states.proofs.starts.room_below.Goals as goal
 
 pub overflow_add-least : goal.overflow_add-least

@@ -1,14 +1,9 @@
 -- The invariants of `starts::some_leave`.
-use Rattle.states.proofs.Ways.{stands_at}
 use Rattle.states.specs.Starts.{leaves_at}
-use Rattle.laws.specs.Refusals.Operands.{some_of_empty, some_of_step, some_of_found}
 use Rattle.strided.specs.Base.{some_of}
 use mathlib.Core.Bool.{false}
-use native.Mathlib.Nat.{le_antisymm}
 use Prim.Native.Nat.{◌≤◌, ◌-◌}
-use native.Mathlib.Omega.{arith}
-use mathlib.Core.Path.{◌≡◌, sym, ap, ◌∙◌}
-use borrow.Author.Rules.{rules}
+use mathlib.Core.Path.{◌≡◌}
 use Rattle.states.proofs.starts.some_leave.Given as goal
 
 abbrev pub invariant-loop-k : goal.invariant-loop-k

@@ -2,14 +2,13 @@
 -- Assumes nothing.
 use Rattle.laws.specs.Walk.Row9.{below_term}
 use Rattle.layout.proofs.Caps.{elem_read}
-use Prim.Native.Nat.{◌<◌, ◌*◌, ◌^◌, ◌≤◌, ◌-◌}
+use Prim.Native.Nat.{◌<◌, ◌*◌, ◌^◌, ◌-◌}
 use native.Mathlib.Nat.{zero-add}
 use native.Mathlib.Omega.{arith}
 use lib.IntN.{ℤ, nat_abs, pos}
-use lib.ListN.{length, get_or}
+use lib.ListN.{get_or}
 use mathlib.Core.Path.{◌≡◌, sym, ap, subst, ◌∙◌}
-use borrow.Author.Rules.{rules}
-use Rattle.states.proofs.Ways.{counter_there, Left, left_turn, left_fits, left_end, Further, further_turn, further_fits, further_end, way, inside}
+use Rattle.states.proofs.Ways.{counter_there, left_turn, left_fits, left_end, further_turn, further_fits, further_end, way, inside}
 use Rattle.states.proofs.starts.span_of.Goals as goal
 
 pub loop-i-init : goal.loop-i-init

@@ -2,7 +2,6 @@
 use Rattle.states.proofs.Table.{standing_of}
 use Rattle.laws.specs.Refusals.Operands.{operands_zero, operands_some}
 use Rattle.states.specs.Starts.{some_leave, leaves_at}
-use borrow.Author.Rules.{rules}
 use Rattle.states.proofs.starts.starts_leave.Goals as goal
 
 pub returns-then-has_zero : goal.returns-then-has_zero

@@ -1,11 +1,7 @@
 -- `states::state::all_within` meets its contract. Assumes nothing.
 use Rattle.states.proofs.Blanks.{within-not, within-next, within_end}
-use Rattle.strided.specs.Layout.{within}
-use lib.ListN.{length, drop}
-use Prim.Native.Nat.{◌≤◌, ◌-◌}
 use native.Mathlib.Omega.{arith}
-use mathlib.Core.Path.{◌≡◌, refl}
-use borrow.Author.Rules.{rules}
+use mathlib.Core.Path.{refl}
 use Rattle.states.proofs.state.all_within.Goals as goal
 
 pub loop-i-init : goal.loop-i-init

@@ -1,11 +1,8 @@
 -- The invariants of `state::all_within`.
-use Rattle.states.proofs.Blanks.{within-not, within-next, within_end}
 use Rattle.strided.specs.Layout.{within}
 use lib.ListN.{length, drop}
 use Prim.Native.Nat.{◌≤◌, ◌-◌}
-use native.Mathlib.Omega.{arith}
-use mathlib.Core.Path.{◌≡◌, refl}
-use borrow.Author.Rules.{rules}
+use mathlib.Core.Path.{◌≡◌}
 use Rattle.states.proofs.state.all_within.Given as goal
 
 abbrev pub invariant-loop-i : goal.invariant-loop-i

@@ -1,13 +1,7 @@
 -- `states::state::all_zero` meets its contract. Assumes nothing.
-use mathlib.Core.Path.{◌≡◌, refl}
-use Prim.Native.Nat.{◌-◌, ◌≤◌}
+use mathlib.Core.Path.{refl}
 use native.Mathlib.Omega.{arith}
-use lib.Dec.{eqb}
-use lib.ListN.{length, drop}
-use mathlib.Core.Bool.{◌&&◌}
-use Rattle.strided.specs.Step.{blank}
 use Rattle.states.proofs.Blanks.{each_zero, gathered_next, gathered_end}
-use borrow.Author.Rules.{rules}
 use Rattle.states.proofs.state.all_zero.Goals as goal
 
 pub loop-i-init : goal.loop-i-init

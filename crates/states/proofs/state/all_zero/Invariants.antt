@@ -1,13 +1,10 @@
 -- The invariants of `state::all_zero`.
-use mathlib.Core.Path.{◌≡◌, refl}
+use mathlib.Core.Path.{◌≡◌}
 use Prim.Native.Nat.{◌-◌, ◌≤◌}
-use native.Mathlib.Omega.{arith}
 use lib.Dec.{eqb}
 use lib.ListN.{length, drop}
 use mathlib.Core.Bool.{◌&&◌}
 use Rattle.strided.specs.Step.{blank}
-use Rattle.states.proofs.Blanks.{each_zero, gathered_next, gathered_end}
-use borrow.Author.Rules.{rules}
 use Rattle.states.proofs.state.all_zero.Given as goal
 
 abbrev pub invariant-loop-i : goal.invariant-loop-i

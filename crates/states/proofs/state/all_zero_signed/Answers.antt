@@ -1,15 +1,10 @@
 -- `states::state::all_zero_signed` meets its contract. Assumes nothing.
 use lib.IntN.{ℤ, pos}
 use Rattle.laws.specs.Base.Bits.{zero_bits}
-use mathlib.Core.Path.{◌≡◌, refl, sym}
-use Prim.Native.Nat.{◌-◌, ◌≤◌}
+use mathlib.Core.Path.{refl, sym}
 use native.Mathlib.Omega.{arith}
-use lib.Dec.{eqb}
-use lib.ListN.{length, get_or, drop}
-use mathlib.Core.Bool.{◌&&◌}
-use Rattle.strided.specs.Step.{blank_z}
+use lib.ListN.{get_or}
 use Rattle.states.proofs.Blanks.{each_zero_z, gathered_next, gathered_end}
-use borrow.Author.Rules.{rules}
 use mir.Syntax.{w64}
 use mir.Val.{Fits, of_z}
 use Rattle.std.proofs.Math.Facts.{Fits-or, Fits-of_z, of_z-to_z}
@@ -23,11 +18,10 @@ loop-i-preserved c =
     let l = c.loop-i in
     let v : ℤ = get_or c.args.numbers.now l.i (pos 0) in
     let f : Fits w64 (of_z w64 v) = Fits-of_z {z = v} (record { sfits = c.bits-1.given }) in
-    let h = rw (of_z-to_z {w = w64} l.auto.bits) at l.invariant.1 in
-    (
+    let h = rw (of_z-to_z {w = w64} l.auto.bits) at l.invariant.1 in (
       omega arith,
       rw (of_z-to_z {w = w64} (Fits-or l.auto.bits f))
-      (gathered_next each_zero_z (pos 0) c.args.numbers.now l.i l.bits-bits _ c.loop-i-test.true (sym (zero_bits v c.bits-1.given)) h),
+          (gathered_next each_zero_z (pos 0) c.args.numbers.now l.i l.bits-bits _ c.loop-i-test.true (sym (zero_bits v c.bits-1.given)) h),
     )
 
 pub returns : goal.returns

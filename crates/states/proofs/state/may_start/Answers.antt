@@ -2,7 +2,6 @@
 use mathlib.Core.Bool.{not}
 use Rattle.states.specs.Reaches.{may_start}
 use mathlib.Core.Path.{sym, ap, ◌∙◌}
-use borrow.Author.Rules.{rules}
 use Rattle.states.proofs.state.may_start.Goals as goal
 
 pub returns-then-total_over : goal.returns-then-total_over

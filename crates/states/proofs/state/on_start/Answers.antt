@@ -5,7 +5,6 @@ use Prim.Native.Nat.{ℕ, ◌%◌}
 use native.Mathlib.Omega.{arith}
 use Rattle.states.proofs.Blanks.{start_none, start_test}
 use mathlib.Core.Path.{ap, ◌∙◌}
-use borrow.Author.Rules.{rules}
 use Rattle.states.proofs.state.on_start.Goals as goal
 
 pub returns-then-extents-eq0 : goal.returns-then-extents-eq0

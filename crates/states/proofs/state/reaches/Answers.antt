@@ -2,7 +2,6 @@
 use Rattle.states.proofs.Table.{cut-length}
 use Rattle.states.proofs.Reaching.{blocks_long, counters_long, laid-here, untidy, stands_not, near_last, may-not, leave_last, begins_here}
 use native.Mathlib.Omega.{arith}
-use borrow.Author.Rules.{rules}
 use Rattle.states.proofs.state.reaches.Goals as goal
 
 pub slice_bounds-stands-end : goal.slice_bounds-stands-end

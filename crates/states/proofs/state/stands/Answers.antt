@@ -1,6 +1,5 @@
 -- `states::state::stands` meets its contract. Assumes nothing.
 use Rattle.states.proofs.Reaching.{stands_ended, stands_out, stands_on}
-use borrow.Author.Rules.{rules}
 use Rattle.states.proofs.state.stands.Goals as goal
 
 pub returns-then-ended : goal.returns-then-ended

@@ -1,6 +1,5 @@
 -- `states::state::tidy` meets its contract. Assumes nothing.
 use Rattle.states.proofs.Reaching.{tidy-not, tidy_last}
-use borrow.Author.Rules.{rules}
 use Rattle.states.proofs.state.tidy.Goals as goal
 
 pub returns-then-all_zero : goal.returns-then-all_zero

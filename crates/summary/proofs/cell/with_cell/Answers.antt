@@ -1,7 +1,6 @@
 -- `summary::cell::with_cell` meets its contract: a cell that is not a number, the first other one, a later one. Assumes nothing.
-use mathlib.Core.Path.{◌≡◌, sym}
+use mathlib.Core.Path.{sym}
 use mathlib.Core.Bool.{true, false}
-use borrow.Author.Rules.{rules}
 use Rattle.summary.proofs.Steps.{at_nan, at-number}
 use Rattle.summary.proofs.cell.with_cell.Goals as goal
 

@@ -2,14 +2,13 @@
 use mathlib.Core.Path.{◌≡◌, refl, ap, ◌∙◌}
 use Prim.Native.Nat.{◌-◌, ◌*◌, ◌<◌, ◌^◌}
 use native.Mathlib.Omega.{arith}
-use lib.IntN.{ℤ, ◌+ℤ◌}
+use lib.IntN.{◌+ℤ◌}
 use lib.ListN.{length}
 use mir.Facts.{to_z-of_z}
 use mir.Syntax.{w64}
 use mir.Val.{to_z, of_z}
 use Rattle.summary.specs.Sums.{with_cell}
-use Rattle.summary.specs.Ahead.{run_from, met}
-use Rattle.summary.proofs.Meeting.{in_fits, running_in, running_room, Going, going_none, going_next, going_end}
+use Rattle.summary.proofs.Meeting.{in_fits, running_in, running_room, going_none, going_next, going_end}
 use Rattle.summary.proofs.run.cells_behind.Goals as goal
 
 pub loop-k-init : goal.loop-k-init

@@ -1,15 +1,8 @@
 -- The invariants of `run::cells_behind`.
-use mathlib.Core.Path.{◌≡◌, refl, ap, ◌∙◌}
-use Prim.Native.Nat.{◌-◌, ◌*◌, ◌<◌, ◌^◌}
-use native.Mathlib.Omega.{arith}
-use lib.IntN.{ℤ, ◌+ℤ◌}
-use lib.ListN.{length}
-use mir.Facts.{to_z-of_z}
-use mir.Syntax.{w64}
-use mir.Val.{to_z, of_z}
-use Rattle.summary.specs.Sums.{with_cell}
+use Prim.Native.Nat.{◌-◌}
+use lib.IntN.{◌+ℤ◌}
 use Rattle.summary.specs.Ahead.{run_from, met}
-use Rattle.summary.proofs.Meeting.{in_fits, running_in, running_room, Going, going_none, going_next, going_end}
+use Rattle.summary.proofs.Meeting.{Going}
 use Rattle.summary.proofs.run.cells_behind.Given as goal
 
 abbrev pub invariant-loop-k : goal.invariant-loop-k

@@ -1,16 +1,14 @@
 -- `summary::run::group_behind` meets its contract: the loop keeps `Grouping`. Assumes nothing.
-use borrow.Author.Rules.{rules}
 use mathlib.Core.Path.{◌≡◌, ◌∙◌}
 use Prim.Native.Nat.{◌-◌, ◌*◌, ◌<◌, ◌^◌}
 use native.Mathlib.Omega.{arith}
-use lib.IntN.{ℤ, ◌+ℤ◌}
+use lib.IntN.{◌+ℤ◌}
 use lib.ListN.{length}
 use mir.Facts.{to_z-of_z}
 use mir.Syntax.{w64}
 use mir.Val.{to_z, of_z}
-use Rattle.summary.specs.Ahead.{run_from, met}
 use Rattle.summary.specs.Parts.{group, group_is}
-use Rattle.summary.proofs.Meeting.{in_fits, Grouping, grouping_none, grouping_in, grouping_next, grouping_end}
+use Rattle.summary.proofs.Meeting.{in_fits, grouping_none, grouping_in, grouping_next, grouping_end}
 use Rattle.summary.proofs.run.group_behind.Goals as goal
 
 pub loop-k-init : goal.loop-k-init

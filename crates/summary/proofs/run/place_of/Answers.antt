@@ -1,6 +1,5 @@
 -- `summary::run::place_of` meets its contract. Assumes nothing.
 use mir.Facts.{to_z-of_z, Fits-nat_abs}
-use borrow.Author.Rules.{rules}
 use Rattle.summary.proofs.run.place_of.Goals as goal
 use mir.Syntax.{w64}
 

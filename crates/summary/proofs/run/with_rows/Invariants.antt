@@ -1,13 +1,7 @@
 -- The invariants of `run::with_rows`.
-use mathlib.Core.Path.{◌≡◌, ◌∙◌}
 use Prim.Native.Nat.{◌-◌}
-use native.Mathlib.Omega.{arith}
-use lib.IntN.{ℤ, ◌+ℤ◌}
-use mir.Facts.{to_z-of_z}
-use mir.Syntax.{w64}
-use mir.Val.{to_z, of_z}
 use Rattle.summary.specs.Ahead.{rows_from, met}
-use Rattle.summary.proofs.Meeting.{Rowing, rowing_none, rowing_run, rowing_fits, rowing_next, rowing_last, rowing_end}
+use Rattle.summary.proofs.Meeting.{Rowing}
 use Rattle.summary.proofs.run.with_rows.Given as goal
 
 abbrev pub invariant-loop-j : goal.invariant-loop-j

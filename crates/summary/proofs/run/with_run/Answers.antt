@@ -3,10 +3,9 @@ use mathlib.Core.Path.{refl, ap, ◌∙◌}
 use Prim.Native.Nat.{◌-◌}
 use native.Mathlib.Omega.{arith}
 use borrow.Author.Rules.{rules}
-use lib.IntN.{ℤ, ◌+ℤ◌}
 use mir.Facts.{to_z-of_z}
 use mir.Syntax.{w64}
-use mir.Val.{SFits, to_z}
+use mir.Val.{SFits}
 use Rattle.summary.specs.Sums.{with_cell}
 use Rattle.summary.specs.Visits.{cell_of}
 use Rattle.summary.specs.Ahead.{run_from, met}

@@ -1,16 +1,8 @@
 -- The invariants of `run::with_run`.
-use mathlib.Core.Path.{refl, ap, ◌∙◌}
 use Prim.Native.Nat.{◌-◌}
-use native.Mathlib.Omega.{arith}
-use borrow.Author.Rules.{rules}
-use lib.IntN.{ℤ, ◌+ℤ◌}
-use mir.Facts.{to_z-of_z}
-use mir.Syntax.{w64}
-use mir.Val.{SFits, to_z}
-use Rattle.summary.specs.Sums.{with_cell}
-use Rattle.summary.specs.Visits.{cell_of}
+use lib.IntN.{◌+ℤ◌}
 use Rattle.summary.specs.Ahead.{run_from, met}
-use Rattle.summary.proofs.Meeting.{first_in, first-room, Running, running_first, running_on, running_end}
+use Rattle.summary.proofs.Meeting.{Running}
 use Rattle.summary.proofs.run.with_run.Given as goal
 
 -- the summary and the first cell are no part of the loop: `whole` is what the run makes of them, and the first cell's summary fixes it

@@ -1,5 +1,4 @@
 -- `views::memory::found_into` meets its contract: index finding judges row 11 before anything is written. Assumes nothing.
-use borrow.Author.Rules.{rules}
 use mathlib.Core.Path.{refl, sym, subst}
 use Prim.Native.Nat.{ℕ, ◌≤◌}
 use lib.ListN.{take}

@@ -1,5 +1,4 @@
 -- `views::memory::told_into` meets its contract. Assumes nothing.
-use borrow.Author.Rules.{rules}
 use Rattle.states.proofs.Table.{cut-length}
 use Rattle.views.proofs.memory.told_into.Goals as goal
 

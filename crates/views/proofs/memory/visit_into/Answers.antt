@@ -1,5 +1,4 @@
 -- `views::memory::visit_into` meets its contract. Assumes nothing.
-use borrow.Author.Rules.{rules}
 use mathlib.Core.Path.{◌≡◌, sym, ap, ◌∙◌, subst}
 use mathlib.Core.Option.{none}
 use Rattle.strided.specs.Step.{stepped}

@@ -1,11 +1,7 @@
 -- The invariants of `number::number_of`.
-use borrow.Author.Rules.{rules}
-use mathlib.Core.Path.{◌≡◌, sym, ap, ◌∙◌, subst}
-use Prim.Native.Nat.{ℕ, ◌+◌, ◌-◌, ◌≤◌, ◌<◌}
-use native.Mathlib.Omega.{arith}
-use lib.ListN.{get_or}
-use Rattle.views.specs.Tally.{tallied, numbered, Room, First}
-use Rattle.views.proofs.Tallies.{tally_from, tally_none, tally_step, tally_room, tally_first, tally_number, number_none}
+use mathlib.Core.Path.{◌≡◌}
+use Prim.Native.Nat.{◌-◌, ◌≤◌, ◌<◌}
+use Rattle.views.proofs.Tallies.{tally_from}
 use Rattle.views.proofs.number.number_of.Given as goal
 
 abbrev pub invariant-loop-i : goal.invariant-loop-i

@@ -1,7 +1,6 @@
 -- `views::number::tile_at` meets its contract. Assumes nothing.
 use mathlib.Core.Path.{sym}
 use native.Mathlib.Nat.{div-eq_of_lt}
-use borrow.Author.Rules.{rules}
 use Rattle.views.proofs.number.tile_at.Goals as goal
 
 pub returns-then-at-width : goal.returns-then-at-width

@@ -1,10 +1,9 @@
 -- `views::readers::places_into` meets its contract. Assumes nothing.
-use mathlib.Core.Path.{◌≡◌, ◌∙◌, ap}
-use Prim.Native.Nat.{ℕ, ◌≤◌, ◌-◌}
+use mathlib.Core.Path.{◌∙◌, ap}
+use Prim.Native.Nat.{ℕ, ◌-◌}
 use native.Mathlib.Nat.{le_antisymm}
 use native.Mathlib.Omega.{arith}
 use lib.ListN.{take}
-use borrow.Author.Rules.{rules}
 use Rattle.strided.specs.Base.{padded}
 use Rattle.laws.specs.Base.Filling.{fill_none}
 use Rattle.laws.specs.Base.Stores.{fill_first}

@@ -1,5 +1,4 @@
 -- `views::readers::student_into` meets its contract. Assumes nothing.
-use borrow.Author.Rules.{rules}
 use mathlib.Core.Path.{ap}
 use Rattle.views.specs.Memory.{student_memory}
 use Rattle.views.proofs.readers.student_into.Goals as goal

@@ -1,5 +1,4 @@
 -- `walk::memory::block_into` meets its contract. Assumes nothing.
-use borrow.Author.Rules.{rules}
 use mathlib.Core.Path.{refl}
 use mathlib.Core.List.{[], ◌∷◌}
 use Rattle.walk.proofs.Answered.{steps_of, step_block}

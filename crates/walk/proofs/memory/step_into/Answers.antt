@@ -1,5 +1,4 @@
 -- `walk::memory::step_into` meets its contract. Assumes nothing.
-use borrow.Author.Rules.{rules}
 use mathlib.Core.Path.{◌≡◌, refl, sym, ap, ◌∙◌, subst}
 use mir.Facts.{to_z-of_z}
 use Rattle.strided.specs.Step.{stepped}

@@ -2,7 +2,6 @@
 use mathlib.Core.Path.{sym, subst}
 use Prim.Native.Nat.{ℕ}
 use native.Mathlib.Omega.{arith}
-use borrow.Author.Rules.{rules}
 use Rattle.advance.specs.Carry.{Single}
 use Rattle.advance.proofs.Turns.{inside_done, tile_done}
 use Rattle.walk.specs.Onward.{widths_of}

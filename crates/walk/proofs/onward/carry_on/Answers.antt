@@ -1,11 +1,10 @@
 -- `walk::onward::carry_on` meets its contract. Assumes nothing.
-use mathlib.Core.List.{List}
 use mathlib.Core.Path.{◌≡◌, sym, ap, ◌∙◌, subst}
-use Prim.Native.Nat.{ℕ, ◌≤◌, ◌<◌, ◌-◌}
+use Prim.Native.Nat.{ℕ, ◌<◌}
 use native.Mathlib.Omega.{arith}
 use lib.ListN.{get_or}
 use Rattle.advance.specs.Axis.{goal_of}
-use Rattle.advance.proofs.Turns.{Before, begins, ends, shifts_at, stops_at, goes_on_at}
+use Rattle.advance.proofs.Turns.{begins, ends, shifts_at, stops_at, goes_on_at}
 use Rattle.walk.specs.Onward.{widths_of}
 use Rattle.walk.proofs.Widths.{width_read, tiled_any}
 use Rattle.walk.proofs.onward.carry_on.Goals as goal

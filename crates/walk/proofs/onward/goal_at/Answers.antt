@@ -1,7 +1,6 @@
 -- `walk::onward::goal_at` meets its contract. Assumes nothing.
 use Rattle.advance.specs.Axis.{goal_of}
 use mathlib.Core.Path.{◌∙◌}
-use borrow.Author.Rules.{rules}
 use Rattle.walk.proofs.onward.goal_at.Goals as goal
 
 pub returns-then-inside : goal.returns-then-inside

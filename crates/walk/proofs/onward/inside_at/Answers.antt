@@ -3,7 +3,6 @@ use Rattle.advance.proofs.Axis.{inside_ahead, inside_back, inside_last}
 use Prim.Native.Nat.{ℕ, ◌≤◌}
 use native.Mathlib.Nat.{div-mul-le_self}
 use mathlib.Core.Path.{sym, subst}
-use borrow.Author.Rules.{rules}
 use Rattle.walk.proofs.onward.inside_at.Goals as goal
 
 pub overflow_sub-at : goal.overflow_sub-at

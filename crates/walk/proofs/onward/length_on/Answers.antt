@@ -4,7 +4,6 @@ use mathlib.Core.Path.{◌≡◌, ◌∙◌, subst}
 use lib.ListN.{get_or}
 use native.Mathlib.Omega.{arith}
 use borrow.Author.Tests.{eq-eqb}
-use borrow.Author.Rules.{rules}
 use Rattle.advance.specs.Blocks.{length_of}
 use Rattle.advance.proofs.Axis.{length_cut, length-left}
 use Rattle.walk.specs.Onward.{widths_of}

@@ -4,7 +4,6 @@ use Prim.Native.Nat.{ℕ}
 use native.Mathlib.Nat.{lt_of_le_of_lt, div-mul-le_self}
 use Rattle.advance.specs.Axis.{start_of}
 use Rattle.advance.proofs.Axis.{start_one, start_whole}
-use borrow.Author.Rules.{rules}
 use Rattle.walk.proofs.onward.start_at.Goals as goal
 
 pub returns-then-width-eq1 : goal.returns-then-width-eq1

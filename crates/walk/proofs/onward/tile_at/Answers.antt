@@ -3,7 +3,6 @@ use Rattle.advance.proofs.Axis.{tile_ahead, tile_back}
 use Prim.Native.Nat.{ℕ, ◌≤◌}
 use native.Mathlib.Nat.{div-mul-le_self, le_trans, le_of_lt}
 use mathlib.Core.Path.{sym, subst}
-use borrow.Author.Rules.{rules}
 use Rattle.walk.proofs.onward.tile_at.Goals as goal
 
 pub overflow_sub-extent : goal.overflow_sub-extent

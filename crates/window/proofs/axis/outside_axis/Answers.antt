@@ -2,7 +2,6 @@
 use mathlib.Core.Path.{◌≡◌}
 use native.Mathlib.Omega.{arith}
 use lib.IntN.{nat_abs}
-use borrow.Author.Rules.{rules}
 use Rattle.window.specs.Axes.{room_along}
 use Rattle.laws.specs.Base.Signs.{back}
 use Rattle.window.proofs.Outside.{outside_none, outside_past, outside-room}

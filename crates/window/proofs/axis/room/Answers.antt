@@ -3,7 +3,6 @@ use mathlib.Core.Path.{◌≡◌}
 use mathlib.Core.Bool.{true, false}
 use lib.IntN.{pos}
 use lib.Signed.{lt_z}
-use borrow.Author.Rules.{rules}
 use Rattle.laws.specs.Base.Signs.{back, is_neg, is_pos}
 use Rattle.window.proofs.axis.room.Goals as goal
 

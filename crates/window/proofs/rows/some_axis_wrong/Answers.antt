@@ -1,12 +1,9 @@
 -- `window::rows::some_axis_wrong` meets its contract. Assumes nothing.
 use mathlib.Core.Path.{◌≡◌, sym, ◌∙◌, ap}
-use mathlib.Core.Bool.{false}
-use Prim.Native.Nat.{◌≤◌, ◌-◌}
 use native.Mathlib.Nat.{le_antisymm}
 use native.Mathlib.Omega.{arith}
 use lib.IntN.{ℤ, pos}
-use lib.ListN.{length, get_or}
-use borrow.Author.Rules.{rules}
+use lib.ListN.{get_or}
 use Rattle.strided.specs.Base.{some_of}
 use Rattle.laws.specs.Base.Bits.{read_back}
 use Rattle.laws.specs.Refusals.Operands.{some_of_empty, some_of_step, some_of_found}

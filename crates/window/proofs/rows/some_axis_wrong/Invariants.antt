@@ -1,16 +1,10 @@
 -- The invariants of `rows::some_axis_wrong`.
-use mathlib.Core.Path.{◌≡◌, sym, ◌∙◌, ap}
+use mathlib.Core.Path.{◌≡◌}
 use mathlib.Core.Bool.{false}
 use Prim.Native.Nat.{◌≤◌, ◌-◌}
-use native.Mathlib.Nat.{le_antisymm}
-use native.Mathlib.Omega.{arith}
-use lib.IntN.{ℤ, pos}
-use lib.ListN.{length, get_or}
-use borrow.Author.Rules.{rules}
+use lib.ListN.{length}
 use Rattle.strided.specs.Base.{some_of}
-use Rattle.laws.specs.Base.Bits.{read_back}
-use Rattle.laws.specs.Refusals.Operands.{some_of_empty, some_of_step, some_of_found}
-use Rattle.window.specs.Window.{axis_wrong, axis_wrong_at}
+use Rattle.window.specs.Window.{axis_wrong_at}
 use Rattle.window.proofs.rows.some_axis_wrong.Given as goal
 
 -- no axis before i is wrong

@@ -1,7 +1,6 @@
 -- `window::rows::window_wrong` meets its contract: the three tests of row 15. Assumes nothing.
 use mathlib.Core.Path.{◌≡◌, sym, ◌∙◌}
 use lib.ListN.{length}
-use borrow.Author.Rules.{rules}
 use Rattle.window.specs.Layouts.{lists_right}
 use Rattle.window.proofs.Row15.{wrong_lists, wrong-axes, wrong_strides}
 use Rattle.window.proofs.rows.window_wrong.Goals as goal

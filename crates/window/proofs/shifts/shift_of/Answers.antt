@@ -1,16 +1,14 @@
 -- `window::shifts::shift_of` meets its contract. Assumes nothing.
 use mathlib.Core.Path.{◌≡◌, ◌∙◌, ap}
-use Prim.Native.Nat.{◌≤◌, ◌-◌}
 use native.Mathlib.Nat.{le_antisymm}
 use native.Mathlib.Omega.{arith}
 use lib.IntN.{ℤ, pos, ◌+ℤ◌, ◌*ℤ◌}
-use lib.ListN.{length, get_or}
+use lib.ListN.{get_or}
 use mir.Syntax.{w64}
 use mir.Val.{to_z, of_z}
-use borrow.Author.Rules.{rules}
 use Rattle.laws.specs.Base.Bits.{read_back}
 use Rattle.laws.specs.Base.Signs.{back}
-use Rattle.window.proofs.Sums.{Summed, summed_start, term_small, sum_fits_lem, summed_turn, summed_end}
+use Rattle.window.proofs.Sums.{summed_start, term_small, sum_fits_lem, summed_turn, summed_end}
 use Rattle.window.proofs.shifts.shift_of.Goals as goal
 
 pub loop-i-init : goal.loop-i-init

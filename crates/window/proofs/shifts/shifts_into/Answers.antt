@@ -1,6 +1,5 @@
 -- `window::shifts::shifts_into` meets its contract. Assumes nothing.
 use mathlib.Core.Path.{sym, ◌∙◌}
-use borrow.Author.Rules.{rules}
 use Rattle.window.proofs.Shifting.{shifts_none, shifts_some}
 use Rattle.window.proofs.shifts.shifts_into.Goals as goal
 

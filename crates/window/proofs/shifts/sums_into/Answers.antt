@@ -8,7 +8,6 @@ use lib.IntN.{ℤ, pos}
 use lib.ListN.{length, take, drop}
 use mir.Syntax.{w64}
 use mir.Val.{to_z, of_z}
-use borrow.Author.Rules.{rules}
 use Rattle.strided.specs.Base.{padded, run}
 use Rattle.strided.specs.Layout.{dot, max_i}
 use Rattle.laws.specs.Base.Filling.{fill_none, fill_next}

@@ -1,9 +1,8 @@
 -- `window::strides::axis_after` meets its contract. Assumes nothing.
-use mathlib.Core.Path.{◌≡◌, sym, ap, ◌∙◌}
-use Prim.Native.Nat.{ℕ, ◌%◌, ◌<◌}
+use mathlib.Core.Path.{sym, ap, ◌∙◌}
+use Prim.Native.Nat.{ℕ, ◌%◌}
 use native.Mathlib.Nat.{mod_self, mod-eq_of_lt}
 use native.Mathlib.Omega.{arith}
-use borrow.Author.Rules.{rules}
 use Rattle.window.proofs.strides.axis_after.Goals as goal
 
 pub returns-then-next-rank : goal.returns-then-next-rank

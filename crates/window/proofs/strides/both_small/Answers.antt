@@ -1,5 +1,5 @@
 -- `window::strides::both_small` meets its contract. Assumes nothing.
-use mathlib.Core.Path.{◌≡◌, sym}
+use mathlib.Core.Path.{sym}
 use borrow.Author.Tests.{lt-ltb, le-ltb}
 use Rattle.window.proofs.strides.both_small.Goals as goal
 

@@ -3,7 +3,6 @@ use mathlib.Core.Path.{sym, ◌∙◌}
 use lib.IntN.{◌*ℤ◌}
 use mir.Syntax.{w64}
 use mir.Val.{SFits}
-use borrow.Author.Rules.{rules}
 use Rattle.laws.specs.Base.Signs.{back}
 use Rattle.window.proofs.Products.{keeps, steps, product_fits}
 use Rattle.window.proofs.strides.new_stride.Goals as goal

@@ -2,7 +2,6 @@
 use mathlib.Core.Path.{◌≡◌, sym, ap, ◌∙◌}
 use mathlib.Core.Bool.{not}
 use lib.IntN.{ℤ, ◌*ℤ◌}
-use borrow.Author.Rules.{rules}
 use Rattle.strided.specs.Layout.{in_i64}
 use Rattle.laws.specs.Base.Signs.{back}
 use Rattle.window.proofs.Products.{kept_fits, steps}

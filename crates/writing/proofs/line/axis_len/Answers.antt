@@ -1,7 +1,6 @@
 -- `writing::line::axis_len` meets its contract: its fields are those of an A line.
 -- Assumes nothing.
 use Rattle.writing.proofs.Lines.{line_measured, axis_fields}
-use borrow.Author.Rules.{rules}
 use Rattle.writing.proofs.line.axis_len.Goals as goal
 
 pub returns : goal.returns

@@ -1,7 +1,6 @@
 -- `writing::line::block_len` meets its contract: its fields are those of a B line.
 -- Assumes nothing.
 use Rattle.writing.proofs.Lines.{line_measured, block_fields}
-use borrow.Author.Rules.{rules}
 use Rattle.writing.proofs.line.block_len.Goals as goal
 
 pub returns : goal.returns

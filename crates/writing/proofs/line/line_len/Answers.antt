@@ -4,7 +4,6 @@ use native.Mathlib.Omega.{arith}
 use lib.ListN.{length-append}
 use Rattle.strided.specs.Base.{over}
 use Rattle.strided.specs.Text.{field, signed_field}
-use borrow.Author.Rules.{rules}
 use Rattle.writing.proofs.line.line_len.Goals as goal
 
 pub returns : goal.returns

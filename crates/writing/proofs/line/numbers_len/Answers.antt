@@ -1,12 +1,9 @@
 -- `writing::line::numbers_len` meets its contract: the loop keeps `Measuring`.
 -- Assumes nothing.
-use borrow.Author.Rules.{rules}
 use native.Mathlib.Omega.{arith}
 use Prim.Native.Nat.{◌-◌, ◌≤◌}
-use lib.ListN.{length}
-use Rattle.strided.specs.Text.{field}
 use Rattle.laws.specs.Text.Lengths.{digits_most}
-use Rattle.writing.proofs.Lines.{Measuring, measuring_turn, measuring_end}
+use Rattle.writing.proofs.Lines.{measuring_turn, measuring_end}
 use Rattle.writing.proofs.line.numbers_len.Goals as goal
 
 pub overflow_add-k : goal.overflow_add-k

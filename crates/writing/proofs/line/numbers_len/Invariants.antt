@@ -1,11 +1,8 @@
 -- The invariants of `line::numbers_len`.
-use borrow.Author.Rules.{rules}
-use native.Mathlib.Omega.{arith}
-use Prim.Native.Nat.{◌-◌, ◌≤◌}
+use Prim.Native.Nat.{◌-◌}
 use lib.ListN.{length}
 use Rattle.strided.specs.Text.{field}
-use Rattle.laws.specs.Text.Lengths.{digits_most}
-use Rattle.writing.proofs.Lines.{Measuring, measuring_turn, measuring_end}
+use Rattle.writing.proofs.Lines.{Measuring}
 use Rattle.writing.proofs.line.numbers_len.Given as goal
 
 abbrev pub invariant-loop-i : goal.invariant-loop-i

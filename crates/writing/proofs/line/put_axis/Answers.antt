@@ -1,7 +1,6 @@
 -- `writing::line::put_axis` meets its contract: its fields are those of an A line.
 -- Assumes nothing.
 use Rattle.writing.proofs.Lines.{line_room, line_written, axis_fields}
-use borrow.Author.Rules.{rules}
 use Rattle.writing.proofs.line.put_axis.Goals as goal
 
 pub put_line-requires : goal.put_line-requires

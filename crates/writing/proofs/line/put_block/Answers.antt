@@ -1,7 +1,6 @@
 -- `writing::line::put_block` meets its contract: its fields are those of a B line.
 -- Assumes nothing.
 use Rattle.writing.proofs.Lines.{line_room, line_written, block_fields}
-use borrow.Author.Rules.{rules}
 use Rattle.writing.proofs.line.put_block.Goals as goal
 
 pub put_line-requires : goal.put_line-requires

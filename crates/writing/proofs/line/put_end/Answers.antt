@@ -1,7 +1,6 @@
 -- `writing::line::put_end` meets its contract: its fields are those of a Z line.
 -- Assumes nothing.
 use Rattle.writing.proofs.Lines.{line_room, line_written, figures_fields}
-use borrow.Author.Rules.{rules}
 use Rattle.writing.proofs.line.put_end.Goals as goal
 
 pub put_line-requires : goal.put_line-requires

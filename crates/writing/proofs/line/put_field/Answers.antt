@@ -2,7 +2,6 @@
 -- Assumes nothing.
 use native.Mathlib.Omega.{arith}
 use Rattle.writing.proofs.Putting.{wrote_then}
-use borrow.Author.Rules.{rules}
 use Rattle.writing.proofs.line.put_field.Goals as goal
 
 pub returns : goal.returns

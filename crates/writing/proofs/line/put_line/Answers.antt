@@ -5,7 +5,6 @@ use native.Mathlib.Omega.{arith}
 use mathlib.Core.Path.{sym}
 use Rattle.writing.proofs.Lines.{line_parts, line_length}
 use Rattle.writing.proofs.Putting.{wrote_then, wrote_is}
-use borrow.Author.Rules.{rules}
 use Rattle.writing.proofs.line.put_line.Goals as goal
 
 pub put_numbers-b-requires : goal.put_numbers-b-requires

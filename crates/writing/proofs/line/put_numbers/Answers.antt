@@ -1,12 +1,9 @@
 -- `writing::line::put_numbers` meets its contract: the loop keeps `Doing`: the fields from the i-th on are left to write.
 -- Assumes nothing.
-use borrow.Author.Rules.{rules}
 use Prim.Native.Nat.{◌-◌}
-use lib.ListN.{length, drop}
-use Rattle.strided.specs.Base.{over}
 use Rattle.strided.specs.Text.{field}
 use Rattle.writing.proofs.Lines.{each_room, each_next, each_end}
-use Rattle.writing.proofs.Putting.{Doing, doing_start, doing_length}
+use Rattle.writing.proofs.Putting.{doing_start, doing_length}
 use Rattle.writing.proofs.line.put_numbers.Goals as goal
 
 pub loop-i-init : goal.loop-i-init

@@ -1,11 +1,9 @@
 -- The invariants of `line::put_numbers`.
-use borrow.Author.Rules.{rules}
 use Prim.Native.Nat.{◌-◌}
 use lib.ListN.{length, drop}
 use Rattle.strided.specs.Base.{over}
 use Rattle.strided.specs.Text.{field}
-use Rattle.writing.proofs.Lines.{each_room, each_next, each_end}
-use Rattle.writing.proofs.Putting.{Doing, doing_start, doing_length}
+use Rattle.writing.proofs.Putting.{Doing}
 use Rattle.writing.proofs.line.put_numbers.Given as goal
 
 abbrev pub invariant-loop-i : goal.invariant-loop-i

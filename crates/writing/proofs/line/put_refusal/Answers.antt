@@ -1,7 +1,6 @@
 -- `writing::line::put_refusal` meets its contract: its field is that of an R line.
 -- Assumes nothing.
 use Rattle.writing.proofs.Lines.{line_room, line_written, rank_fields}
-use borrow.Author.Rules.{rules}
 use Rattle.writing.proofs.line.put_refusal.Goals as goal
 
 pub put_line-requires : goal.put_line-requires

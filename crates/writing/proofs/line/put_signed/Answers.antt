@@ -1,15 +1,13 @@
 -- `writing::line::put_signed` meets its contract: the loop keeps `Doing`, as in `put_numbers`; a number is handed on as its bits.
 -- Assumes nothing.
-use borrow.Author.Rules.{rules}
 use mathlib.Core.Path.{ap}
 use Prim.Native.Nat.{◌-◌}
 use lib.IntN.{pos}
-use lib.ListN.{length, get_or, drop}
-use Rattle.strided.specs.Base.{over}
+use lib.ListN.{get_or}
 use Rattle.strided.specs.Text.{signed_field}
 use Rattle.laws.specs.Base.Bits.{read_back}
 use Rattle.writing.proofs.Lines.{each_room, each_next, each_end}
-use Rattle.writing.proofs.Putting.{Doing, doing_start, doing_length, wrote_is}
+use Rattle.writing.proofs.Putting.{doing_start, doing_length, wrote_is}
 use Rattle.writing.proofs.line.put_signed.Goals as goal
 
 pub loop-i-init : goal.loop-i-init

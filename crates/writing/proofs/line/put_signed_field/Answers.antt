@@ -5,7 +5,6 @@ use mathlib.Core.Path.{ap}
 use mir.Facts.{to_z-of_z}
 use Rattle.strided.specs.Text.{signed_field}
 use Rattle.writing.proofs.Putting.{wrote_then, wrote_is}
-use borrow.Author.Rules.{rules}
 use Rattle.writing.proofs.line.put_signed_field.Goals as goal
 use mir.Syntax.{w64}
 

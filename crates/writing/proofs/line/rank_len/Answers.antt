@@ -1,7 +1,6 @@
 -- `writing::line::rank_len` meets its contract: its fields are those of a K line.
 -- Assumes nothing.
 use Rattle.writing.proofs.Lines.{line_measured, rank_fields}
-use borrow.Author.Rules.{rules}
 use Rattle.writing.proofs.line.rank_len.Goals as goal
 
 pub returns : goal.returns

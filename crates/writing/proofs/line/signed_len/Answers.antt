@@ -1,16 +1,14 @@
 -- `writing::line::signed_len` meets its contract: the loop keeps `Measuring`, as in `numbers_len`.
 -- Assumes nothing.
-use borrow.Author.Rules.{rules}
 use native.Mathlib.Omega.{arith}
 use mathlib.Core.Path.{◌≡◌, ap, ◌∙◌}
 use Prim.Native.Nat.{◌-◌, ◌≤◌}
 use lib.IntN.{pos}
 use lib.ListN.{length, get_or}
 use Rattle.strided.specs.Digits.{signed_of}
-use Rattle.strided.specs.Text.{signed_field}
 use Rattle.laws.specs.Base.Bits.{read_back}
 use Rattle.laws.specs.Text.Lengths.{signed-most}
-use Rattle.writing.proofs.Lines.{Measuring, measuring_turn, measuring_end}
+use Rattle.writing.proofs.Lines.{measuring_turn, measuring_end}
 use Rattle.writing.proofs.line.signed_len.Goals as goal
 
 pub overflow_add-k : goal.overflow_add-k

@@ -1,7 +1,6 @@
 -- `writing::number::i64_len` meets its contract: the digits of the size, and one byte for the sign.
 -- Assumes nothing.
 use native.Mathlib.Omega.{arith}
-use borrow.Author.Rules.{rules}
 use mathlib.Core.Path.{◌≡◌, ap}
 use Prim.Native.Nat.{◌+◌}
 use lib.ListN.{length}

@@ -1,6 +1,5 @@
 -- `writing::number::put_byte` meets its contract: one element set is one byte put.
 -- Assumes nothing.
-use borrow.Author.Rules.{rules}
 use mathlib.Core.Path.{refl}
 use Rattle.writing.proofs.Putting.{put_one}
 use Rattle.writing.proofs.number.put_byte.Goals as goal

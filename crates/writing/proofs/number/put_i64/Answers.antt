@@ -1,7 +1,6 @@
 -- `writing::number::put_i64` meets its contract: the sign, if there is one, and the digits of the size.
 -- Assumes nothing.
 use native.Mathlib.Omega.{arith}
-use borrow.Author.Rules.{rules}
 use mathlib.Core.Path.{refl, sym, ap}
 use lib.ListN.{length}
 use Rattle.writing.proofs.Putting.{wrote_then, wrote_is}

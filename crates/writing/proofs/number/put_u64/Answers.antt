@@ -1,10 +1,9 @@
 -- `writing::number::put_u64` meets its contract: the loop keeps `Writing`: the digits of `rest` are left to write, in front of i.
 -- Assumes nothing.
-use borrow.Author.Rules.{rules}
 use native.Mathlib.Omega.{arith}
 use lib.ListN.{length-set}
 use Rattle.laws.specs.Text.Lengths.{length_big}
-use Rattle.writing.proofs.Digits.{Writing, writing_start, writing_length, writing_turn, writing_last, writing_index, writing_first}
+use Rattle.writing.proofs.Digits.{writing_start, writing_length, writing_turn, writing_last, writing_index, writing_first}
 use Rattle.writing.proofs.number.put_u64.Goals as goal
 
 pub loop-rest-init : goal.loop-rest-init

@@ -1,9 +1,5 @@
 -- The invariants of `number::put_u64`.
-use borrow.Author.Rules.{rules}
-use native.Mathlib.Omega.{arith}
-use lib.ListN.{length-set}
-use Rattle.laws.specs.Text.Lengths.{length_big}
-use Rattle.writing.proofs.Digits.{Writing, writing_start, writing_length, writing_turn, writing_last, writing_index, writing_first}
+use Rattle.writing.proofs.Digits.{Writing}
 use Rattle.writing.proofs.number.put_u64.Given as goal
 
 abbrev pub invariant-loop-rest : goal.invariant-loop-rest

@@ -1,10 +1,6 @@
 -- `writing::number::u64_len` meets its contract: the loop keeps the sum of the digits counted and those left.
 -- Assumes nothing.
 use native.Mathlib.Omega.{arith}
-use mathlib.Core.Path.{◌≡◌}
-use Prim.Native.Nat.{◌+◌}
-use lib.ListN.{length}
-use Rattle.strided.specs.Digits.{digits_of}
 use Rattle.laws.specs.Text.Lengths.{digits_most, length_small, length_big}
 use Rattle.writing.proofs.number.u64_len.Goals as goal
 

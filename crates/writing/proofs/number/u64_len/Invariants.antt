@@ -1,10 +1,8 @@
 -- The invariants of `number::u64_len`.
-use native.Mathlib.Omega.{arith}
 use mathlib.Core.Path.{◌≡◌}
 use Prim.Native.Nat.{◌+◌}
 use lib.ListN.{length}
 use Rattle.strided.specs.Digits.{digits_of}
-use Rattle.laws.specs.Text.Lengths.{digits_most, length_small, length_big}
 use Rattle.writing.proofs.number.u64_len.Given as goal
 
 abbrev pub invariant-loop-rest : goal.invariant-loop-rest

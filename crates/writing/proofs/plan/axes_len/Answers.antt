@@ -5,10 +5,8 @@ use borrow.Author.Rules.{rules}
 use native.Mathlib.Omega.{arith}
 use mathlib.Core.Path.{◌≡◌, ap, ◌∙◌}
 use mathlib.Core.List.{List}
-use Prim.Native.Nat.{ℕ, ◌+◌, ◌-◌, ◌*◌, ◌≤◌}
+use Prim.Native.Nat.{ℕ, ◌-◌}
 use lib.ListN.{length, length-append}
-use Rattle.strided.specs.Base.{over, run}
-use Rattle.writing.specs.Line.{longest}
 use Rattle.writing.specs.Plan.{axis_at}
 use Rattle.writing.proofs.Axes.{run_at, run_out}
 use Rattle.writing.proofs.plan.axes_len.Goals as goal

@@ -1,14 +1,10 @@
 -- The invariants of `plan::axes_len`.
-use borrow.Author.Rules.{rules}
-use native.Mathlib.Omega.{arith}
-use mathlib.Core.Path.{◌≡◌, ap, ◌∙◌}
-use mathlib.Core.List.{List}
-use Prim.Native.Nat.{ℕ, ◌+◌, ◌-◌, ◌*◌, ◌≤◌}
-use lib.ListN.{length, length-append}
+use mathlib.Core.Path.{◌≡◌}
+use Prim.Native.Nat.{◌+◌, ◌-◌, ◌*◌, ◌≤◌}
+use lib.ListN.{length}
 use Rattle.strided.specs.Base.{over, run}
 use Rattle.writing.specs.Line.{longest}
 use Rattle.writing.specs.Plan.{axis_at}
-use Rattle.writing.proofs.Axes.{run_at, run_out}
 use Rattle.writing.proofs.plan.axes_len.Given as goal
 
 abbrev pub invariant-loop-i : goal.invariant-loop-i

@@ -4,7 +4,6 @@ use native.Mathlib.Omega.{arith}
 use mathlib.Core.Path.{◌≡◌, ap, ◌∙◌}
 use lib.ListN.{length, take}
 use Rattle.writing.proofs.Axes.{column_lent, axis_lent}
-use borrow.Author.Rules.{rules}
 use Rattle.writing.proofs.plan.axis_at_len.Goals as goal
 
 pub slice_bounds-axis_len-end : goal.slice_bounds-axis_len-end

@@ -10,7 +10,6 @@ use Rattle.strided.specs.Text.{printed_plan, Listing}
 use Rattle.strided.specs.Memory.{plan_of}
 use Rattle.strided.specs.declared.Plan.{Plan}
 use Rattle.writing.proofs.Axes.{more_measured, fits_measured, listed_full, listed_filled}
-use borrow.Author.Rules.{rules}
 use Rattle.writing.proofs.plan.list.Goals as goal
 
 pub returns-in_default : goal.returns-in_default

@@ -10,7 +10,6 @@ use Rattle.strided.specs.declared.Plan.{Plan}
 use Rattle.writing.specs.Plan.{measured, rest_from}
 use Rattle.writing.proofs.Axes.{measured_more, printed-length}
 use Rattle.writing.proofs.Walks.{printable_ready}
-use borrow.Author.Rules.{rules}
 use Rattle.writing.proofs.plan.measure.Goals as goal
 
 pub axes_len-requires : goal.axes_len-requires

@@ -5,10 +5,9 @@ use native.Mathlib.Omega.{arith}
 use mathlib.Core.Path.{◌≡◌}
 use mathlib.Core.List.{List}
 use Prim.Native.Nat.{ℕ, ◌-◌}
-use Rattle.strided.specs.Base.{over, run}
 use Rattle.writing.specs.Plan.{axis_at}
 use Rattle.writing.proofs.Axes.{run_at, run_out}
-use Rattle.writing.proofs.Putting.{Doing, doing_start, doing_room, doing_next, doing_end, doing_length}
+use Rattle.writing.proofs.Putting.{doing_start, doing_room, doing_next, doing_end, doing_length}
 use Rattle.writing.proofs.plan.put_axes.Goals as goal
 
 pub loop-i-init : goal.loop-i-init

@@ -1,13 +1,8 @@
 -- The invariants of `plan::put_axes`.
-use borrow.Author.Rules.{rules}
-use native.Mathlib.Omega.{arith}
-use mathlib.Core.Path.{◌≡◌}
-use mathlib.Core.List.{List}
-use Prim.Native.Nat.{ℕ, ◌-◌}
+use Prim.Native.Nat.{◌-◌}
 use Rattle.strided.specs.Base.{over, run}
 use Rattle.writing.specs.Plan.{axis_at}
-use Rattle.writing.proofs.Axes.{run_at, run_out}
-use Rattle.writing.proofs.Putting.{Doing, doing_start, doing_room, doing_next, doing_end, doing_length}
+use Rattle.writing.proofs.Putting.{Doing}
 use Rattle.writing.proofs.plan.put_axes.Given as goal
 
 abbrev pub invariant-loop-i : goal.invariant-loop-i

@@ -7,7 +7,6 @@ use Rattle.strided.specs.Text.{axis_line}
 use Rattle.writing.specs.Plan.{axis_at}
 use Rattle.writing.proofs.Axes.{column_lent, axis_lent}
 use Rattle.writing.proofs.Putting.{wrote_is}
-use borrow.Author.Rules.{rules}
 use Rattle.writing.proofs.plan.put_axis_at.Goals as goal
 
 pub slice_bounds-put_axis-end : goal.slice_bounds-put_axis-end

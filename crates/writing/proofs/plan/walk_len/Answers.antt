@@ -1,19 +1,16 @@
 -- `writing::plan::walk_len` meets its contract: the loop keeps `Walks`, and the sum of what is measured and what is left; a stretch that
 -- passes the limit ends it.
 -- Assumes nothing.
-use borrow.Author.Rules.{rules}
 use native.Mathlib.Omega.{arith}
 use mathlib.Core.Path.{◌≡◌, refl, sym, ◌∙◌}
 use mathlib.Core.Bool.{true, false}
-use Prim.Native.Nat.{◌+◌, ◌-◌, ◌≤◌}
-use lib.ListN.{length}
+use Prim.Native.Nat.{◌-◌}
 use Rattle.strided.specs.Begin.{plan_extents}
 use Rattle.strided.specs.Layout.{has_zero}
 use Rattle.strided.specs.declared.Plan.{Plan}
 use Rattle.strided.specs.Memory.{plan_of}
 use Rattle.walker.proofs.Walked.{may_move}
-use Rattle.writing.specs.Plan.{rest_from}
-use Rattle.writing.proofs.Walks.{W, Walks, printable_ready, no_lines, first_taken, widths_some, walks_start, walks_while, walks_asks, walks_fit, walks_within, walks_over, walks_next, walks_number_fits, walks_cells-fit, walks_less, walks_end, end_measured}
+use Rattle.writing.proofs.Walks.{Walks, printable_ready, no_lines, first_taken, widths_some, walks_start, walks_while, walks_asks, walks_fit, walks_within, walks_over, walks_next, walks_number_fits, walks_cells-fit, walks_less, walks_end, end_measured}
 use Rattle.writing.proofs.plan.walk_len.Goals as goal
 
 pub no_block-requires : goal.no_block-requires

@@ -10,7 +10,6 @@ use Rattle.writing.specs.Plan.{rest_from}
 use Rattle.writing.proofs.Axes.{line_at, printed_parts, printed-length}
 use Rattle.writing.proofs.Walks.{printable_ready}
 use Rattle.writing.proofs.Putting.{wrote_then, wrote_is, wrote_first}
-use borrow.Author.Rules.{rules}
 use Rattle.writing.proofs.plan.write.Goals as goal
 
 pub put_rank-first-requires : goal.put_rank-first-requires

@@ -4,8 +4,8 @@ use native.Mathlib.Omega.{arith}
 use mathlib.Core.Path.{◌≡◌, ap}
 use Prim.Native.Nat.{◌-◌, ◌≤◌}
 use lib.ListN.{length, take}
-use Rattle.writing.proofs.Laid.{lines_at, Before, lines_all, lines_none, before-first, row_lent, row_room, row_put, may_on, before-next, before_end}
-use Rattle.writing.proofs.Putting.{Doing, doing_start, doing_length, doing_end, wrote_is}
+use Rattle.writing.proofs.Laid.{lines_all, lines_none, before-first, row_lent, row_room, row_put, may_on, before-next, before_end}
+use Rattle.writing.proofs.Putting.{doing_start, doing_length, doing_end, wrote_is}
 use Rattle.writing.proofs.stretch.put_stretch.Goals as goal
 
 pub loop-j-init : goal.loop-j-init

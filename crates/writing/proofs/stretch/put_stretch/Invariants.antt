@@ -1,10 +1,7 @@
 -- The invariants of `stretch::put_stretch`.
-use native.Mathlib.Omega.{arith}
-use mathlib.Core.Path.{◌≡◌, ap}
-use Prim.Native.Nat.{◌-◌, ◌≤◌}
-use lib.ListN.{length, take}
-use Rattle.writing.proofs.Laid.{lines_at, Before, lines_all, lines_none, before-first, row_lent, row_room, row_put, may_on, before-next, before_end}
-use Rattle.writing.proofs.Putting.{Doing, doing_start, doing_length, doing_end, wrote_is}
+use Prim.Native.Nat.{◌-◌}
+use Rattle.writing.proofs.Laid.{lines_at, Before}
+use Rattle.writing.proofs.Putting.{Doing}
 use Rattle.writing.proofs.stretch.put_stretch.Given as goal
 
 abbrev pub invariant-loop-j : goal.invariant-loop-j

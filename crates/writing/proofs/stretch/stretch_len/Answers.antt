@@ -1,7 +1,6 @@
 -- `writing::stretch::stretch_len` meets its contract: the loop keeps the sum of what is measured and what is left; a line that passes the
 -- limit ends it.
 -- Assumes nothing.
-use borrow.Author.Rules.{rules}
 use native.Mathlib.Omega.{arith}
 use mathlib.Core.Path.{◌≡◌, refl, ap, ◌∙◌}
 use Prim.Native.Nat.{◌+◌, ◌-◌, ◌≤◌}
@@ -10,7 +9,7 @@ use Rattle.walker.specs.Stretch.{laid, told, RowsFit}
 use Rattle.writing.specs.Plan.{lines_from}
 use Rattle.writing.specs.declared.plan.Measured.TheVariants.{Fits}
 use Rattle.writing.proofs.Axes.{measured_more, measured_fits}
-use Rattle.writing.proofs.Laid.{lines_at, Before, lines_all, lines_none, before-first, row_lent, row-length, may_on, before-next, before_end}
+use Rattle.writing.proofs.Laid.{lines_at, lines_all, lines_none, before-first, row_lent, row-length, may_on, before-next, before_end}
 use Rattle.writing.proofs.stretch.stretch_len.Goals as goal
 
 pub loop-j-init : goal.loop-j-init

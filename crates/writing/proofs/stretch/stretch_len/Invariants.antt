@@ -1,14 +1,8 @@
 -- The invariants of `stretch::stretch_len`.
-use borrow.Author.Rules.{rules}
-use native.Mathlib.Omega.{arith}
-use mathlib.Core.Path.{◌≡◌, refl, ap, ◌∙◌}
+use mathlib.Core.Path.{◌≡◌}
 use Prim.Native.Nat.{◌+◌, ◌-◌, ◌≤◌}
-use lib.ListN.{length, take}
-use Rattle.walker.specs.Stretch.{laid, told, RowsFit}
-use Rattle.writing.specs.Plan.{lines_from}
-use Rattle.writing.specs.declared.plan.Measured.TheVariants.{Fits}
-use Rattle.writing.proofs.Axes.{measured_more, measured_fits}
-use Rattle.writing.proofs.Laid.{lines_at, Before, lines_all, lines_none, before-first, row_lent, row-length, may_on, before-next, before_end}
+use lib.ListN.{length}
+use Rattle.writing.proofs.Laid.{lines_at, Before}
 use Rattle.writing.proofs.stretch.stretch_len.Given as goal
 
 abbrev pub invariant-loop-j : goal.invariant-loop-j
