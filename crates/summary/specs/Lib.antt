@@ -1,12 +1,12 @@
 -- Request 11 of document 02, "Sums for the journals": what a summary of f64 cells is, in which order the cells are met, what is refused, and
 -- what holds of every summary (Orders, Exact, Quiet and Served are in proofs/):
---   the count is the layout's total; each index is met exactly once    Orders  count-total, index-once
---   the order is fixed by layout and record alone                      Orders  start-moves, same-order
---   whole numbers up to 2^53 in all are summed exactly                 Orders  sum-exact (Exact  sum-whole)
---   the extremes are cells, and no other is beyond them                Orders  extremes-cells, cell-bounded
---   not-a-number cells are counted, and make the sum one               Orders  nans-counted, nan-sum
---   a cell between the extremes changes sum and count alone            Quiet   quiet-cell
---   where row 22 passes row 9 does                                     Served  inside-stays
+--   the count is the layout's total; each index is met exactly once    Orders  count-total, index_once
+--   the order is fixed by layout and record alone                      Orders  start_moves, same_order
+--   whole numbers up to 2^53 in all are summed exactly                 Orders  sum_exact (Exact  sum-whole)
+--   the extremes are cells, and no other is beyond them                Orders  extremes_cells, cell_bounded
+--   not-a-number cells are counted, and make the sum one               Orders  nans_counted, nan_sum
+--   a cell between the extremes changes sum and count alone            Quiet   quiet_cell
+--   where row 22 passes row 9 does                                     Served  inside_stays
 pub mod Sums
 pub mod Visits
 pub mod Rows

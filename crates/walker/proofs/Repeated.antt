@@ -1,6 +1,6 @@
 -- ALL STRETCHES OF A WALK: one after another, each laid out as its blocks, they are the plan's blocks in order, each once, to the end.
---   stretches-plan    from a beginning, to the end: the plan's blocks
---   stretches-blocks  from any state, with any limits: as many blocks as repeated steps hand out
+--   stretches_plan    from a beginning, to the end: the plan's blocks
+--   stretches_blocks  from any state, with any limits: as many blocks as repeated steps hand out
 --   stretches-all     from any state, to the end
 -- Assumes nothing.
 use mathlib.Core.Path.{◌≡◌, refl, sym, ap, ap₂, ◌∙◌}

@@ -3,7 +3,7 @@
 // it by `take_stretch`.
 //
 // The law to cite is in proofs/Repeated.antt: the stretches one after another, each laid out as its blocks, are the plan's blocks in order,
-// each once, to the end (`stretches-plan`; from any state `stretches-blocks` and `stretches-all`). What a loop over stretches keeps, and
+// each once, to the end (`stretches_plan`; from any state `stretches_blocks` and `stretches-all`). What a loop over stretches keeps, and
 // what a call makes of it, is in proofs/Walked.antt.
 #![tactic(auto)]
 

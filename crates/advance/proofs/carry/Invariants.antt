@@ -1,7 +1,6 @@
 -- The invariants of `carry`.
-use Prim.Native.Nat.{◌≤◌}
+use Prim.Native.Nat.{◌≤◌, ◌-◌}
 use Rattle.advance.proofs.Turns.{Before}
-use Prim.Native.Nat.{◌-◌}
 use Rattle.advance.proofs.carry.Given as goal
 
 abbrev pub invariant-loop-i : goal.invariant-loop-i

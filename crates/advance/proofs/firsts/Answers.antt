@@ -14,16 +14,13 @@ use Rattle.advance.specs.Blocks.{first_at, firsts_to, firsts_of}
 use Rattle.advance.specs.Filled.{filled_none, filled_more}
 use Rattle.advance.proofs.firsts.Goals as goal
 
--- src/lib.rt:220:9
 pub returns-then-rank-eq0 : goal.returns-then-rank-eq0
 unfolding firsts_of
 returns-then-rank-eq0 c = simp (eq-eqb _ _ c.if-rank-eq0.true)
 
--- src/lib.rt:223:5
 pub loop-k-init : goal.loop-k-init
 loop-k-init c = (zero-le, filled_none _ _)
 
--- src/lib.rt:223:5
 pub loop-k-preserved : goal.loop-k-preserved
 loop-k-preserved c =
     let a = c.args in
@@ -34,7 +31,6 @@ loop-k-preserved c =
       filled_more _ (first_at a.s.now) k _ _ c.loop-k.invariant.1 f,
     )
 
--- src/lib.rt:214:1
 pub returns : goal.returns
 unfolding firsts_of
 returns c =

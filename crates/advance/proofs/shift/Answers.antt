@@ -15,7 +15,6 @@ use Rattle.advance.specs.Moves.{shifted, moved_at, after_move, Moves}
 use Rattle.advance.proofs.shift.Goals as goal
 use mir.Syntax.{w64}
 
--- src/lib.rt:30:5
 pub returns-then-from-to : goal.returns-then-from-to
 returns-then-from-to c =
     let a = c.args in
@@ -24,7 +23,6 @@ returns-then-from-to c =
 pub loop-k-init : goal.loop-k-init
 loop-k-init c = (zero-le, filled_none _ _)
 
--- src/lib.rt:33:13
 pub moved-c-requires : goal.moved-c-requires
 moved-c-requires c =
     let a = c.args in
@@ -34,7 +32,6 @@ moved-c-requires c =
     (sym (ap (λ (l : List ℤ). get_or l k (pos 0)) c.loop-k.invariant.1 ∙ filled_above a.o.now (moved_at a.axis a.from a.to a.s.now a.o.now) (pos 0) k k (le_refl k)))
     (c.requires.each k c.loop-k-test.true))
 
--- src/lib.rt:30:5
 pub loop-k-preserved : goal.loop-k-preserved
 loop-k-preserved c =
     let a = c.args in
@@ -47,7 +44,6 @@ loop-k-preserved c =
           (ap (λ (l : List ℤ). get_or l k (pos 0)) e ∙ filled_above a.o.now (moved_at a.axis a.from a.to a.s.now a.o.now) (pos 0) k k (le_refl k))),
     )
 
--- src/lib.rt:25:1
 pub returns : goal.returns
 returns c =
     let a = c.args in

@@ -17,7 +17,7 @@ use Rattle.laws.specs.Cut.Ranges.{le_or_lt, cond_true, cond_false, cond_same}
 use Rattle.laws.specs.Cut.Until.{none_or_some, until_stop, until-step, until_keeps, until_ends}
 use Rattle.laws.specs.Cut.Picks.{Pickable, pick_is, above_there}
 
--- every score of the first n axes fits 64 bits: row 6 of the refusal table sees to it (Tables, scores-fit)
+-- every score of the first n axes fits 64 bits: row 6 of the refusal table sees to it (Tables, scores_fit)
 abbrev pub ScoresFit : ℕ → List ℕ → List ℕ → Type 0
 ScoresFit n costs b = (i : ℕ) → i < n → score b costs i < 2 ^ 64
 

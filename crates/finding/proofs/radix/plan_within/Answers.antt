@@ -5,8 +5,7 @@ use Prim.Native.Nat.{◌+◌}
 use native.Mathlib.Omega.{arith}
 use Rattle.finding.proofs.Kept.{Held, held_none, held_one, held_other, held_out, held-single, held_several, held_end}
 use Rattle.finding.proofs.radix.plan_within.Goals as goal
-use Rattle.finding.proofs.radix.plan_within.Goals.{then-j-eq0+else-rank-gt0, else-j-eq0}
-use Rattle.finding.proofs.radix.plan_within.Goals.{then-f-ne1+else-not-below, else-f-ne1}
+use Rattle.finding.proofs.radix.plan_within.Goals.{then-j-eq0+else-rank-gt0, else-j-eq0, then-f-ne1+else-not-below, else-f-ne1}
 
 pub loop-i-init : goal.loop-i-init
 loop-i-init c = held_none c.args.fused.now c.args.rank c.args.counters.now

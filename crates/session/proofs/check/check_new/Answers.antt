@@ -3,14 +3,13 @@ use mathlib.Core.Path.{◌≡◌, refl, sym, ◌∙◌}
 use Prim.Native.Nat.{◌*◌}
 use native.Mathlib.Omega.{arith}
 use lib.ListN.{length}
-use mathlib.Core.List.{List}
+use mathlib.Core.List.{List, [], ◌∷◌}
 use borrow.Author.Tests.{le-leb, lt-leb, eqb-true, not-false}
 use lib.Dec.{eqb}
 use Rattle.laws.specs.Refusals.Rows.{Past, past_none, past_next, past_refused, past_served}
 use Rattle.strided.specs.Refusals.{Row, row3, row6}
 use Rattle.session.specs.Session.{new_rows}
 use Rattle.session.proofs.Holding.{new_far}
-use mathlib.Core.List.{[], ◌∷◌}
 use Rattle.session.proofs.check.check_new.Goals as goal
 
 pub returns-then-operands-ge-MAX_OPERANDS : goal.returns-then-operands-ge-MAX_OPERANDS
