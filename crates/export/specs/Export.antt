@@ -53,7 +53,7 @@ unfoldable pub exported : List ℕ → List ℕ → List ℤ → List ℤ → Li
 exported es sizes ss zs dst src = copied (width_of sizes) (cells_of es sizes ss zs) dst src
 
 -- and as the sentence: "each destination cell holds the source cell of its index, and every byte outside destination cells is as before"
--- (specs/Meaning: where nothing is refused it holds of `exported`, and of nothing else)
+-- (proofs/Meaning: where nothing is refused it holds of `exported`, and of nothing else)
 abbrev pub Afterwards : List ℕ → List ℕ → List ℤ → List ℤ → List ℕ → List ℕ → List ℕ → Type 0
 Afterwards es sizes ss zs dst src out =
     Exported (Within es) (place_of es sizes ss zs 0) (place_of es sizes ss zs 1) (width_of sizes) dst src out
@@ -70,7 +70,7 @@ row16 sizes =
       refusal = CopySizes;
     }
 
--- 17, "some cell outside its buffer": a buffer of so many bytes has room for len / size cells (specs/Outside: it applies exactly if some
+-- 17, "some cell outside its buffer": a buffer of so many bytes has room for len / size cells (proofs/Outside: it applies exactly if some
 -- byte of some cell is outside)
 abbrev pub outside_at : List ℕ → List ℕ → List ℤ → List ℤ → ℕ → ℕ → Bool
 outside_at es sizes ss zs k len = outside es (stride_row ss (length es) k) (get_or zs k (pos 0)) (len / get_or sizes k 0)

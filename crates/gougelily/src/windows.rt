@@ -20,7 +20,7 @@ pub extern "C" fn gougelily_window<'a>(
     shifts: &mut [i64; 8],
 ) -> i64
     ensures { Windows
-        (windowed extents.entry.now sizes.now strides.now firsts.now counts.now steps.now)
+        (windowed extents.now sizes.now strides.now firsts.now counts.now steps.now)
         (record { extents = window_extents.old; strides = window_strides.old; shifts = shifts.old })
         (record { extents = window_extents.new; strides = window_strides.new; shifts = shifts.new })
         result }
