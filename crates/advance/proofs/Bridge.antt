@@ -4,7 +4,7 @@ use mathlib.Core.Path.{◌≡◌, refl, sym, ap, ap₂, ◌∙◌, subst}
 use mathlib.Core.Logic.{◌⊎◌, inl, inr}
 use mathlib.Core.Bool.{Bool, true, false, cond}
 use mathlib.Core.List.{List, [], ◌∷◌}
-use mathlib.Core.Option.{Option, none, some}
+use Rattle.std.specs.Prelude.{Option, None, Some}
 use Prim.Native.Nat.{ℕ, zero, suc, ◌+◌, ◌-◌, ◌*◌, ◌/◌, ◌%◌, ◌≤◌, ◌<◌, min}
 use native.Mathlib.Nat.{div-add-mod', mul-div_cancel}
 use native.Mathlib.Numerals.{add-one}
@@ -84,8 +84,8 @@ axes_at e ws i (suc n) = ax (get_or e i 0) (get_or ws i 0) ∷ axes_at e ws (suc
 
 -- what a carry leaves: the list laid over the counters, ahead if there is a next one
 abbrev pub laid : List ℕ → ℕ → List ℕ → Option (List ℕ) → Carried
-laid c i t none = record { more = false; counters = overlay c i t }
-laid c i t (some v) = record { more = true; counters = overlay c i v }
+laid c i t None = record { more = false; counters = overlay c i t }
+laid c i t (Some v) = record { more = true; counters = overlay c i v }
 
 -- ---- inside a tile
 
@@ -93,8 +93,8 @@ div_le : (k w : ℕ) → k / w * w ≤ k
 div_le k w = let h = div-add-mod' k w in omega (arith, h)
 
 inside_step : (e w k : ℕ) → 0 < w → k < e
-    → ((next_in (k / w * w + len_at e w (k / w * w)) k ≡ some (suc k)) × (inside_goal e w k ≡ ahead (k + 1) (start_of w k)))
-    ⊎ ((next_in (k / w * w + len_at e w (k / w * w)) k ≡ none) × (inside_goal e w k ≡ back (k / w * w)))
+    → ((next_in (k / w * w + len_at e w (k / w * w)) k ≡ Some (suc k)) × (inside_goal e w k ≡ ahead (k + 1) (start_of w k)))
+    ⊎ ((next_in (k / w * w + len_at e w (k / w * w)) k ≡ None) × (inside_goal e w k ≡ back (k / w * w)))
 unfolding inside_goal
 inside_step e w k hw hk = go (ltb (k - s) (w - 1)) refl (ltb k (e - 1)) refl
   where
@@ -105,8 +105,8 @@ inside_step e w k hw hk = go (ltb (k - s) (w - 1)) refl (ltb k (e - 1)) refl
     sk = div_le k w
 
     go : (a : Bool) → ltb (k - s) (w - 1) ≡ a → (b : Bool) → ltb k (e - 1) ≡ b
-        → ((next_in (s + len_at e w s) k ≡ some (suc k)) × (cond a (cond b (ahead (k + 1) s) (back s)) (back s) ≡ ahead (k + 1) s))
-        ⊎ ((next_in (s + len_at e w s) k ≡ none) × (cond a (cond b (ahead (k + 1) s) (back s)) (back s) ≡ back s))
+        → ((next_in (s + len_at e w s) k ≡ Some (suc k)) × (cond a (cond b (ahead (k + 1) s) (back s)) (back s) ≡ ahead (k + 1) s))
+        ⊎ ((next_in (s + len_at e w s) k ≡ None) × (cond a (cond b (ahead (k + 1) s) (back s)) (back s) ≡ back s))
     go true p true q = inl (rw (lt-ltb (suc k) (s + min w (e - s)) (omega (arith, ltb-true (k - s) (w - 1) p, ltb-true k (e - 1) q, sk))), refl)
     go true p false q = inr (rw (le-ltb (suc k) (s + min w (e - s)) (omega (arith, ltb-false k (e - 1) q, sk, hk))), refl)
     go false p b q = inr (rw (le-ltb (suc k) (s + min w (e - s)) (omega (arith, ltb-false (k - s) (w - 1) p, sk, hw))), refl)
@@ -149,13 +149,13 @@ inner_carry e ws (suc n) i c wd h l = go (inside_step x w k wd.0 h.0) (inner_car
         ih (subst (Inside axs) (sym same) h.1) (subst (λ (m : ℕ). suc i + n ≤ m) (sym (length-set c i s)) (omega arith))
         ∙ ap (λ (u : List ℕ). laid (set c i s) (suc i) (tile_of axs u) (next_inner axs (tile_of axs u) u)) same
 
-    behind : (o : Option (List ℕ)) → laid (set c i s) (suc i) (tile_of axs v) o ≡ laid c i (s ∷ tile_of axs v) (or_else (or_else none (λ v'. s ∷ v') o) (λ k'. k' ∷ v) none)
-    behind none = refl
-    behind (some u) = refl
+    behind : (o : Option (List ℕ)) → laid (set c i s) (suc i) (tile_of axs v) o ≡ laid c i (s ∷ tile_of axs v) (or_else (or_else None (λ v'. s ∷ v') o) (λ k'. k' ∷ v) None)
+    behind None = refl
+    behind (Some u) = refl
 
-    go : ((next_in (s + len_at x w s) k ≡ some (suc k)) × (inside_goal x w k ≡ ahead (k + 1) s)) ⊎ ((next_in (s + len_at x w s) k ≡ none) × (inside_goal x w k ≡ back s)) → Hyp
+    go : ((next_in (s + len_at x w s) k ≡ Some (suc k)) × (inside_goal x w k ≡ ahead (k + 1) s)) ⊎ ((next_in (s + len_at x w s) k ≡ None) × (inside_goal x w k ≡ back s)) → Hyp
         → cond (inside_goal x w k).more (record { more = true; counters = set c i (inside_goal x w k).to }) (carry_of true e ws n (suc i) (set c i (inside_goal x w k).to))
-        ≡ laid c i (s ∷ tile_of axs v) (or_else (or_else none (λ v'. s ∷ v') (next_inner axs (tile_of axs v) v)) (λ k'. k' ∷ v) (next_in (s + len_at x w s) k))
+        ≡ laid c i (s ∷ tile_of axs v) (or_else (or_else None (λ v'. s ∷ v') (next_inner axs (tile_of axs v) v)) (λ k'. k' ∷ v) (next_in (s + len_at x w s) k))
     go (inl p) ih =
         rw (p.0, p.1) (ap {B = Carried} (λ (u : List ℕ). record { more = true; counters = u }) (ap (set c i) (add-one k) ∙ sym (overlay-set c i (suc k) n l)))
     go (inr p) ih = rw (p.0, p.1) (rest ih ∙ behind (next_inner axs (tile_of axs v) v))
@@ -163,12 +163,12 @@ inner_carry e ws (suc n) i c wd h l = go (inside_step x w k wd.0 h.0) (inner_car
 -- ---- from tile to tile
 
 tile_step : (e w s : ℕ) → start_of w s ≡ s
-    → ((next_start e w s ≡ some (s + w)) × (tile_goal e w s ≡ ahead (s + w) (s + w))) ⊎ ((next_start e w s ≡ none) × (tile_goal e w s ≡ back 0))
+    → ((next_start e w s ≡ Some (s + w)) × (tile_goal e w s ≡ ahead (s + w) (s + w))) ⊎ ((next_start e w s ≡ None) × (tile_goal e w s ≡ back 0))
 unfolding tile_goal
 tile_step e w s q = rw q (go (ltb w (e - s)) refl)
   where
     go : (a : Bool) → ltb w (e - s) ≡ a
-        → ((next_start e w s ≡ some (s + w)) × (cond a (ahead (s + w) (s + w)) (back 0) ≡ ahead (s + w) (s + w))) ⊎ ((next_start e w s ≡ none) × (cond a (ahead (s + w) (s + w)) (back 0) ≡ back 0))
+        → ((next_start e w s ≡ Some (s + w)) × (cond a (ahead (s + w) (s + w)) (back 0) ≡ ahead (s + w) (s + w))) ⊎ ((next_start e w s ≡ None) × (cond a (ahead (s + w) (s + w)) (back 0) ≡ back 0))
     go true p = inl (rw (lt-ltb (s + w) e (omega (arith, ltb-true w (e - s) p))), refl)
     go false p = inr (rw (le-ltb (s + w) e (omega (arith, ltb-false w (e - s) p))), refl)
 
@@ -208,13 +208,13 @@ tile_carry e ws (suc n) i c on l =
         ih (subst (λ (m : ℕ). suc i + n ≤ m) (sym (length-set c i 0)) (omega arith))
         ∙ ap (λ (u : List ℕ). laid (set c i 0) (suc i) (zeros axs) (next_tile axs u)) same
 
-    behind : (o : Option (List ℕ)) → laid (set c i 0) (suc i) (zeros axs) o ≡ laid c i (0 ∷ zeros axs) (or_else (or_else none (λ t. 0 ∷ t) o) (λ s. s ∷ v) none)
-    behind none = refl
-    behind (some u) = refl
+    behind : (o : Option (List ℕ)) → laid (set c i 0) (suc i) (zeros axs) o ≡ laid c i (0 ∷ zeros axs) (or_else (or_else None (λ t. 0 ∷ t) o) (λ s. s ∷ v) None)
+    behind None = refl
+    behind (Some u) = refl
 
-    go : ((next_start x w k ≡ some (k + w)) × (tile_goal x w k ≡ ahead (k + w) (k + w))) ⊎ ((next_start x w k ≡ none) × (tile_goal x w k ≡ back 0)) → Hyp
+    go : ((next_start x w k ≡ Some (k + w)) × (tile_goal x w k ≡ ahead (k + w) (k + w))) ⊎ ((next_start x w k ≡ None) × (tile_goal x w k ≡ back 0)) → Hyp
         → cond (tile_goal x w k).more (record { more = true; counters = set c i (tile_goal x w k).to }) (carry_of false e ws n (suc i) (set c i (tile_goal x w k).to))
-        ≡ laid c i (0 ∷ zeros axs) (or_else (or_else none (λ t. 0 ∷ t) (next_tile axs v)) (λ s. s ∷ v) (next_start x w k))
+        ≡ laid c i (0 ∷ zeros axs) (or_else (or_else None (λ t. 0 ∷ t) (next_tile axs v)) (λ s. s ∷ v) (next_start x w k))
     go (inl p) ih = rw (p.0, p.1) (ap {B = Carried} (λ (u : List ℕ). record { more = true; counters = u }) (sym (overlay-set c i (k + w) n l)))
     go (inr p) ih = rw (p.0, p.1) (rest ih ∙ behind (next_tile axs v))
 
@@ -241,8 +241,8 @@ from-padded m n v e h =
 
 -- an array of k places out of what comes next
 abbrev pub put : ℕ → List ℕ → Option (List ℕ) → Carried
-put k z none = record { more = false; counters = padded k 0 z }
-put k z (some c) = record { more = true; counters = padded k 0 c }
+put k z None = record { more = false; counters = padded k 0 z }
+put k z (Some c) = record { more = true; counters = padded k 0 c }
 
 -- rank suc n, an array of suc m places; A its cut axes above axis 0
 module _ (n m : ℕ) (e ws : List ℕ) (s : ℕ) (v : List ℕ) (lv : length v ≡ n) (hm : n ≤ m) (wd : Wide (axes_at e ws 0 (suc n))) where
@@ -265,7 +265,7 @@ module _ (n m : ℕ) (e ws : List ℕ) (s : ℕ) (v : List ℕ) (lv : length v �
       inner_carry e ws n 1 (padded (suc m) 0 (s ∷ v)) wd.1 (subst (Inside A) (sym q) h) l
       ∙ ap (λ (u : List ℕ). laid (padded (suc m) 0 (s ∷ v)) 1 (tile_of A u) (next_inner A (tile_of A u) u)) q
 
-  tile_part : (t : List ℕ) → length t ≡ n → tile_of B (s ∷ t) ≡ s ∷ t → ((y : List ℕ) → next_tile B (s ∷ t) ≡ some y → length y ≡ suc n)
+  tile_part : (t : List ℕ) → length t ≡ n → tile_of B (s ∷ t) ≡ s ∷ t → ((y : List ℕ) → next_tile B (s ∷ t) ≡ Some y → length y ≡ suc n)
       → carry_of false e ws (suc n) 0 (padded (suc m) 0 (s ∷ t)) ≡ put (suc m) (zeros B) (next_tile B (s ∷ t))
   tile_part t lt on ly =
       let l : 0 + suc n ≤ length (padded (suc m) 0 (s ∷ t)) = omega (arith, long (s ∷ t)) in
@@ -275,14 +275,14 @@ module _ (n m : ℕ) (e ws : List ℕ) (s : ℕ) (v : List ℕ) (lv : length v �
       ∙ go (next_tile B (s ∷ t)) refl
     where
       go : (o : Option (List ℕ)) → next_tile B (s ∷ t) ≡ o → laid (padded (suc m) 0 (s ∷ t)) 0 (zeros B) o ≡ put (suc m) (zeros B) o
-      go none q =
+      go None q =
           let lz : length (zeros B) ≡ suc n = length-zeros B ∙ length-axes e ws 0 (suc n) in
           ap {B = Carried} (λ (u : List ℕ). record { more = false; counters = u }) (overlay-padded (suc m) (s ∷ t) (zeros B) (ap suc lt ∙ sym lz) (omega (arith, lz)))
-      go (some y) q =
+      go (Some y) q =
           let l : length y ≡ suc n = ly y q in
           ap {B = Carried} (λ (u : List ℕ). record { more = true; counters = u }) (overlay-padded (suc m) (s ∷ t) y (ap suc lt ∙ sym l) (omega (arith, l)))
 
-  pub next_carry : Inside B (s ∷ v) → s % w ≡ 0 → ((y : List ℕ) → next B (s ∷ v) ≡ some y → length y ≡ suc n)
+  pub next_carry : Inside B (s ∷ v) → s % w ≡ 0 → ((y : List ℕ) → next B (s ∷ v) ≡ Some y → length y ≡ suc n)
       → next_of (suc n) e ws (padded (suc m) 0 (s ∷ v)) ≡ put (suc m) (zeros B) (next B (s ∷ v))
   unfolding next_of
   next_carry h hs ly =
@@ -309,8 +309,8 @@ module _ (n m : ℕ) (e ws : List ℕ) (s : ℕ) (v : List ℕ) (lv : length v �
           → cond (laid (padded (suc m) 0 (s ∷ v)) 1 t o).more (laid (padded (suc m) 0 (s ∷ v)) 1 t o)
           (carry_of false e ws (suc n) 0 (laid (padded (suc m) 0 (s ∷ v)) 1 t o).counters)
           ≡ put (suc m) (zeros B) (or_else (next_tile B (s / w * w ∷ t)) (λ v'. s ∷ v') o)
-      go (some u) q =
+      go (Some u) q =
           let ls : length (s ∷ u) ≡ suc n = ly (s ∷ u) (rw q) in
           ap {B = Carried} (λ (r : List ℕ). record { more = true; counters = r }) (over-tail u (omega (arith, ls)))
-      go none q =
+      go None q =
           rw (over-tail t lt, start) (tile_part t lt on (λ y g. ly y (rw (q, start) g)))

@@ -4,7 +4,7 @@
 use mathlib.Core.Path.{◌≡◌, refl, sym, ap, ap₂, ◌∙◌, subst}
 use mathlib.Core.Bool.{Bool, true, false, cond}
 use mathlib.Core.List.{List, [], ◌∷◌, map}
-use mathlib.Core.Option.{some}
+use Rattle.std.specs.Prelude.{Some}
 use Prim.Native.Nat.{ℕ, zero, suc, ◌+◌, ◌-◌, ◌*◌, ◌≤◌, ◌<◌, min}
 use native.Mathlib.Nat.{div-add-mod'}
 use native.Mathlib.Omega.{arith}
@@ -80,7 +80,7 @@ axes_are rank e b ws he hb f = go (leb rank 8) refl
 -- ---- next block and length, for any rank
 
 next_any : (rank : ℕ) (e ws c : List ℕ) → length c ≡ rank → rank ≤ 64 → Wide (axes_at e ws 0 rank) → Inside (axes_at e ws 0 rank) c → OnStart (axes_at e ws 0 rank) c
-    → ((y : List ℕ) → next (axes_at e ws 0 rank) c ≡ some y → length y ≡ rank)
+    → ((y : List ℕ) → next (axes_at e ws 0 rank) c ≡ Some y → length y ≡ rank)
     → next_of rank e ws (padded 64 0 c) ≡ put 64 (zeros (axes_at e ws 0 rank)) (next (axes_at e ws 0 rank) c)
 unfolding next_of carry_of
 next_any zero e ws [] lc h wd i o ly = refl
@@ -257,9 +257,9 @@ module _ (p : Plan) (zs : List ℤ) (r : Ready p zs) (z : Sized p) where
 
   -- ---- at the state c of a walk that runs
 
-  module _ (n : ℕ) (c : List ℕ) (e : state_after (plan_cut_axes p) n ≡ some c) where
+  module _ (n : ℕ) (c : List ℕ) (e : state_after (plan_cut_axes p) n ≡ Some c) where
     pub long : length c ≡ p.rank
-    long = counters-many p zs r n (some c) e
+    long = counters-many p zs r n (Some c) e
 
     pub inside : Inside (plan_cut_axes p) c
     inside = ((walk-reach (plan_cut_axes p) c (wide p zs r)).0 (n, e)).0
@@ -273,8 +273,8 @@ module _ (p : Plan) (zs : List ℤ) (r : Ready p zs) (z : Sized p) where
     pub length_is : length_of p.rank p.extents W (C c) ≡ length_at (plan_cut_axes p) c
     length_is = length_any p.rank p.extents W c long ∙ ap (λ (l : List CutAxis). length_at l c) axes
 
-    pub long_next : (y : List ℕ) → next (plan_cut_axes p) c ≡ some y → length y ≡ p.rank
-    long_next y g = counters-many p zs r (suc n) (some y) (after-suc (next (plan_cut_axes p)) n _ ∙ ap (and_then (next (plan_cut_axes p))) e ∙ g)
+    pub long_next : (y : List ℕ) → next (plan_cut_axes p) c ≡ Some y → length y ≡ p.rank
+    long_next y g = counters-many p zs r (suc n) (Some y) (after-suc (next (plan_cut_axes p)) n _ ∙ ap (and_then (next (plan_cut_axes p))) e ∙ g)
 
     pub next_is : next_of p.rank p.extents W (C c) ≡ put 64 (zeros (plan_cut_axes p)) (next (plan_cut_axes p) c)
     next_is =

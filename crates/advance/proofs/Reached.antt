@@ -4,7 +4,7 @@
 use mathlib.Core.Path.{◌≡◌, refl, sym, ap, ap₂, ◌∙◌, subst}
 use mathlib.Core.Bool.{Bool, true, false, not}
 use mathlib.Core.List.{List}
-use mathlib.Core.Option.{Option, none, some}
+use Rattle.std.specs.Prelude.{Option, None, Some}
 use Prim.Native.Nat.{ℕ, zero, suc, ◌+◌, ◌-◌, ◌*◌, ◌^◌, ◌≤◌, ◌<◌}
 use native.Mathlib.Omega.{arith}
 use lib.Dec.{ltb}
@@ -84,7 +84,7 @@ module _ (p : Plan) (zs : List ℤ) (r : Ready p zs) (z : Sized p) where
 
   -- ---- room, at the state c of a walk that runs
 
-  module _ (n : ℕ) (c : List ℕ) (e : state_after (plan_cut_axes p) n ≡ some c) where
+  module _ (n : ℕ) (c : List ℕ) (e : state_after (plan_cut_axes p) n ≡ Some c) where
     abbrev E : List ℕ
     E = plan_extents p
 
@@ -161,13 +161,13 @@ module _ (p : Plan) (zs : List ℤ) (r : Ready p zs) (z : Sized p) where
           offsets = offsets_at p.rank p.operands p.strides (C p zs r z c) (O p zs r z c) k.counters;
         }
 
-    walk_put : (o : Option (List ℕ)) → ((d : List ℕ) → o ≡ some d → length d ≡ p.rank) → packed (at p zs r o) ≡ walk_at (put 64 (zeros (plan_cut_axes p)) o)
-    walk_put none h =
+    walk_put : (o : Option (List ℕ)) → ((d : List ℕ) → o ≡ Some d → length d ≡ p.rank) → packed (at p zs r o) ≡ walk_at (put 64 (zeros (plan_cut_axes p)) o)
+    walk_put None h =
         let l : length (zeros (plan_cut_axes p)) ≡ p.rank = length-zeros (plan_cut_axes p) ∙ cut-many p zs r in
         let q : padded 8 (pos 0) zs ≡ offsets_at p.rank p.operands p.strides (C p zs r z c) (O p zs r z c) (C p zs r z (zeros (plan_cut_axes p))) =
         sym (offsets_are p zs r z c (zeros (plan_cut_axes p)) (long p zs r z n c e) l ∙ ap (padded 8 (pos 0)) (offsets_zeros (plan_cut_axes p) (plan_rows p) zs (as_many p zs r))) in
         λ i. record { ended = true; counters = padded 64 0 (zeros (plan_cut_axes p)); offsets = q i }
-    walk_put (some d) h =
+    walk_put (Some d) h =
         let q : O p zs r z d ≡ offsets_at p.rank p.operands p.strides (C p zs r z c) (O p zs r z c) (C p zs r z d) =
         sym (offsets_are p zs r z c d (long p zs r z n c e) (h d refl)) in
         λ i. record { ended = false; counters = padded 64 0 d; offsets = q i }

@@ -87,12 +87,6 @@ module _ (o s : ℤ) (from to : ℕ) (fo : SFits w64 o) (fs : SFits w64 s) (m : 
       span : d * nat_abs s < 2 ^ 63
       span = subst (λ (k : ℕ). k * nat_abs s < 2 ^ 63) (let e : (to - from) + (from - to) ≡ to - from = omega arith in e) m.span
 
-      pub ahead_cast : SFits w64 (pos d)
-      ahead_cast = record { sfits = small s fs d span (nonzero s nz fs) }
-
-      pub ahead-mul : SFits w64 (to_z w64 d *ℤ to_z w64 (of_z w64 s))
-      ahead-mul = subst (SFits w64) (sym (product s fs d span (nonzero s nz fs))) (product_fits s fs d span (nonzero s nz fs))
-
       sum : to_z w64 (of_z w64 o) +ℤ to_z w64 (of_z w64 (to_z w64 d *ℤ to_z w64 (of_z w64 s))) ≡ after_move o s from to
       unfolding after_move
       sum = sum_read o (pos d *ℤ s) (of_z w64 (to_z w64 d *ℤ to_z w64 (of_z w64 s))) fo (product_read s fs d span (nonzero s nz fs)) ∙ ap (λ (z : ℤ). o +ℤ z *ℤ s) (sym (ahead from to le))
@@ -109,9 +103,6 @@ module _ (o s : ℤ) (from to : ℕ) (fo : SFits w64 o) (fs : SFits w64 s) (m : 
 
       span' : d' * nat_abs s < 2 ^ 63
       span' = subst (λ (k : ℕ). k * nat_abs s < 2 ^ 63) (let e : (to - from) + (from - to) ≡ from - to = omega arith in e) m.span
-
-      pub behind_cast : SFits w64 (pos d')
-      behind_cast = record { sfits = small s fs d' span' (nonzero s nz fs) }
 
       pub behind_mul : SFits w64 (to_z w64 d' *ℤ to_z w64 (of_z w64 s))
       behind_mul = subst (SFits w64) (sym (product s fs d' span' (nonzero s nz fs))) (product_fits s fs d' span' (nonzero s nz fs))

@@ -157,16 +157,6 @@ stayed = record { ahead = λ q. absurd (false≢true q); kept = λ q. (refl, ref
 
 -- ---- axes that do not move inside a tile
 
-pub single-all : (rank : ℕ) (w : List ℕ) → Single rank rank w
-single-all rank w = record { most = omega arith; one = λ i p q. absurd (let z : ⊥ = omega arith in z) }
-
-pub single_more : (n rank : ℕ) (w : List ℕ) → Single n rank w → 0 < n → get_or w (n - 1) 0 ≡ 1 → Single (n - 1) rank w
-single_more n rank w s h e =
-    record {
-      most = omega (arith, s.most);
-      one = λ i p q. by_lt i n (λ l. subst (λ (j : ℕ). get_or w j 0 ≡ 1) (let g : n - 1 ≡ i = omega arith in g) e) (λ l. s.one i l q);
-    }
-
 still-goal : (extent at : ℕ) → goal_of true extent 1 at ≡ back at
 unfolding goal_of inside_goal
 still-goal extent at = rw (start_one at, le-ltb (at - at) (1 - 1) (omega arith))

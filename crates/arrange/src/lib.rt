@@ -16,11 +16,8 @@ pub fn pick_into(xs: &[u64], order: &[usize; 64], count: usize, out: &mut [u64; 
     requires out { (length out.old ≡ 64) × (blank (drop count out.old) ≡ true) }
     ensures { out.new ≡ padded 64 0 (pick 0 xs.now (take count order.now)) }
 {
-    let mut j: usize = 0;
-    while j < count {
-        let a = order[j];
-        out[j] = xs[a];
-        j += 1;
+    for j in 0..count {
+        out[j] = xs[order[j]];
     }
 }
 
@@ -30,11 +27,7 @@ pub fn lay_into(xs: &[u64], out: &mut [u64; 64])
     requires out { out.old ≡ replicate 64 0 }
     ensures { out.new ≡ padded 64 0 xs.now }
 {
-    let mut j: usize = 0;
-    while j < xs.len() {
-        out[j] = xs[j];
-        j += 1;
-    }
+    out[..xs.len()].copy_from_slice(xs);
 }
 
 // Operand k's strides, put into the table behind those of the operands before it.
@@ -54,12 +47,9 @@ fn put_row(
 {
     let from = k * pitch;
     let to = k * 64;
-    let mut j: usize = 0;
-    while j < count {
-        let a = order[j] as usize;
-        let s = strides[from + a];
+    for j in 0..count {
+        let s = strides[from + order[j] as usize];
         table[to + j] = s;
-        j += 1;
     }
 }
 
@@ -79,9 +69,7 @@ pub fn pick_strides_into(
     requires table { table.old ≡ replicate 512 (pos 0) }
     ensures { table.new ≡ padded 512 (pos 0) (pick_rows strides.now pitch (take count order.now) operands) }
 {
-    let mut k: usize = 0;
-    while k < operands {
+    for k in 0..operands {
         put_row(table, k, strides, pitch, order, count);
-        k += 1;
     }
 }

@@ -7,7 +7,6 @@ ghost use Rattle.strided.specs.Ranks.{ranks};
 ghost use Rattle.auxiliary.specs.Stairs.{step_of, steps_to, stair_of};
 
 use super::contributes;
-use layout::magnitude;
 
 // 1 if of two neighbours the second is larger, or, of falling ones, the first, and the smaller is not 0. Else 0.
 fn step(one: u64, next: u64, falling: bool) -> u64
@@ -27,12 +26,12 @@ fn steps(strides: &[i64], falling: bool) -> u64
     ensures { (result ≡ steps_to falling strides.now (length strides.now - 1)) × (result ≤ 64) }
 {
     let mut count: u64 = 0;
-    let mut i: usize = 1;
-    while i < strides.len() {
-        let one = magnitude(strides[i - 1]);
-        let next = magnitude(strides[i]);
-        count += step(one, next, falling);
-        i += 1;
+    for i in 1..strides.len() {
+        count += step(
+            strides[i - 1].unsigned_abs(),
+            strides[i].unsigned_abs(),
+            falling,
+        );
     }
     count
 }
@@ -51,10 +50,8 @@ fn climb_into(axes: usize, falling: bool, order: &mut [u8; 64])
     requires order_value { order.old ≡ replicate 64 0 }
     ensures { order.new ≡ padded 64 0 (map (stair_of falling axes) (run 0 axes)) }
 {
-    let mut i: usize = 0;
-    while i < axes {
+    for i in 0..axes {
         order[i] = stair(axes, i, falling) as u8;
-        i += 1;
     }
 }
 
@@ -66,7 +63,7 @@ fn astray(strides: &[i64], first: u64, last: u64, falling: bool) -> bool
     if axes < 3 {
         return false;
     }
-    let middle = magnitude(strides[axes / 2]);
+    let middle = strides[axes / 2].unsigned_abs();
     step(first, middle, falling) + step(middle, last, falling) < 2
 }
 
@@ -77,16 +74,16 @@ pub fn stairs_into(strides: &[i64], order: &mut [u8; 64]) -> bool
     requires order_value { order.old ≡ replicate 64 0 }
     ensures { order.new ≡ cond result (padded 64 0 (ranks strides.now)) (replicate 64 0) }
 {
-    let axes = strides.len();
-    if axes == 0 {
+    let (Some(first), Some(last)) = (strides.first(), strides.last()) else {
         return false;
-    }
-    let first = magnitude(strides[0]);
-    let last = magnitude(strides[axes - 1]);
+    };
+    let first = first.unsigned_abs();
+    let last = last.unsigned_abs();
     let falling = contributes(last, first) == 1;
     if astray(strides, first, last, falling) {
         return false;
     }
+    let axes = strides.len();
     if steps(strides, falling) + 1 == axes as u64 {
         climb_into(axes, falling, order);
         return true;

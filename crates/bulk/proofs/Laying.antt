@@ -2,13 +2,16 @@
 -- Assumes nothing.
 use mathlib.Core.Path.{◌≡◌, sym, ap, ap₂, ◌∙◌, subst}
 use mathlib.Core.List.{List, [], ◌++◌, append_assoc}
-use Prim.Native.Nat.{ℕ, zero, suc, ◌+◌, ◌-◌, ◌*◌, ◌≤◌, ◌<◌}
+use Prim.Native.Nat.{ℕ, zero, suc, ◌+◌, ◌*◌, ◌^◌, ◌≤◌, ◌<◌}
 use native.Mathlib.Nat.{zero-add, zero-mul, mul-le-mul_right}
 use native.Mathlib.Numerals.{add-one}
 use native.Mathlib.Omega.{arith}
 use lib.IntN.{ℤ, pos, ◌+ℤ◌, ◌*ℤ◌}
 use lib.ListN.{length, get_or, take, drop, set, length-append}
 use lib.Seq.{paste, paste-zero, paste-suc, take-paste, drop-paste, length-paste, length-take-le, take_all, drop-drop, take-append_seam, drop-append-add, get_or-take}
+use mir.Facts.{to_z-of_z, to_z_pos}
+use mir.Syntax.{w64}
+use mir.Val.{SFits, to_z, of_z}
 use Rattle.strided.specs.Base.{over, run}
 use Rattle.strided.specs.Bulk.{laid_on}
 use Rattle.laws.specs.Base.Lists.{over_last, run-append}
@@ -88,10 +91,6 @@ module _ {n operands at : ℕ} {d o₀ os₀ : List ℤ} (f : MayPut n operands 
     pub rows_as_long : j ≤ n → length os ≡ length os₀
     rows_as_long h = let l = rows_long f.rows j in ap length w ∙ length-paste os₀ (at * operands) (rows_for j operands d o₀) (j * operands) (within j h) (omega (arith, l))
 
-    -- the next row has room
-    pub rows-room : j < n → (at + j) * operands + operands ≤ length os
-    rows-room h = let a = within (j + 1) (let g : j + 1 ≤ n = omega arith in g) in let b = rows_as_long (let g : j ≤ n = omega arith in g) in omega (arith, a, b)
-
     pub rows_next : j < n → {os' : List ℤ} → os' ≡ paste os ((at + j) * operands) (row_at operands d o₀ j) operands → Rows (j + 1) os'
     rows_next h {os'} e =
         let R : List ℤ = rows_for j operands d o₀ in
@@ -116,3 +115,19 @@ module _ {n operands at : ℕ} {d o₀ os₀ : List ℤ} (f : MayPut n operands 
       steps = λ k g. f.steps j k h g;
       fits = λ k g. f.rows.fits j h k g;
     }
+
+-- ---- a place of a row, as the code works it out: o + j * d
+
+module _ {j : ℕ} {d : ℤ} (small : j < 2 ^ 63) (d-fits : SFits w64 d) (steps : SFits w64 (pos j *ℤ d)) where
+  way-is : to_z w64 j *ℤ to_z w64 (of_z w64 d) ≡ pos j *ℤ d
+  way-is i = to_z_pos w64 small i *ℤ to_z-of_z {w = w64} {z = d} d-fits i
+
+  module _ {o : ℤ} (o-fits : SFits w64 o) (fits : SFits w64 (o +ℤ pos j *ℤ d)) where
+    place-is : to_z w64 (of_z w64 o) +ℤ to_z w64 (of_z w64 (to_z w64 j *ℤ to_z w64 (of_z w64 d))) ≡ o +ℤ pos j *ℤ d
+    place-is i = to_z-of_z {w = w64} {z = o} o-fits i +ℤ (ap (λ (y : ℤ). to_z w64 (of_z w64 y)) way-is ∙ to_z-of_z {w = w64} steps) i
+
+    pub place-fits : SFits w64 (to_z w64 (of_z w64 o) +ℤ to_z w64 (of_z w64 (to_z w64 j *ℤ to_z w64 (of_z w64 d))))
+    place-fits = subst (SFits w64) (sym place-is) fits
+
+    pub place-holds : to_z w64 (of_z w64 (to_z w64 (of_z w64 o) +ℤ to_z w64 (of_z w64 (to_z w64 j *ℤ to_z w64 (of_z w64 d))))) ≡ o +ℤ pos j *ℤ d
+    place-holds = ap (λ (y : ℤ). to_z w64 (of_z w64 y)) place-is ∙ to_z-of_z {w = w64} fits

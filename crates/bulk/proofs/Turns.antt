@@ -8,7 +8,7 @@ use native.Mathlib.Nat.{mul-le-mul_right}
 use native.Mathlib.Omega.{arith}
 use lib.IntN.{ℤ}
 use lib.ListN.{length, take, drop, replicate, length-append, length-drop, length-map, length-replicate}
-use lib.Seq.{paste, length-paste}
+use lib.Seq.{paste}
 use Rattle.strided.specs.Base.{over, run}
 use Rattle.strided.specs.Step.{stepped, walk_after}
 use Rattle.strided.specs.Bulk.{next_blocks, lengths_of, offsets_of, laid_on, kept_by, several_of}
@@ -151,18 +151,6 @@ module _ {p : Plan} {u : Walk} {y : Way} {w ls₀ : List ℕ} {os₀ : List ℤ}
             f ∙ ap (λ (l : List ℤ). paste l (n * p.operands) R (r.count * p.operands)) d.offsets
             ∙ laid_paste (offsets_of p.operands (next_blocks n p u)) os₀ R (n * p.operands) (r.count * p.operands) d.long rows-many
             ∙ ap (λ (l : List ℤ). laid_on l os₀) (sym offsets_next)
-
-        -- the slices are as long as they were
-        pub next-many : length ls' ≡ length ls₀
-        next-many =
-            let m = length-replicate {A = ℕ} r.count r.length in
-            ap length e ∙ length-paste ls n (replicate r.count r.length) r.count (count-place h refl x.count) (omega (arith, m)) ∙ turned-many (below h refl x.count)
-
-        pub next_long : length os' ≡ length os₀
-        next_long =
-            let m = rows-many in
-            let k = places h refl x.count in
-            ap length f ∙ length-paste os (n * p.operands) (rows_for r.count p.operands d' first) (r.count * p.operands) (omega (arith, k)) (omega (arith, m)) ∙ turned_long (below h refl x.count)
 
         -- there is a next block
         pub turned-next : r.more ≡ true → Turned p u y w ls₀ os₀ (n + r.count) t' c' o' ls' os'

@@ -11,7 +11,7 @@ ghost use Rattle.bulk.specs.Blocks.{not_several, handed, HasRoom, Wrote, row_at,
 use advance::{tile_starts, widths};
 use strided::{Outcome, Plan, Refusal, Several, Walk};
 use walk::answer_of;
-use walker::{go_behind, hop, least, moves_of, stretch_here, way_of};
+use walker::{go_behind, hop, moves_of, stretch_here, way_of};
 
 // "A refusal carries its number and nothing else."
 fn rejected(refusal: Refusal) -> Several
@@ -24,8 +24,8 @@ fn rejected(refusal: Refusal) -> Several
         count: 0,
         walk: Walk {
             ended: false,
-            counters: counters,
-            offsets: offsets,
+            counters,
+            offsets,
         },
     }
 }
@@ -36,11 +36,11 @@ fn blocks_written(count: usize, ended: bool, counters: [u64; 64], offsets: [i64;
 {
     Several {
         answer: Outcome::Block,
-        count: count,
+        count,
         walk: Walk {
-            ended: ended,
-            counters: counters,
-            offsets: offsets,
+            ended,
+            counters,
+            offsets,
         },
     }
 }
@@ -51,10 +51,7 @@ fn room_for(operands: usize, lengths: usize, offsets: usize) -> usize
     ensures { result ≡ room_for operands lengths offsets }
 {
     let blocks = offsets / operands;
-    if lengths < blocks {
-        return lengths;
-    }
-    blocks
+    lengths.min(blocks)
 }
 
 // The offsets of block j of a stretch, operand by operand, from place `at` on: each is its place of `o` and j times its place of `d`.
@@ -71,13 +68,8 @@ fn put_row<'a>(
     ensures { offsets.new ≡ paste offsets.old at (row_at operands d.now o.now j) operands }
 {
     let times = j as i64;
-    let mut k = 0;
-    while k < operands {
-        let x = o[k];
-        let y = d[k];
-        let z = x + times * y;
-        offsets[at + k] = z;
-        k += 1;
+    for k in 0..operands {
+        offsets[at + k] = o[k] + times * d[k];
     }
 }
 
@@ -86,11 +78,7 @@ fn put_lengths(count: usize, at: usize, len: u64, lengths: &mut [u64])
     requires { at + count ≤ length lengths.old }
     ensures { lengths.new ≡ paste lengths.old at (replicate count len) count }
 {
-    let mut j: usize = 0;
-    while j < count {
-        lengths[at + j] = len;
-        j += 1;
-    }
+    lengths[at..at + count].fill(len);
 }
 
 // The offsets of `count` blocks, from block `at` on: those of the first stand in `o`, and each moves on by its place of `d`.
@@ -105,10 +93,8 @@ fn put_rows<'a>(
     requires { MayPut count operands at d.now o.now offsets.old }
     ensures { offsets.new ≡ paste offsets.old (at * operands) (rows_for count operands d.now o.now) (count * operands) }
 {
-    let mut j: usize = 0;
-    while j < count {
+    for j in 0..count {
         put_row(operands, (at + j) * operands, j, d, o, &mut *offsets);
-        j += 1;
     }
 }
 
@@ -136,18 +122,18 @@ fn put_blocks<'a>(
     let mut c = counters;
     let mut o = start;
     let mut t = tile_starts(rank, &w, &c);
-    let mut n: usize = 0;
+    let mut n = 0;
     while n < most {
         let x = stretch_here(y, e, &w, &t, &c);
         let limit = (most - n) as u64;
-        let count = least(limit, x.left) as usize;
+        let count = limit.min(x.left) as usize;
         put_lengths(count, n, x.length, &mut *lengths);
         put_rows(count, operands, n, &d, &o, &mut *offsets);
         n += count;
-        if !hop(y, limit, x.left, e, &w, s, &mut t, &mut c, &mut o) {
-            if !go_behind(y, limit, x.left, e, &w, s, &mut t, &mut c, &mut o) {
-                return blocks_written(n, true, c, o);
-            }
+        if !hop(y, limit, x.left, e, &w, s, &mut t, &mut c, &mut o)
+            && !go_behind(y, limit, x.left, e, &w, s, &mut t, &mut c, &mut o)
+        {
+            return blocks_written(n, true, c, o);
         }
     }
     blocks_written(n, false, c, o)
@@ -176,7 +162,7 @@ pub fn step_many_on<'a>(
         Outcome::Ended => Several {
             answer: Outcome::Ended,
             count: 0,
-            walk: walk,
+            walk,
         },
         Outcome::Block => {
             let room = room_for(operands, lengths.len(), offsets.len());

@@ -1,5 +1,4 @@
 pub mod Moving
-pub mod Placing
 pub mod Running
 pub mod Crossing
 pub mod Patching

@@ -1,36 +1,46 @@
--- Bytes moved one by one: what the loops of `bytes` keep.
+-- Bytes moved at once are those moved one by one.
 -- Assumes nothing.
-use mathlib.Core.Path.{◌≡◌, sym, ap, ◌∙◌}
+use mathlib.Core.Path.{◌≡◌, sym, ◌∙◌}
 use mathlib.Core.List.{List}
-use Prim.Native.Nat.{ℕ, ◌+◌, ◌<◌}
-use native.Mathlib.Numerals.{add-one}
+use mathlib.Core.Logic.{inl, inr}
+use Prim.Native.Nat.{ℕ, ◌+◌, ◌-◌, ◌<◌, ◌≤◌}
 use native.Mathlib.Omega.{arith}
-use lib.ListN.{length, get_or, set}
-use lib.Seq.{get_or-set_same, get_or-set_other}
-use borrow.Author.Count.{below_more}
+use lib.ListN.{length, get_or, take, drop}
+use borrow.Rule.Slice.PartMut.{put_mid}
+use Rattle.std.proofs.lemmas.Grind.{common_steps}
+use Rattle.std.proofs.lemmas.List.{ext_get_or}
 use Rattle.cells.specs.Copy.{moved}
+use Rattle.cells.specs.Meaning.{by_lt, moved_length, moved-off, moved_at_lem}
 
--- the first k bytes of the piece are those of the source from s on
-unfoldable pub Held : List ℕ → List ℕ → ℕ → ℕ → Type 0
-Held piece src s k = (i : ℕ) → i < k → get_or piece i 0 ≡ get_or src (s + i) 0
+module _ (dst : List ℕ) (d : ℕ) (src : List ℕ) (s n : ℕ) (h : d + n ≤ length dst) (g : s + n ≤ length src) where
+  part-long : length (put_mid d n dst (take n (drop s src))) ≡ length dst
+  part-long = grind (arith, common_steps)
 
-pub held_none : (piece src : List ℕ) (s : ℕ) → Held piece src s 0
-unfolding Held
-held_none piece src s i h = absurd (omega arith)
+  part-before : (k : ℕ) → k < d → get_or (put_mid d n dst (take n (drop s src))) k 0 ≡ get_or dst k 0
+  part-before k l = grind (arith, common_steps)
 
-pub held_more : (piece src : List ℕ) (s k : ℕ) → k < length piece → Held piece src s k → Held (set piece k (get_or src (s + k) 0)) src s (k + 1)
-unfolding Held
-held_more piece src s k h all =
-    below_more
-    (λ (i : ℕ). get_or (set piece k (get_or src (s + k) 0)) i 0 ≡ get_or src (s + i) 0)
-    k
-    (λ (i : ℕ) (l : i < k). get_or-set_other piece k i (get_or src (s + k) 0) 0 (λ (e : i ≡ k). absurd (omega arith)) ∙ all i l)
-    (get_or-set_same piece k (get_or src (s + k) 0) 0 h)
+  part-in : (k : ℕ) → k < n → get_or (put_mid d n dst (take n (drop s src))) (d + k) 0 ≡ get_or src (s + k) 0
+  part-in k l = grind (arith, common_steps)
 
-pub held_at : (piece src : List ℕ) (s k i : ℕ) → Held piece src s k → i < k → get_or piece i 0 ≡ get_or src (s + i) 0
-unfolding Held
-held_at piece src s k i all h = all i h
+  part-behind : (k : ℕ) → d + n ≤ k → get_or (put_mid d n dst (take n (drop s src))) k 0 ≡ get_or dst k 0
+  part-behind k l = grind (arith, common_steps)
 
-pub moved_more : (dst : List ℕ) (d : ℕ) (src : List ℕ) (s n : ℕ) → set (moved dst d src s n) (d + n) (get_or src (s + n) 0) ≡ moved dst d src s (n + 1)
-unfolding moved
-moved_more dst d src s n = sym (ap (moved dst d src s) (add-one n))
+  part-at : (k : ℕ) → get_or (put_mid d n dst (take n (drop s src))) k 0 ≡ get_or (moved dst d src s n) k 0
+  part-at k =
+      by_lt
+      k
+      d
+      (λ (l : k < d). part-before k l ∙ sym (moved-off dst d src s n k (inl l)))
+      (λ (l : d ≤ k).
+      by_lt
+      k
+      (d + n)
+      (λ (m : k < d + n).
+      let e : k ≡ d + (k - d) = omega arith in
+      let i : k - d < n = omega arith in
+      rw e (part-in (k - d) i ∙ sym (moved_at_lem dst d src s n (k - d) i h)))
+      (λ (m : d + n ≤ k). part-behind k m ∙ sym (moved-off dst d src s n k (inr m))))
+
+  -- the n bytes from s on, put at d
+  pub moved_part : put_mid d n dst (take n (drop s src)) ≡ moved dst d src s n
+  moved_part = ext_get_or 0 _ _ (part-long ∙ sym (moved_length dst d src s n)) (λ k l. part-at k)

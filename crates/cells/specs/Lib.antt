@@ -11,3 +11,4 @@ pub mod Patches
 pub mod Reaching
 pub mod Indexed
 pub mod Offsets
+pub mod Calls

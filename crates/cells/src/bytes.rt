@@ -3,6 +3,9 @@
 ghost use Rattle.std.specs.Prelude.{◌≡◌, ◌+◌, ◌≤◌, length};
 ghost use Rattle.cells.specs.Copy.{moved};
 
+// How many bytes a piece has at most.
+const PIECE: usize = 16384;
+
 // The n bytes of the source from `from` on, at `to` in the destination.
 pub fn move_bytes(destination: &mut [u8], to: usize, source: &[u8], from: usize, n: usize)
     requires n_bound { n ≤ 16384 }
@@ -10,17 +13,10 @@ pub fn move_bytes(destination: &mut [u8], to: usize, source: &[u8], from: usize,
     requires n_in_bounds_2 { from + n ≤ length source.now }
     ensures { destination.new ≡ moved destination.old to source.now from n }
 {
-    let mut piece = [0u8; 16384];
-    let mut k = 0;
-    while k < n {
-        piece[k] = source[from + k];
-        k = k + 1;
-    }
-    let mut j = 0;
-    while j < n {
-        destination[to + j] = piece[j];
-        j = j + 1;
-    }
+    // Kept: one copy straight from the source misses the bar, since its bytes are then moved one by one.
+    let mut piece = [0u8; PIECE];
+    piece[..n].copy_from_slice(&source[from..from + n]);
+    destination[to..to + n].copy_from_slice(&piece[..n]);
 }
 
 // The same for any number of bytes, piece by piece.
@@ -30,9 +26,9 @@ pub fn move_pieces(destination: &mut [u8], to: usize, source: &[u8], from: usize
     ensures { destination.new ≡ moved destination.old to source.now from n }
 {
     let mut i = 0;
-    while 16384 < n - i {
-        move_bytes(destination, to + i, source, from + i, 16384);
-        i = i + 16384;
+    while PIECE < n - i {
+        move_bytes(destination, to + i, source, from + i, PIECE);
+        i += PIECE;
     }
     move_bytes(destination, to + i, source, from + i, n - i);
 }

@@ -44,9 +44,7 @@ pub fn copy_four(
     requires apart { Apart width (runs_from n j 4 to from) }
     ensures { destination.new ≡ copied width (runs_from n j 4 to from) destination.old source.now }
 {
-    let mut i: u64 = 0;
-    while i < n {
+    for i in 0..n {
         copy_across(destination, source, i, j, width, to, from);
-        i += 1;
     }
 }

@@ -6,7 +6,6 @@ ghost use Rattle.std.specs.Prelude.{◌≡◌, ◌≤◌, ◌<◌, ◌^◌, leng
 ghost use Rattle.cells.specs.Copy.{copied, Apart};
 ghost use Rattle.cells.specs.Patch.{patch_cells, Lies};
 
-use layout::magnitude;
 use packed::{both_down, both_step, copy_down, copy_packed};
 use widths::{copy_fours_by_width, copy_runs_by_width};
 
@@ -28,13 +27,7 @@ pub struct Side {
 
 // Whether four runs are better copied at once: they are long, and the lines that a run touches share few sets of the cache.
 fn crowded(n0: u64, to: Side, from: Side) -> bool {
-    if n0 < 16 {
-        return false;
-    }
-    if magnitude(to.step0) % 512 == 0 {
-        return true;
-    }
-    magnitude(from.step0) % 512 == 0
+    16 <= n0 && (to.step0.unsigned_abs() % 512 == 0 || from.step0.unsigned_abs() % 512 == 0)
 }
 
 // THE COPY OF A PATCH: n1 runs of n0 cells of `width` bytes, from where they lie in the source to where they lie in the destination.
@@ -54,10 +47,7 @@ pub fn copy_patch(
     requires apart { Apart width (patch_cells n0 n1 to from) }
     ensures { destination.new ≡ copied width (patch_cells n0 n1 to from) destination.old source.now }
 {
-    if n0 == 0 {
-        return;
-    }
-    if n1 == 0 {
+    if n0 == 0 || n1 == 0 {
         return;
     }
     if both_step(width, to.step0, from.step0) {

@@ -15,7 +15,7 @@ pub fn both_step(step: usize, a: i64, b: i64) -> bool
     ensures { result ≡ true → (a ≡ pos step) × (b ≡ pos step) }
 {
     let n = step as i64;
-    if a == n { b == n } else { false }
+    a == n && b == n
 }
 
 // Run after run, each at once.
@@ -34,12 +34,10 @@ fn move_runs(
     ensures { destination.new ≡ copied width (patch_cells n0 n1 to from) destination.old source.now }
 {
     let bytes = (n0 as usize) * width;
-    let mut j: u64 = 0;
-    while j < n1 {
+    for j in 0..n1 {
         let d = place_of(to, 0, j);
         let s = place_of(from, 0, j);
         move_pieces(destination, d, source, s, bytes);
-        j += 1;
     }
 }
 
@@ -77,9 +75,8 @@ pub fn both_down(step: usize, a: i64, b: i64) -> bool
     requires { step < 2 ^ 63 }
     ensures { result ≡ true → (a ≡ neg_ℤ (pos step)) × (b ≡ neg_ℤ (pos step)) }
 {
-    let n = step as i64;
-    let down = 0 - n;
-    if a == down { b == down } else { false }
+    let down = -(step as i64);
+    a == down && b == down
 }
 
 // A side whose runs go down, taken from the last cell of each run on.
@@ -88,11 +85,9 @@ fn upwards(side: Side, n0: u64, width: usize) -> Side
     requires reaches { Reaches side (n0 - 1) 0 }
     ensures { result ≡ turned n0 width side }
 {
-    let first = place_of(side, n0 - 1, 0);
-    let step0 = width as i64;
     Side {
-        first: first,
-        step0: step0,
+        first: place_of(side, n0 - 1, 0),
+        step0: width as i64,
         step1: side.step1,
     }
 }

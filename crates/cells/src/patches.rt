@@ -23,10 +23,8 @@ pub fn copy_runs(
     requires patch_in_2 { PatchIn width (length source.now) n0 n1 from }
     ensures { destination.new ≡ copied width (patch_cells n0 n1 to from) destination.old source.now }
 {
-    let mut j: u64 = 0;
-    while j < n1 {
+    for j in 0..n1 {
         copy_run(destination, source, n0, j, width, to, from);
-        j += 1;
     }
 }
 

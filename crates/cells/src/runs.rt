@@ -65,9 +65,7 @@ pub fn copy_run(
     requires run_in_2 { RunIn width (length source.now) n j from }
     ensures { destination.new ≡ copied width (run_cells n to from j) destination.old source.now }
 {
-    let mut i: u64 = 0;
-    while i < n {
+    for i in 0..n {
         copy_cell(destination, source, i, j, width, to, from);
-        i += 1;
     }
 }

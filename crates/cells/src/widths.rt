@@ -1,11 +1,38 @@
 // Each width has loops of its own, with the width a literal in them.
 ghost use Rattle.std.specs.Prelude.{◌≡◌, ◌≤◌, length};
+ghost use Rattle.cells.specs.Calls.{TakesBytes, LeavesBytes};
 ghost use Rattle.cells.specs.Copy.{copied, Apart};
 ghost use Rattle.cells.specs.Patch.{patch_cells};
 ghost use Rattle.cells.specs.Reaching.{PatchIn};
 
 use super::Side;
 use super::patches::{copy_fours, copy_runs};
+
+// Hands the destination to `f` with the width, which is a literal at each call.
+fn by_width<F: FnOnce(&mut [u8], usize)>(destination: &mut [u8], width: usize, f: F)
+    requires { TakesBytes F.FnOnce f destination.old width }
+    ensures { LeavesBytes F.FnOnce f destination.old width destination.new }
+{
+    match width {
+        1 => f(destination, 1),
+        2 => f(destination, 2),
+        3 => f(destination, 3),
+        4 => f(destination, 4),
+        5 => f(destination, 5),
+        6 => f(destination, 6),
+        7 => f(destination, 7),
+        8 => f(destination, 8),
+        9 => f(destination, 9),
+        10 => f(destination, 10),
+        11 => f(destination, 11),
+        12 => f(destination, 12),
+        13 => f(destination, 13),
+        14 => f(destination, 14),
+        15 => f(destination, 15),
+        16 => f(destination, 16),
+        _ => f(destination, width),
+    }
+}
 
 // Run after run.
 pub fn copy_runs_by_width(
@@ -22,25 +49,11 @@ pub fn copy_runs_by_width(
     requires patch_in_2 { PatchIn width (length source.now) n0 n1 from }
     ensures { destination.new ≡ copied width (patch_cells n0 n1 to from) destination.old source.now }
 {
-    match width {
-        1 => copy_runs(destination, source, n0, n1, 1, to, from),
-        2 => copy_runs(destination, source, n0, n1, 2, to, from),
-        3 => copy_runs(destination, source, n0, n1, 3, to, from),
-        4 => copy_runs(destination, source, n0, n1, 4, to, from),
-        5 => copy_runs(destination, source, n0, n1, 5, to, from),
-        6 => copy_runs(destination, source, n0, n1, 6, to, from),
-        7 => copy_runs(destination, source, n0, n1, 7, to, from),
-        8 => copy_runs(destination, source, n0, n1, 8, to, from),
-        9 => copy_runs(destination, source, n0, n1, 9, to, from),
-        10 => copy_runs(destination, source, n0, n1, 10, to, from),
-        11 => copy_runs(destination, source, n0, n1, 11, to, from),
-        12 => copy_runs(destination, source, n0, n1, 12, to, from),
-        13 => copy_runs(destination, source, n0, n1, 13, to, from),
-        14 => copy_runs(destination, source, n0, n1, 14, to, from),
-        15 => copy_runs(destination, source, n0, n1, 15, to, from),
-        16 => copy_runs(destination, source, n0, n1, 16, to, from),
-        _ => copy_runs(destination, source, n0, n1, width, to, from),
-    }
+    by_width(
+        destination,
+        width,
+        |d, w| copy_runs(d, source, n0, n1, w, to, from),
+    );
 }
 
 // Four runs at once.
@@ -59,23 +72,9 @@ pub fn copy_fours_by_width(
     requires apart { Apart width (patch_cells n0 n1 to from) }
     ensures { destination.new ≡ copied width (patch_cells n0 n1 to from) destination.old source.now }
 {
-    match width {
-        1 => copy_fours(destination, source, n0, n1, 1, to, from),
-        2 => copy_fours(destination, source, n0, n1, 2, to, from),
-        3 => copy_fours(destination, source, n0, n1, 3, to, from),
-        4 => copy_fours(destination, source, n0, n1, 4, to, from),
-        5 => copy_fours(destination, source, n0, n1, 5, to, from),
-        6 => copy_fours(destination, source, n0, n1, 6, to, from),
-        7 => copy_fours(destination, source, n0, n1, 7, to, from),
-        8 => copy_fours(destination, source, n0, n1, 8, to, from),
-        9 => copy_fours(destination, source, n0, n1, 9, to, from),
-        10 => copy_fours(destination, source, n0, n1, 10, to, from),
-        11 => copy_fours(destination, source, n0, n1, 11, to, from),
-        12 => copy_fours(destination, source, n0, n1, 12, to, from),
-        13 => copy_fours(destination, source, n0, n1, 13, to, from),
-        14 => copy_fours(destination, source, n0, n1, 14, to, from),
-        15 => copy_fours(destination, source, n0, n1, 15, to, from),
-        16 => copy_fours(destination, source, n0, n1, 16, to, from),
-        _ => copy_fours(destination, source, n0, n1, width, to, from),
-    }
+    by_width(
+        destination,
+        width,
+        |d, w| copy_fours(d, source, n0, n1, w, to, from),
+    );
 }

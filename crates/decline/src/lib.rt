@@ -4,7 +4,6 @@
 #![tactic(auto)]
 
 ghost use Rattle.std.specs.Prelude.{◌≡◌, ◌^◌, ◌<◌, ◌≤◌, length};
-ghost use Rattle.strided.specs.Machine.{Allowed};
 ghost use Rattle.strided.specs.Region.{byte_table};
 ghost use Rattle.strided.specs.Decline.{first_cut, declined};
 ghost use Rattle.laws.specs.Cut.Rising.{before, way_of};
@@ -13,8 +12,7 @@ ghost use Rattle.laws.specs.Cut.Tables.{stride_size};
 ghost use Rattle.decline.specs.Reach.{WithinReach};
 ghost use Rattle.decline.specs.Slabs.{InReach, span_to, apart_at, apart_to, share_none};
 
-use layout::sizes::{less_one, magnitude};
-use strided::Machine;
+use region::AllowedMachine;
 
 // One operand's slabs at a cut: a slab spans the axes before the cut, `width` elements of `size`, and the axes from the cut up to the rank lead
 // from slab to slab.
@@ -32,23 +30,20 @@ fn first_cut<'a>(extents: &'a [u64; 64], blocks: &'a [u64; 64], rank: usize) -> 
     requires { rank ≤ 64 }
     ensures { (result ≡ first_cut extents.now blocks.now rank) × (result ≤ rank) }
 {
-    let mut i = 0;
-    while i < rank {
+    for i in 0..rank {
         if blocks[i] < extents[i] {
             return i;
         }
-        i += 1;
     }
-    i
+    rank
 }
 
 // Whether n elements are whole lines. Two remainders tell it, where n * size may pass 64 bits; by a line, a power of two, they are the low
 // bits.
-fn whole_lines(machine: Machine, n: u64, size: u64) -> bool
-    requires { Allowed machine }
-    ensures { result ≡ whole_lines machine size n }
+fn whole_lines(machine: AllowedMachine, n: u64, size: u64) -> bool
+    ensures { result ≡ whole_lines machine.numbers size n }
 {
-    let low = machine.line - 1;
+    let low = machine.numbers.line - 1;
     (n & low) * (size & low) & low == 0
 }
 
@@ -57,8 +52,7 @@ fn stride_size(strides: &[i64; 512], k: usize, i: usize) -> u64
     requires { (k < 8) × (i < 64) }
     ensures { result ≡ stride_size strides.now k i }
 {
-    let t = strides[k * 64 + i];
-    magnitude(t)
+    strides[k * 64 + i].unsigned_abs()
 }
 
 // What operand k spans along axis i.
@@ -66,7 +60,7 @@ fn way_at<'a>(strides: &'a [i64; 512], extents: &'a [u64; 64], k: usize, i: usiz
     requires { ((k < 8) × (i < 64)) × (way_of (stride_size strides.now k) extents.now i ≤ 2 ^ 63) }
     ensures { result ≡ way_of (stride_size strides.now k) extents.now i }
 {
-    less_one(extents[i]) * stride_size(strides, k, i)
+    extents[i].saturating_sub(1) * stride_size(strides, k, i)
 }
 
 // The elements that a slab of operand k spans: the axes before the cut.
@@ -75,10 +69,8 @@ fn slab_width<'a>(strides: &'a [i64; 512], extents: &'a [u64; 64], cut: usize, k
     ensures { result ≡ slab (stride_size strides.now k) extents.now cut }
 {
     let mut w: u64 = 1;
-    let mut i = 0;
-    while i < cut {
+    for i in 0..cut {
         w += way_at(strides, extents, k, i);
-        i += 1;
     }
     w
 }
@@ -99,52 +91,41 @@ fn span_so_far<'a>(slabs: Slabs, strides: &'a [i64; 512], extents: &'a [u64; 64]
     ensures { result ≡ span_to slabs.rank slabs strides.now extents.now i }
 {
     let mut s = slabs.width;
-    let mut j = slabs.cut;
-    while j < slabs.rank {
+    for j in slabs.cut..slabs.rank {
         if comes_before(strides, slabs.operand, i, j) {
             s += way_at(strides, extents, slabs.operand, j);
         }
-        j += 1;
     }
     s
 }
 
 // Whether axis i steps by whole lines and by no less than the span so far.
 fn keeps_apart<'a>(
-    machine: Machine,
+    machine: AllowedMachine,
     slabs: Slabs,
     strides: &'a [i64; 512],
     extents: &'a [u64; 64],
     i: usize,
 ) -> bool
-    requires allowed { Allowed machine }
-    requires in_reach { InReach slabs strides.now extents.now × (i < 64) }
-    ensures { result ≡ apart_at machine slabs strides.now extents.now i }
+    requires { InReach slabs strides.now extents.now × (i < 64) }
+    ensures { result ≡ apart_at machine.numbers slabs strides.now extents.now i }
 {
     let s = stride_size(strides, slabs.operand, i);
-    if whole_lines(machine, s, slabs.size) {
-        span_so_far(slabs, strides, extents, i) <= s
-    } else {
-        false
-    }
+    whole_lines(machine, s, slabs.size) && span_so_far(slabs, strides, extents, i) <= s
 }
 
 // Whether every axis from the cut on keeps the slabs apart.
 fn tail_separated<'a>(
-    machine: Machine,
+    machine: AllowedMachine,
     slabs: Slabs,
     strides: &'a [i64; 512],
     extents: &'a [u64; 64],
 ) -> bool
-    requires allowed { Allowed machine }
-    requires in_reach { InReach slabs strides.now extents.now }
-    ensures { result ≡ apart_to slabs.rank machine slabs strides.now extents.now }
+    requires { InReach slabs strides.now extents.now }
+    ensures { result ≡ apart_to slabs.rank machine.numbers slabs strides.now extents.now }
 {
-    let mut i = slabs.cut;
-    while i < slabs.rank {
-        if keeps_apart(machine, slabs, strides, extents, i) {
-            i += 1;
-        } else {
+    for i in slabs.cut..slabs.rank {
+        if !keeps_apart(machine, slabs, strides, extents, i) {
             return false;
         }
     }
@@ -153,61 +134,46 @@ fn tail_separated<'a>(
 
 // Whether no two slabs share a line.
 fn slabs_share_no_line<'a>(
-    machine: Machine,
+    machine: AllowedMachine,
     slabs: Slabs,
     strides: &'a [i64; 512],
     extents: &'a [u64; 64],
 ) -> bool
-    requires allowed { Allowed machine }
-    requires in_reach { InReach slabs strides.now extents.now }
-    ensures { result ≡ share_none machine slabs strides.now extents.now }
+    requires { InReach slabs strides.now extents.now }
+    ensures { result ≡ share_none machine.numbers slabs strides.now extents.now }
 {
-    if slabs.size == 0 {
-        return true;
-    }
-    if whole_lines(machine, slabs.width, slabs.size) {
-        tail_separated(machine, slabs, strides, extents)
-    } else {
-        false
-    }
+    slabs.size == 0
+        || whole_lines(machine, slabs.width, slabs.size)
+            && tail_separated(machine, slabs, strides, extents)
 }
 
 // Whether every operand's slabs at the first cut, which is not axis 0, share no line.
 pub fn declines_tiles<'a>(
-    machine: Machine,
+    machine: AllowedMachine,
     sizes: &'a [u64],
     strides: &'a [i64; 512],
     extents: &'a [u64; 64],
     blocks: &'a [u64; 64],
     rank: usize,
 ) -> bool
-    requires allowed { Allowed machine }
-    requires within_reach { WithinReach sizes.now strides.now extents.now rank }
-    ensures { result ≡ declined machine (byte_table sizes.now strides.now)
+    requires { WithinReach sizes.now strides.now extents.now rank }
+    ensures { result ≡ declined machine.numbers (byte_table sizes.now strides.now)
         sizes.now (length sizes.now) extents.now rank blocks.now }
 {
     let cut = first_cut(extents, blocks, rank);
-    if cut == 0 {
+    if cut == 0 || cut == rank {
         return false;
     }
-    if cut == rank {
-        return false;
-    }
-    let operands = sizes.len();
-    let mut k = 0;
-    while k < operands {
-        let size = sizes[k];
+    for k in 0..sizes.len() {
         let width = slab_width(strides, extents, cut, k);
         let slabs = Slabs {
             operand: k,
-            size,
+            size: sizes[k],
             width,
             cut,
             rank,
         };
-        if slabs_share_no_line(machine, slabs, strides, extents) {
-            k += 1;
-        } else {
+        if !slabs_share_no_line(machine, slabs, strides, extents) {
             return false;
         }
     }

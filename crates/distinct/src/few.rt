@@ -2,25 +2,8 @@
 ghost use Rattle.std.specs.Prelude.{◌≡◌, ◌↔◌, true, ◌-◌, ◌*◌, ◌<◌, ◌≤◌, length, take};
 ghost use Rattle.strided.specs.Layout.{NoZero, total, reach, max_i};
 ghost use Rattle.strided.specs.Mark.{Shared};
-ghost use Rattle.distinct.specs.Lists.{Low, Looked};
+ghost use Rattle.distinct.specs.Lists.{Low};
 ghost use Rattle.distinct.specs.Copies.{Spreading};
-
-use layout::magnitude;
-
-// Whether x stands among the first n.
-fn holds(list: &[u64; 64], n: usize, x: u64) -> bool
-    requires { (length list.now ≡ 64) × (n ≤ 64) }
-    ensures { Looked list.now n x result }
-{
-    let mut i: usize = 0;
-    while i < n {
-        if list[i] == x {
-            return true;
-        }
-        i += 1;
-    }
-    false
-}
 
 // `extent` copies of the first n, one behind the other, each `size` above the one before it; false where two share a number. Two copies
 // share one exactly if a later copy shares one with the first, so that only the first is looked at.
@@ -30,14 +13,12 @@ fn extend(list: &mut [u64; 64], n: usize, extent: usize, size: u64) -> bool
     ensures spreading { Spreading (take n list.old) extent size result (take (n * extent) list.new) }
     ensures list_len_2 { length list.new ≡ 64 }
 {
-    let mut j = n;
-    while j < n * extent {
+    for j in n..n * extent {
         let x = list[j - n] + size;
-        if holds(&*list, n, x) {
+        if list[..n].contains(&x) {
             return false;
         }
         list[j] = x;
-        j += 1;
     }
     true
 }
@@ -50,16 +31,12 @@ pub fn few_repeat<'a>(extents: &'a [u64], strides: &'a [i64]) -> bool
 {
     let mut list = [0u64; 64];
     let mut n: usize = 1;
-    let mut i = extents.len();
-    while 0 < i {
-        i -= 1;
+    for i in (0..extents.len()).rev() {
         let extent = extents[i] as usize;
-        let size = magnitude(strides[i]);
-        if extend(&mut list, n, extent, size) {
-            n *= extent;
-        } else {
+        if !extend(&mut list, n, extent, strides[i].unsigned_abs()) {
             return true;
         }
+        n *= extent;
     }
     false
 }

@@ -7,14 +7,15 @@ ghost use Rattle.strided.specs.Mark.{Shared};
 
 use copies::spread;
 use few::few_repeat;
-use layout::{magnitude, total_at_most};
+use layout::total_at_most;
 
-pub mod copies;
-pub mod few;
-pub mod merge;
+mod copies;
+mod few;
+mod merge;
 
 // The rising list of at most 4,096 cells begins with the one offset of no axis and is spread over the axes, the last first. Sizes of strides
 // serve for strides: an axis walked from its other end has the same offsets, all moved by one number.
+// Kept: apart from `few_repeat`. One function for both would take what lists an axis as a closure over its arrays, and be no plainer.
 fn many_repeat<'a>(extents: &'a [u64], strides: &'a [i64]) -> bool
     requires strides_len { (length strides.now ≡ length extents.now) × NoZero extents.now }
     requires extents_bound { (total extents.now ≤ 4096) × (reach extents.now strides.now ≤ max_i) }
@@ -23,17 +24,13 @@ fn many_repeat<'a>(extents: &'a [u64], strides: &'a [i64]) -> bool
     let mut list = [0u64; 4096];
     let mut spare = [0u64; 4096];
     let mut n: usize = 1;
-    let mut i = extents.len();
-    while 0 < i {
-        i -= 1;
+    for i in (0..extents.len()).rev() {
         let extent = extents[i] as usize;
         if 1 < extent {
-            let size = magnitude(strides[i]);
-            if spread(&mut list, n, extent, size, &mut spare) {
-                n *= extent;
-            } else {
+            if !spread(&mut list, n, extent, strides[i].unsigned_abs(), &mut spare) {
                 return true;
             }
+            n *= extent;
         }
     }
     false

@@ -12,7 +12,7 @@ use borrow.Author.Tests.{ltb-false}
 use Rattle.strided.specs.Base.{over, run}
 use Rattle.strided.specs.Layout.{total, max_u}
 use Rattle.strided.specs.Walk.{counters, length_at, block_at}
-use Rattle.strided.specs.Begin.{plan_extents, begin_rows, begin_refused, begun_at}
+use Rattle.strided.specs.Begin.{plan_extents, begin_rows, begin_refused, started}
 use Rattle.strided.specs.Step.{plan_cut_axes}
 use Rattle.strided.specs.Memory.{walk_of}
 use Rattle.strided.specs.declared.Plan.{Plan}
@@ -100,7 +100,7 @@ module _ {p : Plan} {zs : List ℤ} {w to from : ℕ} (h : Copyable p zs w to fr
 -- ---- the walk before block n: `now` is the destination, from which what is left makes what all of it makes from `old`
 
 pub record Copies (p : Plan) (zs : List ℤ) (wd : ℕ) (y : Way) (w : List ℕ) (old src : List ℕ) (n : ℕ) (more : Bool) (t c : List ℕ) (o : List ℤ) (now : List ℕ) : Type 0 where
-  pub walked : (u : Walk) × (u ≡ (begun_at p zs).walk) × Walked p u y w n more t c o
+  pub walked : (u : Walk) × (u ≡ started p zs) × Walked p u y w n more t c o
   pub long : length now ≡ length old
   pub left : copied wd (over (drop n (placed_walk p zs)) (block_cells wd p.strides)) now src ≡ copied wd (walk_cells wd p zs) old src
 
@@ -109,7 +109,7 @@ pub copies_while : {p : Plan} {zs : List ℤ} {wd : ℕ} {y : Way} {w old src : 
 copies_while k e = rw e at k
 
 -- at its beginning
-module _ {p : Plan} {zs : List ℤ} {wd to from : ℕ} (h : Copyable p zs wd to from) (u : Walk) (is : u ≡ (begun_at p zs).walk) where
+module _ {p : Plan} {zs : List ℤ} {wd to from : ℕ} (h : Copyable p zs wd to from) (u : Walk) (is : u ≡ started p zs) where
   -- it has no block
   pub copies_none : u.ended ≡ true → (dst src : List ℕ) → dst ≡ copied wd (walk_cells wd p zs) dst src
   unfolding walk_cells copied
@@ -118,7 +118,7 @@ module _ {p : Plan} {zs : List ℤ} {wd to from : ℕ} (h : Copyable p zs wd to 
 
   -- it has one
   module _ (e : u.ended ≡ false) where
-    running_is : walk_of false u.counters u.offsets ≡ (begun_at p zs).walk
+    running_is : walk_of false u.counters u.offsets ≡ started p zs
     running_is = sym (running u e) ∙ is
 
     pub first_taken : Taken p (walk_of false u.counters u.offsets)

@@ -1,25 +1,17 @@
 -- Strides held against the products of extents, axis by axis from axis 0 on.
 -- Assumes nothing.
 use mathlib.Core.Path.{◌≡◌, sym, ap, ◌∙◌}
-use mathlib.Core.Bool.{false, false≢true}
 use mathlib.Core.List.{List, [], ◌∷◌}
 use Prim.Native.Nat.{ℕ, zero, suc, ◌+◌, ◌*◌, ◌≤◌, ◌<◌}
 use native.Mathlib.Nat.{mul_assoc, mul-zero, le-mul_of_pos_right}
 use native.Mathlib.Numerals.{add-one}
 use native.Mathlib.Omega.{arith}
-use lib.Dec.{T}
-use lib.IntN.{ℤ, pos, negsuc}
+use lib.IntN.{ℤ, pos}
 use lib.ListN.{length, get_or, drop, drop_of_length-le}
 use lib.Seq.{drop-cons, drop-length}
-use lib.Signed.{lt_z, non_neg}
 use Rattle.strided.specs.Layout.{stride_row, total}
 use Rattle.laws.specs.Base.Rows.{stride_at, length_strides}
 use Rattle.export.specs.Packed.{packed_from}
-
--- a number that is not below 0
-pub not-below : (s : ℤ) → lt_z s (pos 0) ≡ false → T (non_neg s)
-not-below (pos n) t = tt
-not-below (negsuc k) t = absurd (false≢true (sym t))
 
 -- the strides before axis i are right, so that all are where those from it on are, n apart on axis i
 unfoldable pub Rest : List ℕ → List ℤ → ℕ → ℕ → Type 0

@@ -1,13 +1,12 @@
 -- CELLS WITHOUT GAPS: where each stride is the product of the extents before its axis, the offsets of the indices, axis 0 quickest, are the
 -- numbers from the start on. Where both operands lie so, the copy is one move of bytes.
 -- Assumes nothing.
-use Rattle.std.specs.Prelude.{◌≡◌, refl, Bool, true, false, cond, ◌&&◌, ◌||◌, ℕ, zero, suc, ◌+◌, ◌-◌, ◌*◌, ◌/◌, ◌^◌, ◌≤◌, ◌<◌, T, ltb, leb, ℤ, pos, negsuc, nat_abs, ◌+ℤ◌, ◌-ℤ◌, ◌*ℤ◌, length}
+use Rattle.std.specs.Prelude.{◌≡◌, refl, Bool, true, false, cond, ◌&&◌, ◌||◌, ℕ, zero, suc, ◌+◌, ◌-◌, ◌*◌, ◌/◌, ◌^◌, ◌≤◌, ◌<◌, T, ltb, leb, ℤ, pos, negsuc, nat_abs, ◌+ℤ◌, ◌-ℤ◌, ◌*ℤ◌, length, None}
 use Rattle.std.proofs.Common.{sym, ◌∙◌, subst, mul-zero, zero-mul, one-mul, suc-mul, zero-add, mul_comm, mul_assoc, add-mul, mul-le-mul_right, div-le_self, div-mul-le_self, le-mul_of_pos_right, le_trans, add-one, arith, ltb-true, lt-ltb}
 use Rattle.std.proofs.Math.Path.{ap, ap₂}
 use Rattle.std.proofs.Math.Bool.{not}
 use Rattle.std.proofs.lemmas.Bool.{false≢true}
 use mathlib.Core.List.{List, [], ◌∷◌, ◌++◌, map, map-map, map-append}
-use Rattle.std.proofs.Math.Option.{none}
 use Rattle.std.proofs.Math.IntN.{+ℤ_idr}
 use Rattle.std.proofs.Math.ListN.{get_or}
 use Rattle.std.specs.Int.Signed.{non_neg, pos-nat_abs}
@@ -262,7 +261,7 @@ module _ {es sizes : List ℕ} {ss zs : List ℤ} {to from r : ℕ} (p : Plain e
   out-room = subst (λ (n : ℕ). Room (get_or zs 1 (pos 0)) n (from / get_or sizes 1 0)) p.gapless.cells p.out
 
   -- rows 16, 17 and 18
-  pub plain_passes : refused_by (cell_rows es sizes ss zs to from) ≡ none
+  pub plain_passes : refused_by (cell_rows es sizes ss zs to from) ≡ None
   unfolding NoneApplies
   plain_passes =
       none_refuses (cell_rows es sizes ss zs to from) (

@@ -1,11 +1,10 @@
 -- THE PLAN'S BLOCKS GIVE THE SAME BYTES: the cells of the blocks of the layout's plan, from the starts, are the cells of all indices, each of
 -- them and no other. "The copy follows the P plan with operand 0 chosen": so it may.
 -- Assumes nothing.
-use Rattle.std.specs.Prelude.{◌≡◌, refl, true, ℤ, pos, nat_abs, ◌+ℤ◌, ◌-ℤ◌, ◌*ℤ◌, length, get_or, take, drop}
+use Rattle.std.specs.Prelude.{◌≡◌, refl, true, ℤ, pos, nat_abs, ◌+ℤ◌, ◌-ℤ◌, ◌*ℤ◌, length, get_or, take, drop, None, Some}
 use Rattle.std.proofs.Common.{sym, ap₂, ◌∙◌, inl, inr, ⊎_elim, mul-le-mul_left, div-mul-le_self, mul-zero, arith}
 use Rattle.std.proofs.Math.Path.{ap, subst}
 use mathlib.Core.List.{List, [], ◌∷◌}
-use Rattle.std.proofs.Math.Option.{none, some}
 use Prim.Native.Nat.{ℕ, zero, suc, ◌+◌, ◌-◌, ◌*◌, ◌/◌, ◌^◌, ◌≤◌, ◌<◌}
 use Rattle.std.proofs.Math.IntN.{zero-*ℤ, -ℤ-+ℤ_cancel, +ℤ_comm, +ℤ_idr}
 use Rattle.std.proofs.Math.ListN.{get_or-map}
@@ -17,9 +16,8 @@ use Rattle.strided.specs.Walk.{CutAxis, ax, counters, cell_at, length_at, first_
 use Rattle.strided.specs.Begin.{plan_extents, plan_row, plan_rows, begin_refused}
 use Rattle.strided.specs.Step.{offsets_from, plan_cut_axes}
 use Rattle.strided.specs.Refusals.{planning_refused}
-use Rattle.strided.specs.Plan.{plan_from, planned}
+use Rattle.strided.specs.Plan.{plan_from, the_plan}
 use Rattle.strided.specs.declared.Machine.{Machine}
-use Rattle.strided.specs.declared.Planned.{Planned}
 use Rattle.strided.specs.declared.Purpose.{Purpose}
 use Rattle.strided.specs.declared.Purpose.TheVariants.{PointwiseInto}
 use Rattle.strided.specs.declared.Plan.{Plan}
@@ -28,7 +26,6 @@ use Rattle.laws.specs.Base.Integers.{nat_abs_mul, nat_abs_zero}
 use Rattle.laws.specs.Base.Layouts.{table_row, length-extents}
 use Rattle.laws.specs.Refusals.Accepted.{Accepted, accepted}
 use Rattle.laws.specs.Refusals.Record.{planning_layout}
-use Rattle.laws.specs.Plan.Answers.{planned_served}
 use Rattle.laws.specs.Plan.Bounds.{plan_few}
 use Rattle.laws.specs.Plan.Places.{plan_extents_lem, plan_blocks_lem, plan_strides}
 use Rattle.laws.specs.Text.Totals.{planned-extents}
@@ -56,14 +53,14 @@ use Rattle.export.specs.Steps.{step_small, none_time}
 
 -- ---- members by their places in a list
 
-pub nth_in : {A : Type 0} (l : List A) (m : ℕ) (x : A) → nth l m ≡ some x → In x l
+pub nth_in : {A : Type 0} (l : List A) (m : ℕ) (x : A) → nth l m ≡ Some x → In x l
 nth_in [] m x e = let z : ◌≡◌ {A = ℕ} 0 1 = cc e in absurd (omega arith)
 nth_in (a ∷ l) zero x e = inl cc
 nth_in (a ∷ l) (suc m) x e = inr (nth_in l m x e)
 
-pub in_nth : {A : Type 0} (l : List A) (x : A) → In x l → (m : ℕ) × (nth l m ≡ some x)
+pub in_nth : {A : Type 0} (l : List A) (x : A) → In x l → (m : ℕ) × (nth l m ≡ Some x)
 in_nth [] x i = absurd i
-in_nth (a ∷ l) x (inl e) = (0, ap some (sym e))
+in_nth (a ∷ l) x (inl e) = (0, ap Some (sym e))
 in_nth (a ∷ l) x (inr i) = let r = in_nth l x i in (suc r.0, r.1)
 
 -- ---- the stride along a block is axis 0's; k is 0 at rank 0
@@ -199,34 +196,30 @@ few-cells l a w to h n s f =
 
 -- ---- the plan that planning hands out, with operand 0 chosen
 
-module _ (mc : Machine) (es sizes : List ℕ) (ss : List ℤ) (hp : planning_refused mc es sizes ss (PointwiseInto 0) ≡ none) where
+module _ (mc : Machine) (es sizes : List ℕ) (ss : List ℤ) (hp : planning_refused mc es sizes ss (PointwiseInto 0) ≡ None) where
   -- "the P plan with operand 0 chosen"
   abbrev pub p_plan : Plan
-  p_plan = (planned mc es sizes ss (PointwiseInto 0)).plan
+  p_plan = the_plan mc es sizes ss (PointwiseInto 0)
 
   taken : Accepted es sizes ss (PointwiseInto 0)
   taken = accepted es sizes ss (PointwiseInto 0) (planning_layout mc es sizes ss (PointwiseInto 0) hp)
 
-  plan_is : p_plan ≡ plan_from mc es sizes (plan_axes es (length sizes) ss (PointwiseInto 0)) (PointwiseInto 0)
-  plan_is = ap (λ (q : Planned). q.plan) (planned_served mc es sizes ss (PointwiseInto 0) hp)
-
   rows_are : (k : ℕ) → k < length sizes → plan_row p_plan k ≡ row k (plan_axes es (length sizes) ss (PointwiseInto 0))
   unfolding plan_from
   rows_are k l =
-      ap (λ (p : Plan). plan_row p k) plan_is
-      ∙ table_row (plan_axes es (length sizes) ss (PointwiseInto 0)) (length sizes) k (plan_few es sizes ss (PointwiseInto 0) taken) taken.few l
+      table_row (plan_axes es (length sizes) ss (PointwiseInto 0)) (length sizes) k (plan_few es sizes ss (PointwiseInto 0) taken) taken.few l
 
   extents_are : plan_extents p_plan ≡ extents (plan_axes es (length sizes) ss (PointwiseInto 0))
   extents_are = planned-extents mc es sizes ss (PointwiseInto 0) hp
 
   rank_is : p_plan.rank ≡ length (plan_axes es (length sizes) ss (PointwiseInto 0))
   unfolding plan_from
-  rank_is = ap (λ (p : Plan). p.rank) plan_is
+  rank_is = refl
 
-  pub plan_ready : (zs : List ℤ) → begin_refused p_plan zs ≡ none → Ready p_plan zs
+  pub plan_ready : (zs : List ℤ) → begin_refused p_plan zs ≡ None → Ready p_plan zs
   plan_ready zs b = ready p_plan zs (ap length extents_are ∙ length-extents (plan_axes es (length sizes) ss (PointwiseInto 0)) ∙ sym rank_is) b
 
-  module _ (zs : List ℤ) (b : begin_refused p_plan zs ≡ none) where
+  module _ (zs : List ℤ) (b : begin_refused p_plan zs ≡ None) where
     -- what stands in a block of it
     pub plan_cell : (c : List ℕ) → In c (counters (plan_cut_axes p_plan)) → (k : ℕ) → k < length_at (plan_cut_axes p_plan) c
         → (x : List ℕ) × Within es x × ((j : ℕ) → j < length sizes → offset_in p_plan.strides (placed_from p_plan zs c) j k ≡ offset_of es ss zs j x)
@@ -283,12 +276,11 @@ module _ (mc : Machine) (es sizes : List ℕ) (ss : List ℤ) (hp : planning_ref
 
       plan_sized : Sized p_plan
       plan_sized =
-          subst Sized (sym plan_is)
-          (record {
+          record {
             extents-all = plan_extents_lem mc es sizes (plan_axes es (length sizes) ss (PointwiseInto 0)) (PointwiseInto 0);
             blocks_all = plan_blocks_lem mc es sizes (plan_axes es (length sizes) ss (PointwiseInto 0)) (PointwiseInto 0);
             strides_all = plan_strides mc es sizes (plan_axes es (length sizes) ss (PointwiseInto 0)) (PointwiseInto 0);
-          })
+          }
 
       -- WHAT THE WALK'S COPY ASKS
       pub plan_copyable : to < 2 ^ 63 → Copyable p_plan zs (width_of sizes) to from

@@ -1,7 +1,6 @@
 -- The cells of a plan's blocks, in the plan's order; and what the functions that copy them ask.
 -- Assumes nothing.
-use Rattle.std.specs.Prelude.{◌≡◌, true, List, map, ℕ, ◌*◌, ◌/◌, ◌^◌, ◌≤◌, ◌<◌, T, ℤ, pos, nat_abs, ◌+ℤ◌, ◌*ℤ◌, length, get_or, take}
-use Rattle.std.proofs.Math.Option.{none}
+use Rattle.std.specs.Prelude.{◌≡◌, true, List, map, ℕ, ◌*◌, ◌/◌, ◌^◌, ◌≤◌, ◌<◌, T, ℤ, pos, nat_abs, ◌+ℤ◌, ◌*ℤ◌, length, get_or, take, None}
 use Rattle.std.specs.Int.Signed.{non_neg}
 use Rattle.std.specs.Int.{w64}
 use Rattle.std.proofs.Common.{SFits}
@@ -45,7 +44,7 @@ starts_of w = take 2 w.offsets
 
 pub record Copyable (p : Plan) (zs : List ℤ) (w to from : ℕ) : Type 0 where
   pub sized : Sized p
-  pub begins : begin_refused p zs ≡ none
+  pub begins : begin_refused p zs ≡ None
   pub two : p.operands ≡ 2
   pub some : 1 ≤ w
   pub most : w ≤ 16

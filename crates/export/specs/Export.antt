@@ -4,19 +4,17 @@
 -- plan with operand 0 chosen. (16: operands not two, or sizes differ or lie outside 1 to 16; 17: some cell outside its buffer; 18: the
 -- destination's mark is not no; all after 9, in this order.)" What is copied is said by the original indices: there is no plan in it.
 -- Assumes nothing.
-use Rattle.std.specs.Prelude.{Bool, true, false, not, ◌||◌, List, [], ◌∷◌, map, ℕ, ◌/◌, ltb, eqb, ℤ, pos, ◌+ℤ◌, length, get_or}
-use Rattle.std.proofs.Math.Option.{Option, none, some}
+use Rattle.std.specs.Prelude.{◌≡◌, Bool, true, false, not, ◌||◌, List, [], ◌∷◌, map, ℕ, ◌/◌, ltb, eqb, ℤ, pos, ◌+ℤ◌, length, get_or, Option, Result}
 use Rattle.strided.specs.Base.{over, run}
 use Rattle.strided.specs.Layout.{stride_row, Within, dot}
-use Rattle.strided.specs.Refusals.{Row, refused_by, row1, row2, row3, row5, row6, row8, row9, row24}
+use Rattle.strided.specs.Refusals.{Row, refused_by, row1, row2, row3, row5, row6, row8, row9, row24, served_unless}
+use Rattle.strided.specs.Memory.{whether, kept}
 use Rattle.strided.specs.Mark.{mark_of}
 use Rattle.strided.specs.declared.Machine.{Machine}
 use Rattle.strided.specs.declared.Mark.{Mark}
 use Rattle.strided.specs.declared.Mark.TheVariants.{No, Yes, Undecided}
 use Rattle.strided.specs.declared.Refusal.{Refusal}
 use Rattle.strided.specs.declared.Refusal.TheVariants.{CopySizes, Buffer, Repeats}
-use Rattle.strided.specs.declared.Answer.{Answer}
-use Rattle.strided.specs.declared.Answer.TheVariants.{Served, Refused}
 use Rattle.span.specs.Span.{outside}
 use Rattle.cells.specs.Copy.{Pair, pair, copied}
 use Rattle.cells.specs.Indexed.{Exported}
@@ -103,20 +101,12 @@ copy_refused mc es sizes ss zs to from = refused_by (copy_rows mc es sizes ss zs
 
 -- ---- the entry
 
--- what is answered, and the destination
-pub record Done : Type 0 where
-  pub answer : Answer
-  pub destination : List ℕ
-
-abbrev pub done_at : Answer → List ℕ → Done
-done_at a out = record { answer = a; destination = out }
-
--- "A refusal carries its number and nothing else": the destination keeps every byte
-abbrev pub done_or : Option Refusal → List ℕ → List ℕ → Done
-done_or none new old = done_at Served new
-done_or (some r) new old = done_at (Refused r) old
-
--- THE COPY
-unfoldable pub copy_done : Machine → List ℕ → List ℕ → List ℤ → List ℤ → List ℕ → List ℕ → Done
+-- THE COPY: the destination afterwards, or the refusal
+unfoldable pub copy_done : Machine → List ℕ → List ℕ → List ℤ → List ℤ → List ℕ → List ℕ → Result (List ℕ) Refusal
 copy_done mc es sizes ss zs dst src =
-    done_or (copy_refused mc es sizes ss zs (length dst) (length src)) (exported es sizes ss zs dst src) dst
+    served_unless (copy_refused mc es sizes ss zs (length dst) (length src)) (exported es sizes ss zs dst src)
+
+-- the answer r, and the destination that held `old`. "A refusal carries its number and nothing else": then it keeps every byte
+pub record Done (done : Result (List ℕ) Refusal) (old new : List ℕ) (r : Result (Unit {0}) Refusal) : Type 0 where
+  pub answer : r ≡ whether done
+  pub destination : new ≡ kept (λ out. out) done old

@@ -1,10 +1,9 @@
 -- A copy as a C function answers it: 0, or the refusal's number negated; and the destination that was lent.
 -- Assumes nothing.
-use Rattle.std.specs.Prelude.{◌≡◌, List, ℕ, ℤ, pos}
-use Rattle.strided.specs.Memory.{code_or}
-use Rattle.export.specs.Export.{Done}
+use Rattle.std.specs.Prelude.{List, ℕ, ℤ, Result}
+use Rattle.strided.specs.Memory.{Handed}
+use Rattle.strided.specs.declared.Refusal.{Refusal}
 
--- the function answers r, and the destination holds `new`
-pub record CopiesMemory (d : Done) (new : List ℕ) (r : ℤ) : Type 0 where
-  pub code : r ≡ code_or d.answer (pos 0)
-  pub holds : new ≡ d.destination
+-- the function answers r, and the destination that held `old` holds `new`
+abbrev pub CopiesMemory : Result (List ℕ) Refusal → List ℕ → List ℕ → ℤ → Type 0
+CopiesMemory done old new r = Handed (λ (out : List ℕ). out) done old new r

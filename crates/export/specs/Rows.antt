@@ -1,11 +1,10 @@
 -- The rows of a copy: their numbers in order, what they are beside planning's, and what holds where none applies.
 -- Assumes nothing.
-use Rattle.std.specs.Prelude.{◌≡◌, refl, Bool, true, false, not, ◌||◌, List, [], ◌∷◌, ◌++◌, ℕ, ◌≤◌, ◌<◌, ltb, leb, eqb, ℤ, length, get_or}
+use Rattle.std.specs.Prelude.{◌≡◌, refl, Bool, true, false, not, ◌||◌, List, [], ◌∷◌, ◌++◌, ℕ, ◌≤◌, ◌<◌, ltb, leb, eqb, ℤ, length, get_or, Option, None, Some}
 use Rattle.std.proofs.Common.{sym, ◌∙◌, arith, ltb-false, eqb-true}
 use Rattle.std.proofs.Math.Path.{ap}
 use Rattle.std.proofs.Math.Bool.{cond}
 use Rattle.std.proofs.lemmas.Bool.{false≢true, eqb-false, lt-leb, not-false}
-use Rattle.std.proofs.Math.Option.{Option, none, some}
 use Rattle.strided.specs.Layout.{stride_row}
 use Rattle.strided.specs.Refusals.{Row, refused_by, row1, row2, row3, row4, row5, row6, row8, row9, row24, planning_rows, planning_refused}
 use Rattle.strided.specs.Rows.{numbers}
@@ -36,23 +35,23 @@ module _ (mc : Machine) (es sizes : List ℕ) (ss zs : List ℤ) (to from : ℕ)
 
   pub past_planning : copy_refused mc es sizes ss zs to from ≡ refused_by (planning_rows mc es sizes ss (PointwiseInto 0) ++ rest)
   unfolding copy_refused
-  past_planning = ap (λ (o : Option Refusal). cond (row1 (length es)).applies (some (row1 (length es)).refusal) o) (go (row2 (length sizes)).applies refl)
+  past_planning = ap (λ (o : Option Refusal). cond (row1 (length es)).applies (Some (row1 (length es)).refusal) o) (go (row2 (length sizes)).applies refl)
     where
       tail : Option Refusal
       tail = refused_by (row24 mc ∷ row5 es ∷ row6 es (length sizes) (stride_row ss (length es)) ∷ rest)
 
       go : (b : Bool) → (row2 (length sizes)).applies ≡ b
-          → cond b (some (row2 (length sizes)).refusal) (cond (row3 (length es) (length sizes) ss).applies (some (row3 (length es) (length sizes) ss).refusal) tail)
-          ≡ cond b (some (row2 (length sizes)).refusal) (cond (row3 (length es) (length sizes) ss).applies (some (row3 (length es) (length sizes) ss).refusal) (cond (leb (length sizes) 0) (some (row4 (length sizes) (PointwiseInto 0)).refusal) tail))
+          → cond b (Some (row2 (length sizes)).refusal) (cond (row3 (length es) (length sizes) ss).applies (Some (row3 (length es) (length sizes) ss).refusal) tail)
+          ≡ cond b (Some (row2 (length sizes)).refusal) (cond (row3 (length es) (length sizes) ss).applies (Some (row3 (length es) (length sizes) ss).refusal) (cond (leb (length sizes) 0) (Some (row4 (length sizes) (PointwiseInto 0)).refusal) tail))
       go true e = refl
-      go false e = ap (λ (c : Bool). cond (row3 (length es) (length sizes) ss).applies (some (row3 (length es) (length sizes) ss).refusal) (cond c (some (row4 (length sizes) (PointwiseInto 0)).refusal) tail)) (sym (row4_never e))
+      go false e = ap (λ (c : Bool). cond (row3 (length es) (length sizes) ss).applies (Some (row3 (length es) (length sizes) ss).refusal) (cond c (Some (row4 (length sizes) (PointwiseInto 0)).refusal) tail)) (sym (row4_never e))
 
   -- what planning refuses is refused, and else the other rows decide
-  pub copy_as_planning : (r : Refusal) → planning_refused mc es sizes ss (PointwiseInto 0) ≡ some r → copy_refused mc es sizes ss zs to from ≡ some r
+  pub copy_as_planning : (r : Refusal) → planning_refused mc es sizes ss (PointwiseInto 0) ≡ Some r → copy_refused mc es sizes ss zs to from ≡ Some r
   unfolding planning_refused
   copy_as_planning r h = past_planning ∙ rows_refuse (planning_rows mc es sizes ss (PointwiseInto 0)) rest r h
 
-  pub copy_planned : planning_refused mc es sizes ss (PointwiseInto 0) ≡ none → copy_refused mc es sizes ss zs to from ≡ refused_by rest
+  pub copy_planned : planning_refused mc es sizes ss (PointwiseInto 0) ≡ None → copy_refused mc es sizes ss zs to from ≡ refused_by rest
   unfolding planning_refused
   copy_planned h = past_planning ∙ rows_pass (planning_rows mc es sizes ss (PointwiseInto 0)) rest h
 
@@ -92,7 +91,7 @@ sizes_good sizes h =
       most = ltb-false 16 (get_or sizes 0 0) d.1;
     }
 
-pub clean : (es sizes : List ℕ) (ss zs : List ℤ) (to from : ℕ) → refused_by (cell_rows es sizes ss zs to from) ≡ none → Clean es sizes ss zs to from
+pub clean : (es sizes : List ℕ) (ss zs : List ℤ) (to from : ℕ) → refused_by (cell_rows es sizes ss zs to from) ≡ None → Clean es sizes ss zs to from
 unfolding NoneApplies
 clean es sizes ss zs to from h =
     let n : NoneApplies (cell_rows es sizes ss zs to from) = none_applies (cell_rows es sizes ss zs to from) h in

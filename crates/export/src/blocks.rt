@@ -1,6 +1,6 @@
 // The walk of a plan, each stretch of it copied as a patch of cells. Nothing is checked here.
 ghost use Rattle.std.specs.Prelude.{◌≡◌, length};
-ghost use Rattle.strided.specs.Begin.{begun_at};
+ghost use Rattle.strided.specs.Begin.{started};
 ghost use Rattle.strided.specs.Memory.{plan_of};
 ghost use Rattle.cells.specs.Copy.{copied};
 ghost use Rattle.export.specs.Blocks.{walk_cells, starts_of, Copyable};
@@ -18,7 +18,7 @@ pub struct Shape {
 }
 
 // A stretch has at most so many blocks: as many as a patch may have.
-const MOST: u64 = 4611686018427387904;
+const MOST: u64 = 1 << 62;
 
 // THE CELLS OF A PLAN'S BLOCKS, in the plan's order: from the state at which the walk of its two operands has begun, to the end.
 pub fn copy_blocks<'a, 'b, 'c>(
@@ -31,7 +31,7 @@ pub fn copy_blocks<'a, 'b, 'c>(
     source: &'c [u8],
 )
     requires copyable { Copyable (plan_of shape.rank 2 e.now b.now s.now) (starts_of walk) shape.width (length destination.old) (length source.now) }
-    requires walk_value { walk ≡ (begun_at (plan_of shape.rank 2 e.now b.now s.now) (starts_of walk)).walk }
+    requires walk_value { walk ≡ started (plan_of shape.rank 2 e.now b.now s.now) (starts_of walk) }
     ensures { destination.new ≡ copied shape.width
         (walk_cells shape.width (plan_of shape.rank 2 e.now b.now s.now) (starts_of walk))
         destination.old source.now }

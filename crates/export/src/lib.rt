@@ -2,13 +2,12 @@
 // layout for writing operand 0, and its walk, stretch by stretch. Everything is checked before a byte is written.
 #![tactic(auto)]
 
-ghost use Rattle.std.specs.Prelude.{◌≡◌, ◌<◌, ◌^◌, T};
-ghost use Rattle.std.proofs.Math.Option.{none};
+ghost use Rattle.std.specs.Prelude.{◌≡◌, ◌<◌, ◌^◌, T, None};
 ghost use Rattle.std.specs.Int.Signed.{non_neg};
 ghost use Rattle.strided.specs.Refusals.{planning_refused};
 ghost use Rattle.strided.specs.declared.Purpose.TheVariants.{PointwiseInto};
 ghost use Rattle.cells.specs.Offsets.{place_at};
-ghost use Rattle.export.specs.Export.{done_at, copy_done};
+ghost use Rattle.export.specs.Export.{copy_done, Done};
 
 use blocks::{Shape, copy_blocks};
 use cells::bytes::move_pieces;
@@ -17,7 +16,7 @@ use layout::check_planning;
 use packed::plain_cells;
 use rows::check_cells;
 use states::begin_on;
-use strided::{Answer, Machine, Purpose, Refusal};
+use strided::{Machine, Purpose, Refusal};
 
 pub mod blocks;
 pub mod packed;
@@ -33,13 +32,13 @@ fn copy_planned<'a, 'b, 'c, 'd>(
     starts: &'b [i64],
     destination: &'c mut [u8],
     source: &'d [u8],
-) -> Answer
-    requires { planning_refused machine extents.now sizes.now strides.now (PointwiseInto 0) ≡ none }
-    ensures { done_at result destination.new ≡ copy_done machine extents.now sizes.now strides.now starts.now
-        destination.old source.now }
+) -> Result<(), Refusal>
+    requires { planning_refused machine extents.now sizes.now strides.now (PointwiseInto 0) ≡ None }
+    ensures { Done (copy_done machine extents.now sizes.now strides.now starts.now
+        destination.old source.now) destination.old destination.new result }
 {
     if starts.len() != sizes.len() {
-        return Answer::Refused(Refusal::StartCount);
+        return Err(Refusal::StartCount);
     }
     let mut e = [0u64; 64];
     let mut b = [0u64; 64];
@@ -47,28 +46,21 @@ fn copy_planned<'a, 'b, 'c, 'd>(
     let purpose = Purpose::PointwiseInto(0);
     let aim = Aim { purpose, machine };
     let rank = plan_into(aim, extents, sizes, strides, &mut e, &mut b, &mut s);
-    let begun = begin_on(rank, sizes.len(), &e, &b, &s, starts);
-    let begins = begun.answer;
-    match begins {
-        Answer::Refused(refusal) => Answer::Refused(Refusal::Offsets),
-        Answer::Served => {
-            let to = destination.len();
-            let from = source.len();
-            let cells = check_cells(extents, sizes, strides, starts, to, from);
-            match cells {
-                Answer::Refused(refusal) => cells,
-                Answer::Served => {
-                    let shape = Shape {
-                        rank: rank,
-                        width: sizes[0] as usize,
-                    };
-                    let walk = begun.walk;
-                    copy_blocks(shape, walk, &e, &b, &s, destination, source);
-                    cells
-                }
-            }
-        }
-    }
+    let walk = begin_on(rank, sizes.len(), &e, &b, &s, starts)?;
+    check_cells(
+        extents,
+        sizes,
+        strides,
+        starts,
+        destination.len(),
+        source.len(),
+    )?;
+    let shape = Shape {
+        rank,
+        width: sizes[0] as usize,
+    };
+    copy_blocks(shape, walk, &e, &b, &s, destination, source);
+    Ok(())
 }
 
 // Where the bytes of an operand begin that starts at a cell of its buffer.
@@ -89,15 +81,14 @@ fn copy_accepted<'a, 'b, 'c, 'd>(
     starts: &'b [i64],
     destination: &'c mut [u8],
     source: &'d [u8],
-) -> Answer
-    requires { planning_refused machine extents.now sizes.now strides.now (PointwiseInto 0) ≡ none }
-    ensures { done_at result destination.new ≡ copy_done machine extents.now sizes.now strides.now starts.now
-        destination.old source.now }
+) -> Result<(), Refusal>
+    requires { planning_refused machine extents.now sizes.now strides.now (PointwiseInto 0) ≡ None }
+    ensures { Done (copy_done machine extents.now sizes.now strides.now starts.now
+        destination.old source.now) destination.old destination.new result }
 {
     let to = destination.len();
     let from = source.len();
-    let cells = plain_cells(extents, sizes, strides, starts, to, from);
-    if cells == 0 {
+    let Some(cells) = plain_cells(extents, sizes, strides, starts, to, from) else {
         return copy_planned(
             extents,
             sizes,
@@ -107,12 +98,12 @@ fn copy_accepted<'a, 'b, 'c, 'd>(
             destination,
             source,
         );
-    }
+    };
     let width = sizes[0] as usize;
     let d = first_byte(starts[0], width);
     let s = first_byte(starts[1], width);
     move_pieces(destination, d, source, s, (cells as usize) * width);
-    Answer::Served
+    Ok(())
 }
 
 // THE COPY: rows 1, 2, 3, 24, 5, 6, 8, 9, 16, 17, 18, then the cells. On a refusal the destination keeps every byte.
@@ -124,22 +115,19 @@ pub fn copy<'a, 'b, 'c, 'd>(
     starts: &'b [i64],
     destination: &'c mut [u8],
     source: &'d [u8],
-) -> Answer
-    ensures { done_at result destination.new ≡ copy_done machine extents.now sizes.now strides.now starts.now
-        destination.old source.now }
+) -> Result<(), Refusal>
+    ensures { Done (copy_done machine extents.now sizes.now strides.now starts.now
+        destination.old source.now) destination.old destination.new result }
 {
     let purpose = Purpose::PointwiseInto(0);
-    let answer = check_planning(extents, sizes, strides, purpose, machine);
-    match answer {
-        Answer::Refused(refusal) => answer,
-        Answer::Served => copy_accepted(
-            extents,
-            sizes,
-            strides,
-            machine,
-            starts,
-            destination,
-            source,
-        ),
-    }
+    check_planning(extents, sizes, strides, purpose, machine)?;
+    copy_accepted(
+        extents,
+        sizes,
+        strides,
+        machine,
+        starts,
+        destination,
+        source,
+    )
 }

@@ -13,10 +13,7 @@ fn byte_step(count: u64, step: i64, width: usize) -> i64
     requires { (width ≤ 16) × (1 < count → SFits w64 (step *ℤ pos width)) }
     ensures { 1 < count → result ≡ step *ℤ pos width }
 {
-    if 1 < count {
-        return step * (width as i64);
-    }
-    0
+    if 1 < count { step * (width as i64) } else { 0 }
 }
 
 // Where an operand's cells of a stretch lie: `n1` blocks of `n0` cells, the first at offset `first`, `along` on from cell to cell and `on`
@@ -30,8 +27,8 @@ fn side_of(n0: u64, n1: u64, first: i64, along: i64, on: i64, width: usize) -> S
     let step1 = byte_step(n1, on, width);
     Side {
         first: at,
-        step0: step0,
-        step1: step1,
+        step0,
+        step1,
     }
 }
 

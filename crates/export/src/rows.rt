@@ -1,32 +1,22 @@
 // Rows 16, 17 and 18: what a copy is refused for beside the rows of planning and of a walk's beginning.
-ghost use Rattle.std.specs.Prelude.{◌≡◌, not, ◌/◌, ◌<◌, length};
+ghost use Rattle.std.specs.Prelude.{◌≡◌, ◌/◌, ◌<◌, length};
 ghost use Rattle.strided.specs.Layout.{stride_row};
 ghost use Rattle.strided.specs.Refusals.{refused_by, answered};
 ghost use Rattle.span.specs.Span.{outside};
 ghost use Rattle.strided.specs.declared.Purpose.TheVariants.{PointwiseInto};
 ghost use Rattle.laws.specs.Refusals.Accepted.{Accepted};
-ghost use Rattle.export.specs.Export.{row16, is_no, row18, cell_rows};
+ghost use Rattle.export.specs.Export.{row16, row18, cell_rows};
 ghost use Rattle.export.specs.Asked.{Held, Marking};
 
 use mark::repeat_mark;
 use span::cell_outside;
-use strided::{Answer, Mark, Refusal};
+use strided::{Mark, Refusal};
 
 // Row 16.
 pub fn sizes_wrong(sizes: &[u64]) -> bool
     ensures { result ≡ (row16 sizes.now).applies }
 {
-    if sizes.len() != 2 {
-        return true;
-    }
-    let size = sizes[0];
-    if size != sizes[1] {
-        return true;
-    }
-    if size == 0 {
-        return true;
-    }
-    16 < size
+    sizes.len() != 2 || sizes[0] != sizes[1] || sizes[0] == 0 || 16 < sizes[0]
 }
 
 // Row 17 of operand k: whether some cell of it lies outside a buffer of `len` bytes, which has room for so many cells.
@@ -47,26 +37,18 @@ fn outside_at<'a>(
     cell_outside(extents, &strides[from..to], start, (len as u64) / size)
 }
 
-// Whether a mark is not no.
-fn not_no(mark: Mark) -> bool
-    ensures { result ≡ not (is_no mark) }
-{
-    match mark {
-        Mark::No => false,
-        Mark::Yes => true,
-        Mark::Undecided => true,
-    }
-}
-
 // Row 18.
 fn repeats<'a>(extents: &'a [u64], strides: &'a [i64]) -> bool
     requires { Marking extents.now strides.now }
     ensures { result ≡ (row18 extents.now strides.now).applies }
 {
     let rank = extents.len();
-    let marked = repeat_mark(extents, &strides[..rank]);
-    let mark = marked.mark;
-    not_no(mark)
+    match repeat_mark(extents, &strides[..rank]) {
+        Ok(Mark::No) => false,
+        Ok(Mark::Yes) => true,
+        Ok(Mark::Undecided) => true,
+        Err(_) => true,
+    }
 }
 
 // Rows 16, 17 and 18 of a layout that planning does not refuse, with a start for each operand. `to` and `from` are the lengths of the
@@ -78,22 +60,21 @@ pub fn check_cells<'a, 'b>(
     starts: &'b [i64],
     to: usize,
     from: usize,
-) -> Answer
+) -> Result<(), Refusal>
     requires accepted { Accepted extents.now sizes.now strides.now (PointwiseInto 0) }
     requires starts_len { length starts.now ≡ length sizes.now }
     ensures { result ≡ answered (refused_by (cell_rows extents.now sizes.now strides.now starts.now to from)) }
 {
     if sizes_wrong(sizes) {
-        return Answer::Refused(Refusal::CopySizes);
+        return Err(Refusal::CopySizes);
     }
-    if outside_at(extents, strides, 0, starts[0], sizes[0], to) {
-        return Answer::Refused(Refusal::Buffer);
-    }
-    if outside_at(extents, strides, 1, starts[1], sizes[1], from) {
-        return Answer::Refused(Refusal::Buffer);
+    if outside_at(extents, strides, 0, starts[0], sizes[0], to)
+        || outside_at(extents, strides, 1, starts[1], sizes[1], from)
+    {
+        return Err(Refusal::Buffer);
     }
     if repeats(extents, strides) {
-        return Answer::Refused(Refusal::Repeats);
+        return Err(Refusal::Repeats);
     }
-    Answer::Served
+    Ok(())
 }

@@ -2,11 +2,11 @@
 use mathlib.Core.Path.{◌≡◌, refl, sym, ap, ◌∙◌, subst}
 use mathlib.Core.Bool.{Bool, true, false}
 use mathlib.Core.List.{List, [], ◌∷◌}
-use mathlib.Core.Option.{Option, none, some}
+use Rattle.std.specs.Prelude.{None, Some, Ok, Err, Result}
 use Prim.Native.Nat.{ℕ, ◌<◌, ◌^◌}
 use lib.IntN.{ℤ}
-use lib.ListN.{length, get_or, replicate}
-use Rattle.strided.specs.Base.{padded, first}
+use lib.ListN.{length, get_or}
+use Rattle.strided.specs.Base.{padded}
 use Rattle.strided.specs.Layout.{within, total, extents}
 use Rattle.strided.specs.Refusals.{refused_by, layout_refused, row11}
 use Rattle.strided.specs.Fuse.{plan_axes}
@@ -15,8 +15,6 @@ use Rattle.strided.specs.Memory.{IndexMemory}
 use Rattle.strided.specs.declared.Purpose.{Purpose}
 use Rattle.strided.specs.declared.Refusal.{Refusal}
 use Rattle.strided.specs.declared.Refusal.TheVariants.{Index}
-use Rattle.strided.specs.declared.Answer.{Answer}
-use Rattle.strided.specs.declared.Answer.TheVariants.{Served, Refused}
 use Rattle.strided.specs.declared.Told.{Told}
 use Rattle.laws.specs.Base.Refusals.{layout_counts}
 use Rattle.laws.specs.Refusals.Accepted.{accepted}
@@ -25,20 +23,20 @@ use Rattle.finding.specs.Memory.{Leaves}
 use Rattle.finding.specs.Mapped.{Fused, Sound, unraveled_by, raveled_by, unraveled}
 use Rattle.finding.proofs.Maps.{extents_are, unraveled_is, raveled_is}
 
-pub same-told : {s t : Told} {c x c' x' : List ℕ} {r : Answer} → s ≡ t → Leaves s c x c' x' r → Leaves t c x c' x' r
-same-told {c = c} {x = x} {c' = c'} {x' = x'} {r = r} e l = subst (λ (t : Told). Leaves t c x c' x' r) e l
+pub same-told : {s t : Result Told Refusal} {c x c' x' : List ℕ} {r : Result (Unit {0}) Refusal} → s ≡ t → Leaves s c x c' x' r → Leaves t c x c' x' r
+same-told {c = c} {x = x} {c' = c'} {x' = x'} {r = r} e l = subst (λ (t : Result Told Refusal). Leaves t c x c' x' r) e l
 
 -- ---- row 11
 
 -- the code's test b is whether x is an index of the extents
 module _ (es x y : List ℕ) {b : Bool} (is : b ≡ within es x) {old-count old-index : List ℕ} where
   pub leaves : b ≡ true → (n : ℕ) (index : List ℕ) → n ≡ length y → index ≡ padded 64 0 y
-      → Leaves (told_or (refused_by (row11 es x ∷ [])) y) old-count old-index (n ∷ []) index Served
+      → Leaves (told_or (refused_by (row11 es x ∷ [])) y) old-count old-index (n ∷ []) index (Ok tt)
   leaves h n index e f =
       let w : within es x ≡ true = sym is ∙ h in
       record { answer = rw w; memory = rw w (λ i. record { count = e i ∷ []; index = f i }) }
 
-  pub leaves_none : b ≡ false → Leaves (told_or (refused_by (row11 es x ∷ [])) y) old-count old-index old-count old-index (Refused Index)
+  pub leaves_none : b ≡ false → Leaves (told_or (refused_by (row11 es x ∷ [])) y) old-count old-index old-count old-index (Err Index)
   leaves_none h = let w : within es x ≡ false = sym is ∙ h in record { answer = rw w; memory = rw w }
 
 -- ---- through the arrays of a layout's map
@@ -54,7 +52,7 @@ module _ {es : List ℕ} {m : ℕ} {ss : List ℤ} {u : Purpose} {order fused : 
 
 -- ---- the entries: planning's rows first
 
-module _ (es sizes : List ℕ) (ss : List ℤ) (u : Purpose) (h : layout_refused es sizes ss u ≡ none) where
+module _ (es sizes : List ℕ) (ss : List ℤ) (u : Purpose) (h : layout_refused es sizes ss u ≡ None) where
   pub fitting : Fitting ss (length es) (length sizes)
   fitting = let n = layout_counts es sizes ss u h in record { rank-few = n.axes; operands_few = n.operands; strides_all = n.strides }
 
@@ -62,43 +60,39 @@ module _ (es sizes : List ℕ) (ss : List ℤ) (u : Purpose) (h : layout_refused
   cells-few = (accepted es sizes ss u h).cells
 
 module _ (es sizes : List ℕ) (ss : List ℤ) (u : Purpose) (x : List ℕ) where
-  pub original_passed : layout_refused es sizes ss u ≡ none
+  pub original_passed : layout_refused es sizes ss u ≡ None
       → told_or (refused_by (row11 (extents (plan_axes es (length sizes) ss u)) x ∷ [])) (original_index es (length sizes) ss u x) ≡ told_original es sizes ss u x
   unfolding told_original
   original_passed h = rw h
 
-  pub plan_passed : layout_refused es sizes ss u ≡ none
+  pub plan_passed : layout_refused es sizes ss u ≡ None
       → told_or (refused_by (row11 es x ∷ [])) (index_in_plan es (length sizes) ss u x) ≡ told_plan es sizes ss u x
   unfolding told_plan
   plan_passed h = rw h
 
-  module _ (r : Refusal) (h : layout_refused es sizes ss u ≡ some r) {c i : List ℕ} where
-    pub original_refused : Leaves (told_original es sizes ss u x) c i c i (Refused r)
+  module _ (r : Refusal) (h : layout_refused es sizes ss u ≡ Some r) {c i : List ℕ} where
+    pub original_refused : Leaves (told_original es sizes ss u x) c i c i (Err r)
     unfolding told_original
     original_refused = rw h (record { answer = refl; memory = refl })
 
-    pub plan_refused : Leaves (told_plan es sizes ss u x) c i c i (Refused r)
+    pub plan_refused : Leaves (told_plan es sizes ss u x) c i c i (Err r)
     unfolding told_plan
     plan_refused = rw h (record { answer = refl; memory = refl })
 
--- ---- by value: memory that held zeros
+-- ---- by value
 
--- what it holds afterwards
-abbrev value : Answer → IndexMemory → Told
-value a new = record { answer = a; count = get_or new.count 0 0; index = new.index }
+module _ (t : Result Told Refusal) {c x c' x' : List ℕ} {r : Result (Unit {0}) Refusal} (l : Leaves t c x c' x' r) where
+  -- what the memory holds is handed out
+  pub value_of : r ≡ Ok tt → ◌≡◌ {A = Result Told Refusal} (Ok (record { count = get_or c' 0 0; index = x' })) t
+  value_of e = go t l
+    where
+      go : (t : Result Told Refusal) → Leaves t c x c' x' r → ◌≡◌ {A = Result Told Refusal} (Ok (record { count = get_or c' 0 0; index = x' })) t
+      go (Ok v) l = ap (λ (m : IndexMemory). Ok (record { count = get_or m.count 0 0; index = m.index })) l.memory
+      go (Err q) l = let a = l.answer in cc (a, e)
 
-whole : (o : Option Refusal) (y : List ℕ) {c x : List ℕ} {a : Answer} → Leaves (told_or o y) (0 ∷ []) (replicate 64 0) c x a
-    → value a (record { count = c; index = x }) ≡ told_or o y
-whole none y l = λ i. value (l.answer i) (l.memory i)
-whole (some r) y l = λ i. value (l.answer i) (l.memory i)
-
-module _ (es sizes : List ℕ) (ss : List ℤ) (u : Purpose) (y : List ℕ) {c x : List ℕ} {a : Answer} where
-  pub original_value : Leaves (told_original es sizes ss u y) (0 ∷ []) (replicate 64 0) c x a
-      → ◌≡◌ {A = Told} (record { answer = a; count = get_or c 0 0; index = x }) (told_original es sizes ss u y)
-  unfolding told_original
-  original_value = whole (first (layout_refused es sizes ss u) (refused_by (row11 (extents (plan_axes es (length sizes) ss u)) y ∷ []))) (original_index es (length sizes) ss u y)
-
-  pub plan_value : Leaves (told_plan es sizes ss u y) (0 ∷ []) (replicate 64 0) c x a
-      → ◌≡◌ {A = Told} (record { answer = a; count = get_or c 0 0; index = x }) (told_plan es sizes ss u y)
-  unfolding told_plan
-  plan_value = whole (first (layout_refused es sizes ss u) (refused_by (row11 es y ∷ []))) (index_in_plan es (length sizes) ss u y)
+  pub refusal_of : {q : Refusal} → r ≡ Err q → Err q ≡ t
+  refusal_of {q} e = go t l
+    where
+      go : (t : Result Told Refusal) → Leaves t c x c' x' r → Err q ≡ t
+      go (Ok v) l = let a = l.answer in cc (a, e)
+      go (Err p) l = let a = l.answer in cc (a, e)

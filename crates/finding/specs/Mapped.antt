@@ -1,5 +1,5 @@
 -- The map between a layout's indices and its plan's: what it is of a layout, and what the two ways through it tell. Assumes nothing.
-use Rattle.std.specs.Prelude.{◌≡◌, List, [], ◌∷◌, ℕ, ◌^◌, ◌≤◌, ◌<◌, ℤ, length, get_or, take, replicate}
+use Rattle.std.specs.Prelude.{◌≡◌, List, [], ◌∷◌, ℕ, ◌^◌, ◌≤◌, ◌<◌, ℤ, length, get_or, take, replicate, Result}
 use Rattle.strided.specs.Base.{padded}
 use Rattle.strided.specs.Layout.{no_axis, NoZero, Within, total, axes_of, extents}
 use Rattle.strided.specs.Refusals.{refused_by, row11}
@@ -7,11 +7,11 @@ use Rattle.strided.specs.Order.{pick, place, fusing_order}
 use Rattle.strided.specs.Fuse.{fuse, plan_axes}
 use Rattle.strided.specs.Index.{ravel, unravel, original_index, index_in_plan, told_or}
 use Rattle.strided.specs.declared.Purpose.{Purpose}
-use Rattle.strided.specs.declared.Answer.{Answer}
 use Rattle.strided.specs.declared.Told.{Told}
 use Rattle.laws.specs.Fuse.Radix.{kept}
 use Rattle.finding.specs.declared.Map.{Map}
 use Rattle.finding.specs.Memory.{Leaves}
+use Rattle.strided.specs.declared.Refusal.{Refusal}
 
 -- ---- a layout's map
 
@@ -60,10 +60,10 @@ module _ (es order fused : List ℕ) where
   raveled is = or_nought (kept F) F (ravel (pick 0 es o) F (pick 0 is o)).counters
 
   -- row 11 is judged on the plan's extents one way, on the layout's own the other
-  abbrev pub unraveled_by : List ℕ → Told
+  abbrev pub unraveled_by : List ℕ → Result Told Refusal
   unraveled_by cs = told_or (refused_by (row11 (kept_extents F) cs ∷ [])) (unraveled cs)
 
-  abbrev pub raveled_by : List ℕ → Told
+  abbrev pub raveled_by : List ℕ → Result Told Refusal
   raveled_by is = told_or (refused_by (row11 es is ∷ [])) (raveled is)
 
   -- what the arrays must be for that
@@ -82,15 +82,15 @@ pub record Usable (es : List ℕ) (map : Map) : Type 0 where
   pub rank_is : map.rank ≡ length (kept_extents (take (length es) map.fused))
 
 -- what index finding tells of a layout that is not refused
-abbrev pub found_original : List ℕ → ℕ → List ℤ → Purpose → List ℕ → Told
+abbrev pub found_original : List ℕ → ℕ → List ℤ → Purpose → List ℕ → Result Told Refusal
 found_original es m ss u cs = told_or (refused_by (row11 (extents (plan_axes es m ss u)) cs ∷ [])) (original_index es m ss u cs)
 
 -- the index that is told is index finding's, of whatever layout it is the map
-abbrev pub TellsOriginal : List ℕ → Map → List ℕ → List ℕ → List ℕ → List ℕ → List ℕ → Answer → Type 0
+abbrev pub TellsOriginal : List ℕ → Map → List ℕ → List ℕ → List ℕ → List ℕ → List ℕ → Result (Unit {0}) Refusal → Type 0
 TellsOriginal es map cs c x c' x' r =
     (m : ℕ) (ss : List ℤ) (u : Purpose) → Mapped es m ss u map → Leaves (found_original es m ss u cs) c x c' x' r
 
-abbrev pub TellsPlan : List ℕ → Map → List ℕ → List ℕ → List ℕ → List ℕ → List ℕ → Answer → Type 0
+abbrev pub TellsPlan : List ℕ → Map → List ℕ → List ℕ → List ℕ → List ℕ → List ℕ → Result (Unit {0}) Refusal → Type 0
 TellsPlan es map is c x c' x' r =
     (m : ℕ) (ss : List ℤ) (u : Purpose) → Mapped es m ss u map
     → Leaves (told_or (refused_by (row11 es is ∷ [])) (index_in_plan es m ss u is)) c x c' x' r

@@ -10,7 +10,7 @@ ghost use Rattle.finding.specs.Mapped.{Fused, Mapped, Sound, Usable, kept_extent
 ghost use Rattle.finding.specs.Memory.{Leaves};
 
 use layout::check_layout;
-use strided::{Answer, Purpose, Refusal, Told};
+use strided::{Purpose, Refusal, Told};
 
 pub mod radix;
 
@@ -75,18 +75,18 @@ fn original_by_into<'a>(
     counters: &[u64],
     count: &mut [usize; 1],
     index: &mut [u64; 64],
-) -> Answer
+) -> Result<(), Refusal>
     requires { Sound extents.now order.now fused.now }
     ensures { Leaves (unraveled_by extents.now order.now fused.now counters.now)
         count.old index.old count.new index.new result }
 {
-    if radix::plan_within(fused, extents.len(), counters) {
-        *count = [extents.len()];
-        *index = [0u64; 64];
-        radix::unravel_index(extents, order, fused, counters, index);
-        return Answer::Served;
+    if !radix::plan_within(fused, extents.len(), counters) {
+        return Err(Refusal::Index);
     }
-    Answer::Refused(Refusal::Index)
+    *count = [extents.len()];
+    *index = [0u64; 64];
+    radix::unravel_index(extents, order, fused, counters, index);
+    Ok(())
 }
 
 // The plan index of an original index, with its count: row 11 is judged on the layout's extents.
@@ -98,19 +98,19 @@ fn plan_by_into<'a>(
     original: &[u64],
     count: &mut [usize; 1],
     index: &mut [u64; 64],
-) -> Answer
+) -> Result<(), Refusal>
     requires arrays { Sound extents.now order.now fused.now }
     requires rank { rank ≡ length (kept_extents (take (length extents.now) fused.now)) }
     ensures { Leaves (raveled_by extents.now order.now fused.now original.now)
         count.old index.old count.new index.new result }
 {
-    if radix::within(extents, original) {
-        *count = [rank];
-        *index = [0u64; 64];
-        radix::ravel_index(extents, order, fused, rank, original, index);
-        return Answer::Served;
+    if !radix::within(extents, original) {
+        return Err(Refusal::Index);
     }
-    Answer::Refused(Refusal::Index)
+    *count = [rank];
+    *index = [0u64; 64];
+    radix::ravel_index(extents, order, fused, rank, original, index);
+    Ok(())
 }
 
 // The original index of a plan index, by the map of the layout with these extents.
@@ -120,7 +120,7 @@ pub fn original_into(
     counters: &[u64],
     count: &mut [usize; 1],
     index: &mut [u64; 64],
-) -> Answer
+) -> Result<(), Refusal>
     requires { Usable extents.now map }
     ensures { TellsOriginal extents.now map counters.now
         count.old index.old count.new index.new result }
@@ -135,7 +135,7 @@ pub fn in_plan_into(
     original: &[u64],
     count: &mut [usize; 1],
     index: &mut [u64; 64],
-) -> Answer
+) -> Result<(), Refusal>
     requires { Usable extents.now map }
     ensures { TellsPlan extents.now map original.now
         count.old index.old count.new index.new result }
@@ -156,7 +156,7 @@ pub fn original_of_into(
     counters: &[u64],
     count: &mut [usize; 1],
     index: &mut [u64; 64],
-) -> Answer
+) -> Result<(), Refusal>
     requires layout { Fitting strides.now (length extents.now) operands }
     requires total { total extents.now < 2 ^ 64 }
     ensures { Leaves (found_original extents.now operands strides.now purpose counters.now)
@@ -177,27 +177,20 @@ pub fn original_index_into<'a>(
     counters: &'a [u64],
     count: &mut [usize; 1],
     index: &mut [u64; 64],
-) -> Answer
+) -> Result<(), Refusal>
     ensures { Leaves (told_original extents.now sizes.now strides.now purpose counters.now)
         count.old index.old count.new index.new result }
 {
-    let answer = check_layout(extents, sizes, strides, purpose);
-    match answer {
-        Answer::Refused(refusal) => answer,
-        Answer::Served => {
-            let mut order = [0usize; 64];
-            let mut fused = [0u64; 64];
-            map_into(
-                extents,
-                strides,
-                sizes.len(),
-                purpose,
-                &mut order,
-                &mut fused,
-            );
-            original_by_into(extents, &order, &fused, counters, count, index)
-        }
-    }
+    check_layout(extents, sizes, strides, purpose)?;
+    original_of_into(
+        extents,
+        strides,
+        sizes.len(),
+        purpose,
+        counters,
+        count,
+        index,
+    )
 }
 
 // The plan index of an original index in lent memory: rows 1 to 6, then 11.
@@ -209,28 +202,23 @@ pub fn plan_index_into<'a>(
     original: &'a [u64],
     count: &mut [usize; 1],
     index: &mut [u64; 64],
-) -> Answer
+) -> Result<(), Refusal>
     ensures { Leaves (told_plan extents.now sizes.now strides.now purpose original.now)
         count.old index.old count.new index.new result }
 {
-    let answer = check_layout(extents, sizes, strides, purpose);
-    match answer {
-        Answer::Refused(refusal) => answer,
-        Answer::Served => {
-            let mut order = [0usize; 64];
-            let mut fused = [0u64; 64];
-            map_into(
-                extents,
-                strides,
-                sizes.len(),
-                purpose,
-                &mut order,
-                &mut fused,
-            );
-            let rank = radix::plan_rank(&fused, extents.len());
-            plan_by_into(extents, &order, &fused, rank, original, count, index)
-        }
-    }
+    check_layout(extents, sizes, strides, purpose)?;
+    let mut order = [0usize; 64];
+    let mut fused = [0u64; 64];
+    map_into(
+        extents,
+        strides,
+        sizes.len(),
+        purpose,
+        &mut order,
+        &mut fused,
+    );
+    let rank = radix::plan_rank(&fused, extents.len());
+    plan_by_into(extents, &order, &fused, rank, original, count, index)
 }
 
 // The original index of a plan index: rows 1 to 6, then 11.
@@ -240,20 +228,18 @@ pub fn original_index<'a>(
     strides: &'a [i64],
     purpose: Purpose,
     counters: &'a [u64],
-) -> Told
+) -> Result<Told, Refusal>
     ensures { result ≡ told_original extents.now sizes.now strides.now purpose counters.now }
 {
     let mut count = [0usize; 1];
     let mut index = [0u64; 64];
-    let answer = original_index_into(
+    original_index_into(
         extents, sizes, strides, purpose, counters, &mut count, &mut index,
-    );
-    let places = count[0];
-    Told {
-        answer,
-        count: places,
+    )?;
+    Ok(Told {
+        count: count[0],
         index,
-    }
+    })
 }
 
 // The plan index of an original index: rows 1 to 6, then 11.
@@ -263,18 +249,16 @@ pub fn plan_index<'a>(
     strides: &'a [i64],
     purpose: Purpose,
     original: &'a [u64],
-) -> Told
+) -> Result<Told, Refusal>
     ensures { result ≡ told_plan extents.now sizes.now strides.now purpose original.now }
 {
     let mut count = [0usize; 1];
     let mut index = [0u64; 64];
-    let answer = plan_index_into(
+    plan_index_into(
         extents, sizes, strides, purpose, original, &mut count, &mut index,
-    );
-    let places = count[0];
-    Told {
-        answer,
-        count: places,
+    )?;
+    Ok(Told {
+        count: count[0],
         index,
-    }
+    })
 }

@@ -14,12 +14,10 @@ pub fn within(extents: &[u64], index: &[u64]) -> bool
     if index.len() != extents.len() {
         return false;
     }
-    let mut i: usize = 0;
-    while i < extents.len() {
+    for i in 0..extents.len() {
         if index[i] >= extents[i] {
             return false;
         }
-        i += 1;
     }
     true
 }
@@ -28,11 +26,7 @@ pub fn within(extents: &[u64], index: &[u64]) -> bool
 fn below(counters: &[u64], j: usize, extent: u64) -> bool
     ensures { result ≡ (ltb j (length counters.now) && ltb (get_or counters.now j 0) extent) }
 {
-    if j < counters.len() {
-        counters[j] < extent
-    } else {
-        false
-    }
+    j < counters.len() && counters[j] < extent
 }
 
 // Whether counters have a place for each of the plan's axes, and lie below its extent: where no axis is kept, one of extent 1 stays.
@@ -41,8 +35,7 @@ pub fn plan_within(fused: &[u64; 64], rank: usize, counters: &[u64]) -> bool
     ensures { result ≡ withinAll (kept_extents (take rank fused.now)) counters.now }
 {
     let mut j: usize = 0;
-    let mut i: usize = 0;
-    while i < rank {
+    for i in 0..rank {
         let f = fused[i];
         if f != 1 {
             if !below(counters, j, f) {
@@ -50,7 +43,6 @@ pub fn plan_within(fused: &[u64; 64], rank: usize, counters: &[u64]) -> bool
             }
             j += 1;
         }
-        i += 1;
     }
     if j == 0 {
         if rank > 0 {
@@ -69,12 +61,10 @@ pub fn plan_rank(fused: &[u64; 64], rank: usize) -> usize
     ensures { result ≡ length (kept_extents (take rank fused.now)) }
 {
     let mut count: usize = 0;
-    let mut i: usize = 0;
-    while i < rank {
+    for i in 0..rank {
         if fused[i] != 1 {
             count += 1;
         }
-        i += 1;
     }
     if count == 0 {
         if rank > 0 {
@@ -90,7 +80,7 @@ pub fn plan_rank(fused: &[u64; 64], rank: usize) -> usize
 fn counter(counters: &[u64], j: usize) -> u64
     ensures { result ≡ get_or counters.now j 0 }
 {
-    if j < counters.len() { counters[j] } else { 0 }
+    counters.get(j).copied().unwrap_or(0)
 }
 
 // What is left of x on an axis of extent e, and what goes to the next one. Most axes are alone, and x is not divided there.
@@ -123,17 +113,14 @@ pub fn unravel_index<'a>(
 {
     let mut x: u64 = 0;
     let mut j: usize = 0;
-    let mut i: usize = 0;
-    while i < extents.len() {
+    for i in 0..extents.len() {
         if fused[i] != 1 {
             x = counter(counters, j);
             j += 1;
         }
         let a = order[i];
-        let e = extents[a];
-        out[a] = remainder(x, e);
-        x = quotient(x, e);
-        i += 1;
+        out[a] = remainder(x, extents[a]);
+        x = quotient(x, extents[a]);
     }
 }
 
@@ -155,18 +142,13 @@ pub fn ravel_index<'a>(
 {
     let mut z: u64 = 0;
     let mut j = rank;
-    let mut i = extents.len();
-    while i > 0 {
-        let h = i - 1;
-        let a = order[h];
-        let e = extents[a];
-        let x = index[a];
-        z = z * e + x;
-        if fused[h] != 1 {
+    for i in (0..extents.len()).rev() {
+        let a = order[i];
+        z = z * extents[a] + index[a];
+        if fused[i] != 1 {
             j -= 1;
             out[j] = z;
             z = 0;
         }
-        i = h;
     }
 }

@@ -1,7 +1,7 @@
 -- A turn of `fuse_dims`, on lists: the places from i on are fused, and place i joins place i - 1 or not. `col` tells the strides at a place.
 -- Assumes nothing.
 use mathlib.Core.Path.{◌≡◌, refl, sym, ap, ap₂, ◌∙◌, subst}
-use mathlib.Core.Bool.{Bool, true, false, cond}
+use mathlib.Core.Bool.{Bool, true, false, cond, ◌&&◌}
 use mathlib.Core.List.{List, [], ◌∷◌, ◌++◌}
 use Prim.Native.Nat.{ℕ, suc, ◌+◌, ◌-◌, ◌*◌, ◌^◌, ◌≤◌, ◌<◌}
 use native.Mathlib.Omega.{arith}
@@ -11,12 +11,13 @@ use lib.ListN.{length, get_or, take, drop, set, length-append, length-drop, take
 use lib.Seq.{take-suc, drop-cons, append_snoc, set_at, get_or_at, length-take-le}
 use borrow.Author.Tests.{ltb-true}
 use Rattle.strided.specs.Base.{padded}
-use Rattle.strided.specs.Layout.{Axis}
+use Rattle.strided.specs.Layout.{stride_column}
 use Rattle.strided.specs.Fuse.{can_fuse, all_join}
 use Rattle.laws.specs.Base.Arrays.{get_d_padded}
 use Rattle.laws.specs.Base.Stores.{set-padded}
 use Rattle.laws.specs.Base.Tests.{and_both}
-use Rattle.laws.specs.Fuse.Places.{axis_at, fused_at, fused_more, length_fused}
+use Rattle.laws.specs.Fuse.Places.{axis_at, column_by, fused_at, fused_more, length_fused}
+use Rattle.fuse.specs.Named.{Named}
 
 -- one place alone
 fused_one : (col : ℕ → List ℤ) (i : ℕ) (es : List ℕ) → length es ≤ 1 → fused_at col i es ≡ es
@@ -127,22 +128,24 @@ module _ (col : ℕ → List ℤ) (E : List ℕ) (i : ℕ) (p : 0 < i) (h : i < 
       (turn_joined col E (i - 1) (omega arith) short out (subst (λ (j : ℕ). Done col E j out) (sym is_suc) done)
       (subst (λ (j : ℕ). can_fuse (axis_at col (i - 1) (get_or out (i - 1) 0)) (axis_at col j (get_or out j 0)) ≡ true) (sym is_suc) c))
 
--- and as it counts turns: place n - k, in turn k; v is what the code's test found
-module _ (col : ℕ → List ℤ) (E : List ℕ) (n k : ℕ) (p : 0 < k) (h : k < n) (long : length E ≡ n) (short : n ≤ 64) (out out' : List ℕ) (done : Done col E (n - k) out)
-    (v : Bool) (tested : v ≡ can_fuse (axis_at col (n - k - 1) (get_or out (n - k - 1) 0)) (axis_at col (n - k) (get_or out (n - k) 0))) where
-  less : n - k - 1 ≡ n - (k + 1)
-  less = omega arith
+  -- v is what the code's test found
+  module _ (out' : List ℕ) (v : Bool) (tested : v ≡ can_fuse (axis_at col (i - 1) (get_or out (i - 1) 0)) (axis_at col i (get_or out i 0))) where
+    pub turn_left : v ≡ false → out' ≡ out → Done col E (i - 1) out'
+    turn_left c q = q ∙ axis_kept (sym tested ∙ c)
 
-  pub turn_left : v ≡ false → out' ≡ out → Done col E (n - (k + 1)) out'
-  turn_left c q = q ∙ subst (λ (j : ℕ). Done col E j out) less (axis_kept col E (n - k) (omega arith) (omega arith) (omega arith) out done (sym tested ∙ c))
-
-  pub turn_taken : v ≡ true → out' ≡ set (set out (n - k - 1) (get_or out (n - k - 1) 0 * get_or out (n - k) 0)) (n - k) 1 → Done col E (n - (k + 1)) out'
-  turn_taken c q =
-      q
-      ∙ subst (λ (j : ℕ). Done col E j (set (set out (n - k - 1) (get_or out (n - k - 1) 0 * get_or out (n - k) 0)) (n - k) 1)) less
-      (axis_joined col E (n - k) (omega arith) (omega arith) (omega arith) out done (sym tested ∙ c))
+    pub turn_taken : v ≡ true → out' ≡ set (set out (i - 1) (get_or out (i - 1) 0 * get_or out i 0)) i 1 → Done col E (i - 1) out'
+    turn_taken c q = q ∙ axis_joined (sym tested ∙ c)
 
 -- where two axes join, their extents' product is a 64-bit number
-pub joined_fits : (a b : Axis) (v : Bool) → v ≡ can_fuse a b → v ≡ true → a.extent * b.extent < 2 ^ 64
-joined_fits a b v tested c =
-    ltb-true (a.extent * b.extent) (2 ^ 64) (and_both (all_join a.extent a.strides b.strides) (ltb (a.extent * b.extent) (2 ^ 64)) (sym tested ∙ c)).1
+pub joined_fits : (j v : Bool) (a b : ℕ) → v ≡ (j && ltb (a * b) (2 ^ 64)) → v ≡ true → a * b < 2 ^ 64
+joined_fits j v a b tested c = ltb-true (a * b) (2 ^ 64) (and_both j (ltb (a * b) (2 ^ 64)) (sym tested ∙ c)).1
+
+-- the code's test of the axes that stand at two places is the test of the places
+pub tests_places : (ss : List ℤ) (p m : ℕ) (order : List ℕ) (i j x y a b : ℕ) (v : Bool) → x ≡ get_or order i 0 → y ≡ get_or order j 0
+    → v ≡ (all_join a (stride_column ss p x 0 m) (stride_column ss p y 0 m) && ltb (a * b) (2 ^ 64))
+    → v ≡ can_fuse (axis_at (column_by ss p m order) i a) (axis_at (column_by ss p m order) j b)
+tests_places ss p m order i j x y a b v q r e = e ∙ ap₂ (λ (x y : ℕ). all_join a (stride_column ss p x 0 m) (stride_column ss p y 0 m) && ltb (a * b) (2 ^ 64)) q r
+
+-- as many extents as there are axes
+pub as_many : {ss : List ℤ} {p m n : ℕ} {order : List ℕ} → Named ss p m order n → (E : List ℕ) → length E ≡ 64 → length (take n E) ≡ n
+as_many t E l = length-take-le _ E (omega (arith, t.few-axes))

@@ -1,19 +1,14 @@
 -- Axes as they are given: the order that names each at its own place. Assumes nothing.
-use mathlib.Core.Path.{◌≡◌, refl, sym, ap, ap₂, ◌∙◌, subst}
-use mathlib.Core.Bool.{Bool, ◌&&◌}
+use mathlib.Core.Path.{◌≡◌, refl, sym, ap, ◌∙◌, subst}
 use mathlib.Core.List.{List, [], ◌∷◌, map, map-id}
-use Prim.Native.Nat.{ℕ, ◌*◌, ◌^◌, ◌≤◌, ◌<◌}
-use lib.Dec.{ltb}
+use Prim.Native.Nat.{ℕ, ◌*◌, ◌≤◌, ◌<◌}
 use lib.IntN.{ℤ}
 use lib.ListN.{length, get_or, take}
 use Rattle.strided.specs.Base.{padded, run}
-use Rattle.strided.specs.Layout.{stride_column}
 use Rattle.strided.specs.Order.{pick}
-use Rattle.strided.specs.Fuse.{can_fuse, all_join}
 use Rattle.laws.specs.Base.Arrays.{length-padded, take_counted}
 use Rattle.laws.specs.Base.Filling.{fill_at, by_places}
 use Rattle.laws.specs.Base.Lists.{length_run}
-use Rattle.laws.specs.Fuse.Places.{axis_at, column_by}
 use Rattle.arrange.specs.Axes.{InOrder}
 use Rattle.fuse.specs.Named.{given}
 
@@ -21,13 +16,6 @@ module _ (n : ℕ) (few : n ≤ 64) where
   -- at each place stands its number
   pub given-at : (i : ℕ) → i < n → get_or (given n) i 0 ≡ i
   given-at i h = ap (λ (r : List ℕ). get_or (padded 64 0 r) i 0) (sym (map-id (run 0 n))) ∙ fill_at 64 0 0 (λ (j : ℕ). j) n i h few
-
-  -- the code's test of two axes is that of two places
-  pub fuses_given : (ss : List ℤ) (m h i : ℕ) → h < n → i < n → (v : Bool) (a b : ℕ)
-      → v ≡ (all_join a (stride_column ss n h 0 m) (stride_column ss n i 0 m) && ltb (a * b) (2 ^ 64))
-      → v ≡ can_fuse (axis_at (column_by ss n m (given n)) h a) (axis_at (column_by ss n m (given n)) i b)
-  fuses_given ss m h i p q v a b e =
-      e ∙ ap₂ (λ (x y : ℕ). all_join a (stride_column ss n x 0 m) (stride_column ss n y 0 m) && ltb (a * b) (2 ^ 64)) (sym (given-at h p)) (sym (given-at i q))
 
 pick-map : (xs o : List ℕ) → pick 0 xs o ≡ map (λ (a : ℕ). get_or xs a 0) o
 pick-map xs [] = refl

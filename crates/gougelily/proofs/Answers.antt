@@ -1,5 +1,5 @@
 -- The answers of the C entries, put together from what the entry called answered. Assumes nothing.
-use mathlib.Core.Path.{◌≡◌, sym, ap, ◌∙◌, subst}
+use mathlib.Core.Path.{◌≡◌, refl, sym, ap, ◌∙◌, subst}
 use mathlib.Core.List.{List}
 use Prim.Native.Nat.{ℕ, ◌≤◌}
 use native.Mathlib.Omega.{arith}
@@ -8,54 +8,53 @@ use lib.ListN.{length}
 use Rattle.strided.specs.Refusals.{negated}
 use Rattle.strided.specs.Bulk.{lengths_of, offsets_of, room_for, laid_on, SteppedMany, stepped_many}
 use Rattle.strided.specs.Mark.{mark_number}
-use Rattle.strided.specs.Memory.{code_or, WalkMemory, walk_memory, Handed, Tells, mark_code, ManyMemory, many_memory, StepsMany}
+use Rattle.strided.specs.Memory.{code_of, whether, WalkMemory, walk_memory, Handed, Tells, mark_code, ManyMemory, many_memory, StepsMany}
 use Rattle.strided.specs.declared.Purpose.{Purpose}
 use Rattle.strided.specs.declared.Refusal.{Refusal}
-use Rattle.strided.specs.declared.Answer.{Answer}
-use Rattle.strided.specs.declared.Answer.TheVariants.{Served, Refused}
 use Rattle.strided.specs.declared.Outcome.TheVariants.{Block, Ended, Rejected}
 use Rattle.strided.specs.declared.Plan.{Plan}
 use Rattle.strided.specs.declared.Walk.{Walk}
 use Rattle.strided.specs.declared.Stepped.{Stepped}
-use Rattle.strided.specs.declared.Marked.{Marked}
 use Rattle.strided.specs.declared.Told.{Told}
 use Rattle.laws.specs.Walk.Bulk.{blocks_few, blocks_none}
 use Rattle.finding.specs.Memory.{Leaves}
+use Rattle.std.specs.Prelude.{Ok, Err, Result}
+use Rattle.strided.specs.declared.Mark.{Mark}
 
 -- a call's result x at an argument u, which is v
 pub called : {U X : Type 0} (f : U → X) {u v : U} {x : X} → x ≡ f u → u ≡ v → x ≡ f v
 called f h e = h ∙ ap f e
 
 -- an entry that answers t, in the call's result x
-module _ {X A : Type 0} (answer : X → Answer) (memory : X → A) {x t : X} (is : x ≡ t) {old : A} where
-  pub handed-refused : {r : Refusal} {n : ℤ} → answer x ≡ Refused r → n ≡ negated r → Handed (answer t) (memory t) old old n
-  handed-refused {r} h e =
-      let g : answer t ≡ Refused r = sym (ap answer is) ∙ h in
-      record { code = rw g e; memory = rw g }
+module _ {A M : Type 0} (laid : A → M) {x t : Result A Refusal} (is : x ≡ t) {old : M} where
+  pub handed-refused : {r : Refusal} {n : ℤ} → x ≡ Err r → n ≡ negated r → Handed laid t old old n
+  handed-refused {r} {n} h e =
+      let g : t ≡ Err r = sym is ∙ h in
+      subst (λ (y : Result A Refusal). Handed laid y old old n) (sym g) (record { code = e; memory = refl })
 
-  pub handed_served : {new : A} → answer x ≡ Served → new ≡ memory x → Handed (answer t) (memory t) old new (pos 0)
-  handed_served h e =
-      let g : answer t ≡ Served = sym (ap answer is) ∙ h in
-      record { code = rw g; memory = rw g (e ∙ ap memory is) }
+  pub handed_served : {new : M} {value : A} → x ≡ Ok value → new ≡ laid value → Handed laid t old new (pos 0)
+  handed_served {new} {value} h e =
+      let g : t ≡ Ok value = sym is ∙ h in
+      subst (λ (y : Result A Refusal). Handed laid y old new (pos 0)) (sym g) (record { code = refl; memory = e })
 
 -- index finding in lent memory, for the purpose u, which is v
-pub told_as : (f : Purpose → Told) {u v : Purpose} → u ≡ v → {c x c' x' : List ℕ} {a b : Answer} {n : ℤ} → Leaves (f u) c x c' x' a → a ≡ b → n ≡ code_or b (pos 0)
+pub whether_code : {A : Type 0} (t : Result A Refusal) → code_of (λ value. pos 0) (whether t) ≡ code_of (λ value. pos 0) t
+whether_code (Ok value) = refl
+whether_code (Err r) = refl
+
+pub told_as : (f : Purpose → Result Told Refusal) {u v : Purpose} → u ≡ v → {c x c' x' : List ℕ} {a : Result (Unit {0}) Refusal} {n : ℤ} → Leaves (f u) c x c' x' a → n ≡ code_of (λ value. pos 0) a
     → Tells (f v) (record { count = c; index = x }) (record { count = c'; index = x' }) n
-told_as f e {c} {x} {c'} {x'} {n = n} l h q =
+told_as f {u} e {c} {x} {c'} {x'} {n = n} l q =
     subst (λ (w : Purpose). Tells (f w) (record { count = c; index = x }) (record { count = c'; index = x' }) n) e
-    (record { code = q ∙ ap (λ (y : Answer). code_or y (pos 0)) (sym h ∙ l.answer); memory = l.memory })
+    (record { code = q ∙ ap (λ (y : Result (Unit {0}) Refusal). code_of (λ value. pos 0) y) l.answer ∙ whether_code (f u); memory = l.memory })
 
 -- the repeat mark
-module _ {x m : Marked} (is : x ≡ m) where
-  pub mark_refused_lem : {r : Refusal} {n : ℤ} → x.answer ≡ Refused r → n ≡ negated r → n ≡ mark_code m
-  mark_refused_lem {r} h e =
-      let g : m.answer ≡ Refused r = sym (ap (λ (y : Marked). y.answer) is) ∙ h in
-      rw g e
+module _ {m : Result Mark Refusal} where
+  pub mark_refused_lem : {r : Refusal} {n : ℤ} → Err r ≡ m → n ≡ negated r → n ≡ mark_code m
+  mark_refused_lem h e = e ∙ ap mark_code h
 
-  pub mark_served : {n : ℤ} → x.answer ≡ Served → n ≡ pos (mark_number x.mark) → n ≡ mark_code m
-  mark_served {n} h q =
-      let g : m.answer ≡ Served = sym (ap (λ (y : Marked). y.answer) is) ∙ h in
-      q ∙ ap (λ (y : Marked). pos (mark_number y.mark)) is ∙ sym (rw g)
+  pub mark_served : {mark : Mark} {n : ℤ} → Ok mark ≡ m → n ≡ pos (mark_number mark) → n ≡ mark_code m
+  mark_served h q = q ∙ ap mark_code h
 
 -- many steps, in the call's result x
 module _ (p : Plan) (w : Walk) (ls : List ℕ) (os : List ℤ) {x : SteppedMany} (is : x ≡ stepped_many p w ls os) where

@@ -3,16 +3,17 @@ use mathlib.Core.Path.{◌≡◌, sym, ap, ◌∙◌, subst}
 use mathlib.Core.List.{List}
 use Prim.Native.Nat.{ℕ}
 use lib.IntN.{ℤ, pos}
-use Rattle.strided.specs.Memory.{code_or, Handed}
-use Rattle.strided.specs.declared.Answer.{Answer}
-use Rattle.session.specs.declared.Sessioned.{Sessioned}
+use Rattle.strided.specs.Memory.{code_of, Handed}
+use Rattle.gougelily.proofs.Answers.{whether_code}
 use Rattle.session.specs.Made.{session_at, Lent}
 use Rattle.session.specs.declared.Numbers.{Numbers}
 use Rattle.session.specs.declared.Session.{Session}
+use Rattle.std.specs.Prelude.{Result}
+use Rattle.strided.specs.declared.Refusal.{Refusal}
 
 -- n are numbers as they were read, m as they lie; n' as they were written, m' as they lie afterwards
 lent_as :
-    (f : Session → Sessioned) (old new : Numbers → Session) {n m n' m' : Numbers} {a : Answer} →
+    (f : Session → Result Session Refusal) (old new : Numbers → Session) {n m n' m' : Numbers} {a : Result (Unit {0}) Refusal} →
     n ≡ m →
     m' ≡ n' →
     Lent (f (old n)) (old n) (new n') a →
@@ -20,16 +21,16 @@ lent_as :
 lent_as f old new {n} {m} {n'} {m'} {a} read put l =
     subst (λ (x : Numbers). Lent (f (old x)) (old x) (new m') a) read (subst (λ (x : Numbers). Lent (f (old n)) (old n) (new x) a) (sym put) l)
 
-given_back : (t : Sessioned) {old new : Session} {a : Answer} {r : ℤ} → r ≡ code_or a (pos 0) → Lent t old new a → Handed t.answer t.session old new r
-given_back t code l = record { code = code ∙ ap (λ (x : Answer). code_or x (pos 0)) l.answers; memory = l.leaves }
+given_back : (t : Result Session Refusal) {old new : Session} {a : Result (Unit {0}) Refusal} {r : ℤ} → r ≡ code_of (λ value. pos 0) a → Lent t old new a → Handed (λ s. s) t old new r
+given_back t code l = record { code = code ∙ ap (λ (x : Result (Unit {0}) Refusal). code_of (λ value. pos 0) x) l.answers ∙ whether_code t; memory = l.leaves }
 
 pub handed :
-    (f : Session → Sessioned) {E Z : List ℕ} {S : List ℤ} {R W C PE PB : List ℕ} {PS : List ℤ} {E' Z' : List ℕ} {S' : List ℤ} {R' W' C' PE' PB' : List ℕ} {PS' : List ℤ} {n m n' m' : Numbers} {a : Answer} {r : ℤ} →
+    (f : Session → Result Session Refusal) {E Z : List ℕ} {S : List ℤ} {R W C PE PB : List ℕ} {PS : List ℤ} {E' Z' : List ℕ} {S' : List ℤ} {R' W' C' PE' PB' : List ℕ} {PS' : List ℤ} {n m n' m' : Numbers} {a : Result (Unit {0}) Refusal} {r : ℤ} →
     n ≡ m →
     m' ≡ n' →
-    r ≡ code_or a (pos 0) →
+    r ≡ code_of (λ value. pos 0) a →
     Lent (f (session_at n E Z S R W C PE PB PS)) (session_at n E Z S R W C PE PB PS) (session_at n' E' Z' S' R' W' C' PE' PB' PS') a →
-    Handed (f (session_at m E Z S R W C PE PB PS)).answer (f (session_at m E Z S R W C PE PB PS)).session (session_at m E Z S R W C PE PB PS) (session_at m' E' Z' S' R' W' C' PE' PB' PS') r
+    Handed (λ s. s) (f (session_at m E Z S R W C PE PB PS)) (session_at m E Z S R W C PE PB PS) (session_at m' E' Z' S' R' W' C' PE' PB' PS') r
 handed f {E} {Z} {S} {R} {W} {C} {PE} {PB} {PS} {E'} {Z'} {S'} {R'} {W'} {C'} {PE'} {PB'} {PS'} {n} {m} {n'} {m'} {a} {r} read put code l =
     given_back (f (session_at m E Z S R W C PE PB PS)) code
     (lent_as f (λ (x : Numbers). session_at x E Z S R W C PE PB PS) (λ (x : Numbers). session_at x E' Z' S' R' W' C' PE' PB' PS') {n = n} {m = m} {n' = n'} {m' = m'} read put l)

@@ -1,7 +1,7 @@
 // The check of a layout from C.
 ghost use Rattle.std.specs.Prelude.{◌≡◌, pos};
 ghost use Rattle.strided.specs.Refusals.{answered, layout_refused};
-ghost use Rattle.strided.specs.Memory.{purpose_of, code_or};
+ghost use Rattle.strided.specs.Memory.{purpose_of, code_of};
 
 use super::codes::code_of;
 use layout::{check_layout, purpose_of};
@@ -15,8 +15,7 @@ pub extern "C" fn gougelily_check_layout<'a>(
     purpose: u64,
     chosen: u64,
 ) -> i64
-    ensures { result ≡ code_or (answered (layout_refused extents.now sizes.now strides.now (purpose_of purpose chosen))) (pos 0) }
+    ensures { result ≡ code_of (λ value. pos 0) (answered (layout_refused extents.now sizes.now strides.now (purpose_of purpose chosen))) }
 {
-    let answer = check_layout(extents, sizes, strides, purpose_of(purpose, chosen));
-    code_of(answer)
+    code_of(check_layout(extents, sizes, strides, purpose_of(purpose, chosen)))
 }

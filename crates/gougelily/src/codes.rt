@@ -1,16 +1,16 @@
 // What the C functions answer: a number for what a public entry answered.
 ghost use Rattle.std.specs.Prelude.{◌≡◌, pos};
-ghost use Rattle.strided.specs.Memory.{code_or};
+ghost use Rattle.strided.specs.Memory.{code_of};
 
 use layout::negated;
-use strided::Answer;
+use strided::Refusal;
 
 // 0, or the refusal's number negated.
-pub fn code_of(answer: Answer) -> i64
-    ensures { result ≡ code_or answer (pos 0) }
+pub fn code_of(answer: Result<(), Refusal>) -> i64
+    ensures { result ≡ code_of (λ value. pos 0) answer }
 {
     match answer {
-        Answer::Served => 0,
-        Answer::Refused(refusal) => negated(refusal),
+        Ok(()) => 0,
+        Err(refusal) => negated(refusal),
     }
 }

@@ -23,7 +23,7 @@ pub extern "C" fn gougelily_copy<'a>(
 ) -> i64
     ensures { let m = machine_of line cache way live in
         CopiesMemory (copy_done m extents.now sizes.now strides.now starts.now
-        destination.old source.now) destination.new result }
+        destination.old source.now) destination.old destination.new result }
 {
     let machine = Machine {
         line,
@@ -31,7 +31,7 @@ pub extern "C" fn gougelily_copy<'a>(
         way,
         live,
     };
-    let answer = copy(
+    code_of(copy(
         extents,
         sizes,
         strides,
@@ -39,6 +39,5 @@ pub extern "C" fn gougelily_copy<'a>(
         starts,
         destination,
         source,
-    );
-    code_of(answer)
+    ))
 }

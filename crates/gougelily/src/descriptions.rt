@@ -5,7 +5,6 @@ ghost use Rattle.numpy.specs.Memory.{described_at, FromNumpyMemory};
 
 use layout::negated;
 use numpy::{from_numpy, to_numpy};
-use strided::Answer;
 
 // What a text says: the size of an element, the rank, and extents and element strides in our order.
 #[unsafe(no_mangle)]
@@ -21,11 +20,8 @@ pub extern "C" fn gougelily_from_numpy(
         (described_at size.new rank.new extents.new strides.new)
         result }
 {
-    let said = from_numpy(text);
-    let answer = said.answer;
-    match answer {
-        Answer::Refused(refusal) => negated(refusal),
-        Answer::Served => {
+    match from_numpy(text) {
+        Ok(said) => {
             let es = said.extents;
             let ss = said.strides;
             *size = [said.size];
@@ -34,6 +30,7 @@ pub extern "C" fn gougelily_from_numpy(
             *strides = ss;
             0
         }
+        Err(refusal) => negated(refusal),
     }
 }
 

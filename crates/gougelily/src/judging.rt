@@ -2,7 +2,7 @@
 ghost use Rattle.std.specs.Prelude.{◌≡◌};
 ghost use Rattle.judge.specs.Memory.{verdict_number, JudgesMemory};
 
-use judge::{Judged, Verdict, judge};
+use judge::{Verdict, judge};
 use layout::negated;
 
 // The verdict as a number.
@@ -24,7 +24,7 @@ pub extern "C" fn gougelily_judge<'a>(extents: &'a [u64], text: &'a [u8], marks:
 {
     let judged = judge(extents, text, marks);
     match judged {
-        Judged::Told(verdict) => verdict_number(verdict) as i64,
-        Judged::Refused(refusal) => negated(refusal),
+        Ok(verdict) => verdict_number(verdict) as i64,
+        Err(refusal) => negated(refusal),
     }
 }

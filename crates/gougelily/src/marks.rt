@@ -5,7 +5,7 @@ ghost use Rattle.strided.specs.Memory.{mark_code};
 
 use layout::negated;
 use mark::repeat_mark;
-use strided::{Answer, Mark};
+use strided::Mark;
 
 // The mark as a number.
 fn mark_number(mark: Mark) -> u64
@@ -23,11 +23,8 @@ fn mark_number(mark: Mark) -> u64
 pub extern "C" fn gougelily_repeat_mark<'a>(extents: &'a [u64], strides: &'a [i64]) -> i64
     ensures { result ≡ mark_code (marked extents.now strides.now) }
 {
-    let marked = repeat_mark(extents, strides);
-    let answer = marked.answer;
-    let mark = marked.mark;
-    match answer {
-        Answer::Refused(refusal) => negated(refusal),
-        Answer::Served => mark_number(mark) as i64,
+    match repeat_mark(extents, strides) {
+        Ok(mark) => mark_number(mark) as i64,
+        Err(refusal) => negated(refusal),
     }
 }

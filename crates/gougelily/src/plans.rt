@@ -6,7 +6,7 @@ ghost use Rattle.strided.specs.Memory.{purpose_of, plan_at, Plans};
 
 use kernel::{Aim, clear_axes, plan_into};
 use layout::{check_planning, negated, purpose_of};
-use strided::{Answer, Machine};
+use strided::Machine;
 
 // How many strides there are, where a slice has them all.
 fn counted(table: &[i64]) -> usize
@@ -54,28 +54,25 @@ pub extern "C" fn gougelily_plan<'a>(
         way,
         live,
     };
-    let answer = check_planning(extents, sizes, strides, wanted, machine);
-    match answer {
-        Answer::Refused(refusal) => negated(refusal),
-        Answer::Served => {
-            let count = places(plan_strides);
-            clear_axes(&mut *plan_extents, &mut *plan_strides);
-            let aim = Aim {
-                purpose: wanted,
-                machine,
-            };
-            let axes = plan_into(
-                aim,
-                extents,
-                sizes,
-                strides,
-                &mut *plan_extents,
-                &mut *blocks,
-                &mut *plan_strides,
-            );
-            *rank = [axes];
-            *operands = [sizes.len()];
-            0
-        }
+    if let Err(refusal) = check_planning(extents, sizes, strides, wanted, machine) {
+        return negated(refusal);
     }
+    let count = places(plan_strides);
+    clear_axes(&mut *plan_extents, &mut *plan_strides);
+    let aim = Aim {
+        purpose: wanted,
+        machine,
+    };
+    let axes = plan_into(
+        aim,
+        extents,
+        sizes,
+        strides,
+        &mut *plan_extents,
+        &mut *blocks,
+        &mut *plan_strides,
+    );
+    *rank = [axes];
+    *operands = [sizes.len()];
+    0
 }

@@ -1,7 +1,7 @@
 // Sessions from C: a session lies in lent arrays, a number in an array of one place. An operand joins it or leaves it where it lies.
 ghost use Rattle.std.specs.Prelude.{◌≡◌};
 ghost use Rattle.strided.specs.Machine.{machine_of};
-ghost use Rattle.strided.specs.Memory.{code_or, purpose_of, Handed};
+ghost use Rattle.strided.specs.Memory.{purpose_of, Handed};
 ghost use Rattle.session.specs.Session.{given, begun, joined, left};
 ghost use Rattle.session.specs.Memory.{numbers_at};
 ghost use Rattle.session.specs.Made.{session_at};
@@ -106,9 +106,9 @@ pub extern "C" fn gougelily_begin_session<'a>(
         plan_extents.new blocks.new plan_strides.new in
         let t = begun (given (machine_of line cache way live)
         layout_extents.now layout_sizes.now layout_strides.now (purpose_of wanted leading)) in
-        Handed t.answer t.session old new result }
+        Handed (λ s. s) t old new result }
 {
-    let numbers = read_numbers(purpose, chosen, machine, rank, operands, plan_counts);
+    let mut numbers = read_numbers(purpose, chosen, machine, rank, operands, plan_counts);
     let given = Machine {
         line,
         cache,
@@ -119,9 +119,9 @@ pub extern "C" fn gougelily_begin_session<'a>(
         purpose: purpose_of(wanted, leading),
         machine: given,
     };
-    let moved = begin_lent(
+    let answer = begin_lent(
         aim,
-        numbers,
+        &mut numbers,
         layout_extents,
         layout_sizes,
         layout_strides,
@@ -135,9 +135,15 @@ pub extern "C" fn gougelily_begin_session<'a>(
         blocks,
         plan_strides,
     );
-    let answer = moved.answer;
-    let after = moved.numbers;
-    put_numbers(after, purpose, chosen, machine, rank, operands, plan_counts);
+    put_numbers(
+        numbers,
+        purpose,
+        chosen,
+        machine,
+        rank,
+        operands,
+        plan_counts,
+    );
     code_of(answer)
 }
 
@@ -171,11 +177,11 @@ pub extern "C" fn gougelily_join_session<'a>(
         extents.now sizes.new strides.new ranks.new weights.new costs.new
         plan_extents.new blocks.new plan_strides.new in
         let t = joined old size joining.now in
-        Handed t.answer t.session old new result }
+        Handed (λ s. s) t old new result }
 {
-    let numbers = read_numbers(purpose, chosen, machine, rank, operands, plan_counts);
-    let moved = join_lent(
-        numbers,
+    let mut numbers = read_numbers(purpose, chosen, machine, rank, operands, plan_counts);
+    let answer = join_lent(
+        &mut numbers,
         extents,
         sizes,
         strides,
@@ -188,9 +194,15 @@ pub extern "C" fn gougelily_join_session<'a>(
         size,
         joining,
     );
-    let answer = moved.answer;
-    let after = moved.numbers;
-    put_numbers(after, purpose, chosen, machine, rank, operands, plan_counts);
+    put_numbers(
+        numbers,
+        purpose,
+        chosen,
+        machine,
+        rank,
+        operands,
+        plan_counts,
+    );
     code_of(answer)
 }
 
@@ -223,11 +235,11 @@ pub extern "C" fn gougelily_leave_session<'a>(
         extents.now sizes.new strides.new ranks.new weights.new costs.new
         plan_extents.new blocks.new plan_strides.new in
         let t = left old operand in
-        Handed t.answer t.session old new result }
+        Handed (λ s. s) t old new result }
 {
-    let numbers = read_numbers(purpose, chosen, machine, rank, operands, plan_counts);
-    let moved = leave_lent(
-        numbers,
+    let mut numbers = read_numbers(purpose, chosen, machine, rank, operands, plan_counts);
+    let answer = leave_lent(
+        &mut numbers,
         extents,
         sizes,
         strides,
@@ -239,8 +251,14 @@ pub extern "C" fn gougelily_leave_session<'a>(
         plan_strides,
         operand,
     );
-    let answer = moved.answer;
-    let after = moved.numbers;
-    put_numbers(after, purpose, chosen, machine, rank, operands, plan_counts);
+    put_numbers(
+        numbers,
+        purpose,
+        chosen,
+        machine,
+        rank,
+        operands,
+        plan_counts,
+    );
     code_of(answer)
 }

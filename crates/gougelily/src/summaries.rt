@@ -4,7 +4,7 @@ ghost use Rattle.summary.specs.Rows.{summarized};
 ghost use Rattle.summary.specs.Memory.{summary_at, Summarizes};
 
 use layout::negated;
-use strided::{Answer, Machine};
+use strided::Machine;
 use summary::summarize;
 use walk::memory::flag;
 
@@ -38,20 +38,16 @@ pub extern "C" fn gougelily_summary<'a, 'b>(
         way,
         live,
     };
-    let summarized = summarize(extents, strides, machine, start, cells);
-    let answer = summarized.answer;
-    let s = summarized.summary;
-    match answer {
-        Answer::Refused(refusal) => negated(refusal),
-        Answer::Served => {
-            let e = flag(s.extremes);
+    match summarize(extents, strides, machine, start, cells) {
+        Ok(s) => {
             *sum = [s.sum];
             *least = [s.least];
             *greatest = [s.greatest];
             *count = [s.count];
             *nans = [s.nans];
-            *extremes = [e];
+            *extremes = [flag(s.extremes)];
             0
         }
+        Err(refusal) => negated(refusal),
     }
 }

@@ -5,7 +5,6 @@ ghost use Rattle.strided.specs.Memory.{plan_of, walk_at, walk_in, step_at, Steps
 
 use layout::negated;
 use states::begin_on;
-use strided::Answer;
 use walk::memory::{flag, step_into};
 
 // A walk's beginning.
@@ -26,20 +25,16 @@ pub extern "C" fn gougelily_begin<'a>(
         (walk_at ended.new counters.new offsets.new)
         result }
 {
-    let begun = begin_on(rank, operands, extents, blocks, strides, starts);
-    let answer = begun.answer;
-    match answer {
-        Answer::Refused(refusal) => negated(refusal),
-        Answer::Served => {
-            let walk = begun.walk;
-            let e = flag(walk.ended);
-            let c = walk.counters;
-            let o = walk.offsets;
-            *ended = [e];
-            *counters = c;
-            *offsets = o;
+    match begin_on(rank, operands, extents, blocks, strides, starts) {
+        Ok(walk) => {
+            let first = walk.counters;
+            let starts = walk.offsets;
+            *ended = [flag(walk.ended)];
+            *counters = first;
+            *offsets = starts;
             0
         }
+        Err(refusal) => negated(refusal),
     }
 }
 

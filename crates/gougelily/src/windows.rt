@@ -3,7 +3,6 @@ ghost use Rattle.window.specs.Window.{windowed};
 ghost use Rattle.window.specs.Memory.{Windows};
 
 use layout::negated;
-use strided::Answer;
 use window::{check_window, window_into};
 
 // A window of a layout: its own layout, and a shift of each operand's start.
@@ -25,25 +24,22 @@ pub extern "C" fn gougelily_window<'a>(
         (record { extents = window_extents.new; strides = window_strides.new; shifts = shifts.new })
         result }
 {
-    let answer = check_window(extents, sizes, strides, firsts, counts, steps);
-    match answer {
-        Answer::Refused(refusal) => negated(refusal),
-        Answer::Served => {
-            *window_extents = [0u64; 64];
-            *window_strides = [0i64; 512];
-            *shifts = [0i64; 8];
-            window_into(
-                extents,
-                sizes,
-                strides,
-                firsts,
-                counts,
-                steps,
-                &mut *window_extents,
-                &mut *window_strides,
-                &mut *shifts,
-            );
-            0
-        }
+    if let Err(refusal) = check_window(extents, sizes, strides, firsts, counts, steps) {
+        return negated(refusal);
     }
+    *window_extents = [0u64; 64];
+    *window_strides = [0i64; 512];
+    *shifts = [0i64; 8];
+    window_into(
+        extents,
+        sizes,
+        strides,
+        firsts,
+        counts,
+        steps,
+        &mut *window_extents,
+        &mut *window_strides,
+        &mut *shifts,
+    );
+    0
 }

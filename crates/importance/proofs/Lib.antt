@@ -3,3 +3,4 @@ pub mod Lightness
 pub mod Adding
 pub mod Trying
 pub mod Inserting
+pub mod Reading

@@ -1,15 +1,13 @@
 -- Whole numbers as a u64 holds them, or too large: with these the sums of a weight are exact and no step of them can wrap.
 -- Assumes nothing.
-use Rattle.std.specs.Prelude.{cond, ℕ, ◌+◌, ◌^◌, ltb}
-use Rattle.importance.specs.declared.Checked.{Checked}
-use Rattle.importance.specs.declared.Checked.TheVariants.{Fits, Over}
+use Rattle.std.specs.Prelude.{cond, ℕ, ◌+◌, ◌^◌, ltb, Option, Some, None}
 
 -- itself below 2^64
-unfoldable pub checked : ℕ → Checked
-checked n = cond (ltb n (2 ^ 64)) (Fits n) Over
+unfoldable pub checked : ℕ → Option ℕ
+checked n = cond (ltb n (2 ^ 64)) (Some n) None
 
 -- the sum of two such numbers
-unfoldable pub plus_of : Checked → Checked → Checked
-plus_of (Fits x) (Fits y) = checked (x + y)
-plus_of (Fits x) Over = Over
-plus_of Over b = Over
+unfoldable pub plus_of : Option ℕ → Option ℕ → Option ℕ
+plus_of (Some x) (Some y) = checked (x + y)
+plus_of (Some x) None = None
+plus_of None b = None

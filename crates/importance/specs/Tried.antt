@@ -1,8 +1,6 @@
 -- What the functions that try widths and caps are handed, and the form in which they answer.
 -- Assumes nothing.
-use Rattle.std.specs.Prelude.{Bool, true, false, cond, List, [], map, ℕ, leb, ℤ, length, get_or}
-use Rattle.std.proofs.Math.Option
-use Rattle.std.proofs.Math.Option.{Option, none, some}
+use Rattle.std.specs.Prelude.{Bool, true, false, cond, List, [], map, ℕ, leb, ℤ, length, get_or, Option, None, Some, unwrap_or}
 use Rattle.strided.specs.Base.{padded, run, sum}
 use Rattle.strided.specs.Weights.{addend}
 use Rattle.auxiliary.specs.Fitting.{Fitting}
@@ -15,11 +13,11 @@ pub record Ranked (es : List ℕ) (ss : List ℤ) (table : List (List ℕ)) (ope
 
 -- whether a try gave weights, and its weights as an array, all 0 where it gave none
 unfoldable pub there : Option (List ℕ) → Bool
-there none = false
-there (some ws) = true
+there None = false
+there (Some ws) = true
 
 unfoldable pub laid : Option (List ℕ) → List ℕ
-laid m = padded 64 0 (Option.get_or m [])
+laid m = padded 64 0 (unwrap_or m [])
 
 -- the weights as far as the first k operands add to them, with no level capped
 module _ (es : List ℕ) (operands : ℕ) (ss : List ℤ) (lead width : ℕ) where

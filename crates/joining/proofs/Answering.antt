@@ -1,15 +1,14 @@
 -- What a call on a lent session answers and leaves, put together from what its rows and its makers told. Assumes nothing.
 use mathlib.Core.Path.{◌≡◌, refl, sym, ap, ◌∙◌, subst}
 use mathlib.Core.List.{List, [], ◌∷◌, ◌++◌}
-use mathlib.Core.Option.{Option, none, some}
+use Rattle.std.specs.Prelude.{Option, None, Result, Ok, Err}
 use Prim.Native.Nat.{ℕ, ◌+◌, ◌-◌, ◌*◌, ◌≤◌, ◌<◌}
 use native.Mathlib.Omega.{arith}
 use lib.IntN.{ℤ, pos}
 use lib.ListN.{length, get_or, take, length-append}
-use Rattle.strided.specs.Refusals.{refused_by, answered}
+use Rattle.strided.specs.Refusals.{refused_by, answered, served_unless}
+use Rattle.strided.specs.Memory.{whether}
 use Rattle.strided.specs.declared.Refusal.{Refusal}
-use Rattle.strided.specs.declared.Answer.{Answer}
-use Rattle.strided.specs.declared.Answer.TheVariants.{Served, Refused}
 use Rattle.strided.specs.Base.{padded, over, run}
 use Rattle.strided.specs.Layout.{Axis, row}
 use Rattle.strided.specs.Fuse.{plan_axes}
@@ -17,91 +16,38 @@ use Rattle.strided.specs.Plan.{stride_table}
 use Rattle.laws.specs.Base.Arrays.{length-padded, take_counted}
 use Rattle.laws.specs.Base.Rows.{length_over}
 use Rattle.laws.specs.Base.Filling.{length-rows}
-use Rattle.laws.specs.Refusals.Rows.{served_none}
+use Rattle.laws.specs.Refusals.Rows.{served_none, refused_some}
 use Rattle.session.specs.declared.Numbers.{Numbers}
 use Rattle.session.specs.declared.Session.{Session}
-use Rattle.session.specs.declared.Sessioned.{Sessioned}
-use Rattle.session.specs.Session.{Given, refused_of, fresh_of, given_of, with_operand, old_place, sizes_without, strides_without, without_operand, Right, join_rows, leave_rows, no_session, sessioned_or, begun, joined, left}
+use Rattle.session.specs.Session.{Given, refused_of, fresh_of, given_of, with_operand, old_place, sizes_without, strides_without, without_operand, Right, join_rows, leave_rows}
 use Rattle.session.specs.Afresh.{right-rank, right_operands, join_right, join_room, join_counted, join_near, join_accepted, leave_right, leave_there, leave_two, leave_accepted}
-use Rattle.session.specs.Made.{TableOf, LayoutRight, Standing, KeptIn, given_in, with_more, with_less, with_plan, purpose_in, session_at, numbers_of, no_numbers, Lent}
+use Rattle.session.specs.Made.{TableOf, LayoutRight, Standing, KeptIn, given_in, with_more, with_less, with_plan, purpose_in, session_at, Lent}
 use Rattle.session.proofs.Holding.{right_layout, right-ranks, right_keeps, own_ranks, keeps_axes}
 use Rattle.joining.proofs.Moving.{right-standing, stands_right, stands_table, stands_session}
 
 -- ---- a session that is lent
 
-module _ (o : Option Refusal) (t old : Session) {a : Answer} (e : a ≡ answered o) where
-  pub lent_refused : (a ≡ Served → ⊥) → Lent (sessioned_or o t) old old a
-  lent_refused h = go o refl
-    where
-      go : (x : Option Refusal) → o ≡ x → Lent (sessioned_or x t) old old a
-      go none q = absurd (h (e ∙ ap answered q))
-      go (some r) q = record { answers = e ∙ ap answered q; leaves = refl }
+module _ (o : Option Refusal) (t old : Session) {a : Result (Unit {0}) Refusal} (e : a ≡ answered o) where
+  pub lent_refused : {r : Refusal} → a ≡ Err r → Lent (served_unless o t) old old (Err r)
+  lent_refused {r} h = subst (λ (x : Option Refusal). Lent (served_unless x t) old old (Err r)) (sym (refused_some o tt (sym e ∙ h))) (record { answers = refl; leaves = refl })
 
-  pub lent_served : {new : Session} → a ≡ Served → new ≡ t → Lent (sessioned_or o t) old new a
-  lent_served {new} h n =
-      let q : o ≡ none = served_none o (sym e ∙ h) in
-      subst (λ (x : Option Refusal). Lent (sessioned_or x t) old new a) (sym q) (record { answers = h; leaves = n })
+  pub lent_served : {new : Session} → a ≡ Ok tt → new ≡ t → Lent (served_unless o t) old new (Ok tt)
+  lent_served {new} h n = subst (λ (x : Option Refusal). Lent (served_unless x t) old new (Ok tt)) (sym (served_none o tt (sym e ∙ h))) (record { answers = refl; leaves = n })
 
 -- ---- a session by value
-
-abbrev out : Answer → Session → Sessioned
-out a s = record { answer = a; session = s }
 
 -- out of its numbers and arrays
 abbrev pub laid_out : Session → Numbers → Session
 laid_out s n = session_at n s.extents s.sizes s.strides s.ranks s.weights s.costs s.plan.extents s.plan.blocks s.plan.strides
 
-laid_out_lem : (s : Session) (n : Numbers) → n ≡ numbers_of s → laid_out s n ≡ s
-laid_out_lem s n q = ap (laid_out s) q
+-- what a lent call leaves is what is handed out, where it answers so
+pub value_served : (t : Result Session Refusal) {old new : Session} {a : Result (Unit {0}) Refusal} → Lent t old new a → a ≡ Ok tt → Ok new ≡ t
+value_served (Ok s) l h = ap (λ (x : Session). Ok x) l.leaves
+value_served (Err r) l h = let q : ◌≡◌ {A = Result (Unit {0}) Refusal} (Ok tt) (Err r) = sym h ∙ l.answers in cc
 
--- no session
-pub none_value : (a : Answer) (n : Numbers) → n ≡ no_numbers → out a (laid_out no_session n) ≡ out a no_session
-none_value a n q = ap (λ (x : Numbers). out a (laid_out no_session x)) q
-
-pub begun-value : (g : Given) (n : Numbers) {new : Session} {a : Answer} → n ≡ no_numbers → Lent (begun g) (laid_out no_session n) new a → out a new ≡ begun g
-unfolding begun
-begun-value g n {new} {a} q l = go (refused_of g) (subst (λ (x : Session). Lent (sessioned_or (refused_of g) (fresh_of g)) x new a) (laid_out_lem no_session n q) l)
-  where
-    go : (x : Option Refusal) → Lent (sessioned_or x (fresh_of g)) no_session new a → out a new ≡ sessioned_or x (fresh_of g)
-    go none k = let e = k.answers in let s = k.leaves in λ i. record { answer = e i; session = s i }
-    go (some r) k = let e = k.answers in let s = k.leaves in λ i. record { answer = e i; session = s i }
-
--- what a call by its rows o and its result t hands out
-module _ (o : Session → Option Refusal) (t : Session → Session) (s : Session) (n : Numbers) (q : n ≡ numbers_of s) {new : Session} {a : Answer}
-    (l : Lent (sessioned_or (o (laid_out s n)) (t (laid_out s n))) (laid_out s n) new a) where
-  there : sessioned_or (o (laid_out s n)) (t (laid_out s n)) ≡ sessioned_or (o s) (t s)
-  there = ap (λ (x : Session). sessioned_or (o x) (t x)) (laid_out_lem s n q)
-
-  value_served : a ≡ Served → out a new ≡ sessioned_or (o s) (t s)
-  value_served h = go (o (laid_out s n)) l ∙ there
-    where
-      go : (x : Option Refusal) → Lent (sessioned_or x (t (laid_out s n))) (laid_out s n) new a → out a new ≡ sessioned_or x (t (laid_out s n))
-      go none k = let e = k.answers in let w = k.leaves in λ i. record { answer = e i; session = w i }
-      go (some r) k = let e : Served ≡ Refused r = sym h ∙ k.answers in let z : ◌≡◌ {A = ℕ} 0 1 = cc e in absurd (omega arith)
-
-  value-refused : (a ≡ Served → ⊥) → out a no_session ≡ sessioned_or (o s) (t s)
-  value-refused h = go (o (laid_out s n)) l ∙ there
-    where
-      go : (x : Option Refusal) → Lent (sessioned_or x (t (laid_out s n))) (laid_out s n) new a → out a no_session ≡ sessioned_or x (t (laid_out s n))
-      go none k = absurd (h k.answers)
-      go (some r) k = let e = k.answers in λ i. record { answer = e i; session = no_session }
-
-module _ (s : Session) (n : Numbers) (q : n ≡ numbers_of s) {new : Session} {a : Answer} where
-  pub joined-value : (z : ℕ) (ts : List ℤ) → Lent (joined (laid_out s n) z ts) (laid_out s n) new a → a ≡ Served → out a new ≡ joined s z ts
-  unfolding joined
-  joined-value z ts l h = value_served (λ x. refused_by (join_rows x ts)) (λ x. fresh_of (with_operand (given_of x) z ts)) s n q l h
-
-  pub joined_none : (z : ℕ) (ts : List ℤ) → Lent (joined (laid_out s n) z ts) (laid_out s n) new a → (a ≡ Served → ⊥) → out a no_session ≡ joined s z ts
-  unfolding joined
-  joined_none z ts l h = value-refused (λ x. refused_by (join_rows x ts)) (λ x. fresh_of (with_operand (given_of x) z ts)) s n q l h
-
-  pub left-value : (k : ℕ) → Lent (left (laid_out s n) k) (laid_out s n) new a → a ≡ Served → out a new ≡ left s k
-  unfolding left
-  left-value k l h = value_served (λ x. refused_by (leave_rows x k)) (λ x. fresh_of (without_operand (given_of x) k)) s n q l h
-
-  pub left_none : (k : ℕ) → Lent (left (laid_out s n) k) (laid_out s n) new a → (a ≡ Served → ⊥) → out a no_session ≡ left s k
-  unfolding left
-  left_none k l h = value-refused (λ x. refused_by (leave_rows x k)) (λ x. fresh_of (without_operand (given_of x) k)) s n q l h
+pub value_refused : (t : Result Session Refusal) {a : Result (Unit {0}) Refusal} → a ≡ whether t → {r : Refusal} → a ≡ Err r → Err r ≡ t
+value_refused (Ok s) l {r} h = let q : ◌≡◌ {A = Result (Unit {0}) Refusal} (Err r) (Ok tt) = sym h ∙ l in cc
+value_refused (Err q) l {r} h = let e : ◌≡◌ {A = Result (Unit {0}) Refusal} (Err r) (Err q) = sym h ∙ l in cc
 
 -- ---- what the rows of a call let through
 
@@ -130,9 +76,9 @@ module _ (n : Numbers) (E Z : List ℕ) (S : List ℤ) (R W C PE PB : List ℕ) 
       (omega (arith, few, e), subst (λ (m : ℕ). PS ≡ padded 512 (pos 0) (take (m * 64) PS)) (sym e) (table_blank (plan_axes (take n.rank E) n.operands (take (n.rank * n.operands) S) (purpose_in n)) n.operands few x.1.strides))
 
   -- joining
-  module _ (ts : List ℤ) (h : answered (refused_by (join_rows s ts)) ≡ Served) where
-    passed : refused_by (join_rows s ts) ≡ none
-    passed = served_none _ h
+  module _ (ts : List ℤ) (h : answered (refused_by (join_rows s ts)) ≡ Ok tt) where
+    passed : refused_by (join_rows s ts) ≡ None
+    passed = served_none _ tt h
 
     r : Right s
     r = join_right s ts passed
@@ -158,7 +104,7 @@ module _ (n : Numbers) (E Z : List ℕ) (S : List ℤ) (R W C PE PB : List ℕ) 
       l : LayoutRight n E Z S
       l = right_layout n E Z S R W C PE PB PS r
 
-      ok : refused_of g ≡ none
+      ok : refused_of g ≡ None
       ok = join_accepted (given_of s) z ts r.accepted (join_room s ts passed) (join_counted s ts passed) (join_near s ts passed)
 
       st' : Standing (length g.extents) g.sizes g.strides Z' S' R' table'
@@ -181,9 +127,9 @@ module _ (n : Numbers) (E Z : List ℕ) (S : List ℤ) (R W C PE PB : List ℕ) 
       joined_session = stands_session g ok m E Z' S' R' table' l.extents st' er eo (ap (λ (x : Numbers). x.machine) q) (ap (λ (x : Numbers). x.purpose) q ∙ sym l.kind) (ap (λ (x : Numbers). x.chosen) q ∙ sym l.chosen)
 
   -- leaving
-  module _ (k : ℕ) (h : answered (refused_by (leave_rows s k)) ≡ Served) where
-    let_out : refused_by (leave_rows s k) ≡ none
-    let_out = served_none _ h
+  module _ (k : ℕ) (h : answered (refused_by (leave_rows s k)) ≡ Ok tt) where
+    let_out : refused_by (leave_rows s k) ≡ None
+    let_out = served_none _ tt h
 
     r' : Right s
     r' = leave_right s k let_out
@@ -212,7 +158,7 @@ module _ (n : Numbers) (E Z : List ℕ) (S : List ℤ) (R W C PE PB : List ℕ) 
       l' : LayoutRight n E Z S
       l' = right_layout n E Z S R W C PE PB PS r'
 
-      ok' : refused_of g' ≡ none
+      ok' : refused_of g' ≡ None
       ok' = leave_accepted (given_of s) k r'.accepted (leave_there s k let_out) (leave_two s k let_out)
 
       st'' : Standing (length g'.extents) g'.sizes g'.strides Z' S' R' table'

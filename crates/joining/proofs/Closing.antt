@@ -1,60 +1,41 @@
 -- Places of an array that are cleared, and a row that is taken out where it stands. Assumes nothing.
-use mathlib.Core.Path.{◌≡◌, refl, sym, ap, ap₂, ◌∙◌}
+use mathlib.Core.Path.{◌≡◌, sym, ap, ap₂, ◌∙◌}
 use mathlib.Core.List.{List, [], ◌∷◌, ◌++◌}
 use Prim.Native.Nat.{ℕ, zero, suc, ◌+◌, ◌-◌, ◌*◌, ◌≤◌, ◌<◌}
 use native.Mathlib.Nat.{zero-mul, mul_comm}
 use native.Mathlib.Omega.{arith}
-use lib.ListN.{length, get_or, take, drop, set, length-drop, take-append-drop}
-use lib.Seq.{paste, paste-suc, length-paste, take-paste, drop-paste, get_or-drop, drop-drop, take-add, length-take-le}
+use lib.ListN.{length, take, drop, set, replicate, length-drop, take-append-drop}
+use Rattle.std.proofs.lemmas.List.Edits.{fill_from_more}
+use lib.Seq.{paste, length-paste, take-paste, drop-paste, drop-drop, take-add, length-take-le}
 use borrow.Author.Tests.{lt-ltb, le-ltb}
 use Rattle.strided.specs.Base.{padded, over, run}
-use Rattle.laws.specs.Base.Filling.{drop_behind, padded_is}
+use Rattle.laws.specs.Base.Filling.{fill_none, drop_behind, padded_is}
 use Rattle.laws.specs.Base.Lists.{over-append, run-append}
 use Rattle.laws.specs.Base.Rows.{row_fits}
 use Rattle.session.specs.Session.{old_place}
 use Rattle.session.proofs.Tabling.{over_agree}
 
--- the last place that is not yet z
-pub clear_next : {A : Type 0} (z : A) (n i : ℕ) (l : List A) → i < n → i < length l → set (padded n z (take (suc i) l)) i z ≡ padded n z (take i l)
-clear_next z n i [] h q = absurd (bad q)
+-- the next place that is cleared, and all of them
+module _ {A : Type 0} (z : A) (O : List A) (i : ℕ) {now : List A} where
+  pub clear_next : i < length O → now ≡ paste O 0 (replicate i z) i → set now i z ≡ paste O 0 (replicate (i + 1) z) (i + 1)
+  clear_next l e =
+      let q : i ≡ 0 + i = omega arith in
+      ap₂ (λ (o : List A) (j : ℕ). set o j z) e q ∙ fill_from_more O 0 i z (omega (arith, l))
+
+-- places cleared in an array that is z from place e on
+pub cleared : {A : Type 0} (z : A) (n s e : ℕ) (l : List A) → length l ≡ n → s ≤ e → e ≤ n → l ≡ padded n z (take e l)
+    → take s l ++ (replicate (e - s) z ++ drop e l) ≡ padded n z (take s l)
+cleared z n s e l long h room is =
+    let front : length (take e l) ≡ e = length-take-le e l (omega (arith, long, room)) in
+    let short : length (take s l) ≡ s = length-take-le s l (omega (arith, long, room, h)) in
+    ap (λ (r : List _). take s l ++ r)
+    (ap₂ ◌++◌ (fill_none (e - s) z) (ap (drop e) is ∙ drop_behind n e z (take e l) (omega (arith, front)))
+    ∙ zeros_more (e - s) (n - e) z ∙ ap (λ (m : ℕ). padded m z []) (let q : e - s + (n - e) ≡ n - length (take s l) = omega (arith, short, h, room) in q))
+    ∙ sym (padded_is n z (take s l) (omega (arith, short, h, room)))
   where
-    bad : i < 0 → ⊥
-    bad q = omega arith
-clear_next z zero i (x ∷ l) h q = absurd (bad h)
-  where
-    bad : i < 0 → ⊥
-    bad h = omega arith
-clear_next z (suc n) zero (x ∷ l) h q = refl
-clear_next z (suc n) (suc i) (x ∷ l) h q = ap (λ r. x ∷ r) (clear_next z n i l (omega arith) (omega arith))
-
--- the next place that is put to the front
-module _ {A : Type 0} (z : A) (O : List A) (at w end : ℕ) (fits : at + w ≤ end) (room : end ≤ 512) (long : length O ≡ 512) where
-  abbrev rest : List A
-  rest = drop (at + w) O
-
-  rest_long : length rest ≡ 512 - (at + w)
-  rest_long = length-drop (at + w) O ∙ ap (λ (n : ℕ). n - (at + w)) long
-
-  pub move_next : (i : ℕ) (now : List A) (v : A) → at ≤ i → i < end - w → now ≡ paste O at rest (i - at) → v ≡ get_or now (i + w) z → set now i v ≡ paste O at rest (i + 1 - at)
-  move_next i now v a l e q =
-      let j : ℕ = i - at in
-      let ei : at + j ≡ i = omega (arith, a) in
-      let en : suc j ≡ i + 1 - at = omega (arith, a) in
-      let ew : at + j + w ≡ i + w = omega (arith, a) in
-      let ex : at + j + w ≡ at + w + j = omega arith in
-      let r = rest_long in
-      let short : j < length rest = omega (arith, r, fits, room, l, a) in
-      let value : v ≡ get_or rest j z =
-      q ∙ ap₂ (λ (o : List A) (n : ℕ). get_or o n z) e (sym ew)
-      ∙ sym (get_or-drop (at + j) (paste O at rest j) w z)
-      ∙ ap (λ (o : List A). get_or o w z) (drop-paste O at rest j (omega (arith, long, fits, room)) (omega (arith, short)))
-      ∙ get_or-drop (at + j) O w z
-      ∙ ap (λ (n : ℕ). get_or O n z) ex
-      ∙ sym (get_or-drop (at + w) O j z) in
-      ap₂ (λ (o : List A) (x : A). set o i x) e value
-      ∙ ap (λ (n : ℕ). set (paste O at rest j) n (get_or rest j z)) (sym ei)
-      ∙ paste-suc O at rest j z (omega (arith, long, fits, room, l, ei)) short
-      ∙ ap (paste O at rest) en
+    zeros_more : {A : Type 0} (a b : ℕ) (z : A) → padded a z [] ++ padded b z [] ≡ padded (a + b) z []
+    zeros_more zero b z = ap (λ (n : ℕ). padded n z []) (let e : b ≡ 0 + b = omega arith in e)
+    zeros_more (suc a) b z = ap (λ r. z ∷ r) (zeros_more a b z) ∙ ap (λ (n : ℕ). padded n z []) (let e : suc (a + b) ≡ suc a + b = omega arith in e)
 
 -- rows of w places each, one behind the other
 rows_taken : {A : Type 0} (w : ℕ) (O : List A) (n s : ℕ) → over (run s n) (λ j. take w (drop (j * w) O)) ≡ take (n * w) (drop (s * w) O)
@@ -72,7 +53,7 @@ others : (w m k rest : ℕ) → m ≡ k + 1 + rest → rest * w ≡ w * m - w - 
 others w m k rest e = let q : w * m ≡ (k + 1 + rest) * w = mul_comm w m ∙ ap (λ (n : ℕ). n * w) e in omega (arith, q)
 
 -- one of them taken out: first the later ones move up, then the last places are cleared
-module _ {A : Type 0} (z : A) (O : List A) (w m k : ℕ) (there : k < m) (room : w * m ≤ 512) (long : length O ≡ 512) where
+module _ {A : Type 0} (z : A) (O : List A) (n w m k : ℕ) (there : k < m) (room : w * m ≤ n) (long : length O ≡ n) where
   abbrev at : ℕ
   at = k * w
 
@@ -91,7 +72,13 @@ module _ {A : Type 0} (z : A) (O : List A) (w m k : ℕ) (there : k < m) (room :
   later_long : left ≤ length later
   later_long = let e = length-drop (at + w) O in let h = ends in omega (arith, e, long, room, h)
 
-  module _ (blank : O ≡ padded 512 z (take (w * m) O)) (new : List A) (is : new ≡ paste O at later left) where
+  module _ (blank : O ≡ padded n z (take (w * m) O)) (new : List A) (moved : new ≡ paste O at (drop ((k + 1) * w) O) (w * m - (k + 1) * w)) where
+    is : new ≡ paste O at later left
+    is =
+        let from : (k + 1) * w ≡ at + w = omega arith in
+        let many : w * m - (k + 1) * w ≡ left = omega arith in
+        moved ∙ ap₂ (λ (s c : ℕ). paste O at (drop s O) c) from many
+
     same_behind : drop (w * m) new ≡ drop (w * m) O
     same_behind =
         let h = ends in
@@ -101,16 +88,16 @@ module _ {A : Type 0} (z : A) (O : List A) (w m k : ℕ) (there : k < m) (room :
         ∙ drop-drop w (at + left) O
         ∙ ap (λ (n : ℕ). drop n O) whole
 
-    new_long : length new ≡ 512
+    new_long : length new ≡ n
     new_long = let h = ends in ap length is ∙ length-paste O at later left (omega (arith, long, room, h)) later_long ∙ long
 
-    pub still-blank : new ≡ padded 512 z (take (w * m) new)
+    still-blank : new ≡ padded n z (take (w * m) new)
     still-blank =
         let front : length (take (w * m) O) ≡ w * m = length-take-le (w * m) O (omega (arith, long, room)) in
         let counted : length (take (w * m) new) ≡ w * m = length-take-le (w * m) new (omega (arith, new_long, room)) in
         sym (take-append-drop (w * m) new)
-        ∙ ap (λ (l : List A). take (w * m) new ++ l) (same_behind ∙ ap (drop (w * m)) blank ∙ drop_behind 512 (w * m) z (take (w * m) O) (omega (arith, front)) ∙ ap (λ (n : ℕ). padded (512 - n) z []) (sym counted))
-        ∙ sym (padded_is 512 z (take (w * m) new) (omega (arith, counted, room)))
+        ∙ ap (λ (l : List A). take (w * m) new ++ l) (same_behind ∙ ap (drop (w * m)) blank ∙ drop_behind n (w * m) z (take (w * m) O) (omega (arith, front)) ∙ ap (λ (c : ℕ). padded (n - c) z []) (sym counted))
+        ∙ sym (padded_is n z (take (w * m) new) (omega (arith, counted, room)))
 
     front-left : take (w * m - w) new ≡ take at O ++ take left later
     front-left =
@@ -144,5 +131,14 @@ module _ {A : Type 0} (z : A) (O : List A) (w m k : ℕ) (there : k < m) (room :
         behind : (j : ℕ) → k ≤ j → old_place k j ≡ suc j
         behind j l = rw (le-ltb j k l)
 
-    pub rows_closed : {out : List A} → out ≡ padded 512 z (take (w * m - w) new) → out ≡ padded 512 z (over (run 0 (m - 1)) (λ j. take w (drop (old_place k j * w) O)))
-    rows_closed e = e ∙ ap (padded 512 z) (front-left ∙ sym rows)
+    -- the later rows have moved up, and the places behind them are cleared
+    pub rows_closed : {zs : List A} → zs ≡ replicate (length (take (w * m - (w * m - w)) (drop (w * m - w) new))) z
+        → take (w * m - w) new ++ (zs ++ drop (w * m - (w * m - w)) (drop (w * m - w) new)) ≡ padded n z (over (run 0 (m - 1)) (λ j. take w (drop (old_place k j * w) O)))
+    rows_closed {zs} e =
+        let h = ends in
+        let whole : w * m - w + (w * m - (w * m - w)) ≡ w * m = omega (arith, h) in
+        let some : length (take (w * m - (w * m - w)) (drop (w * m - w) new)) ≡ w * m - (w * m - w) =
+        length-take-le (w * m - (w * m - w)) (drop (w * m - w) new) (let d = length-drop (w * m - w) new in omega (arith, d, new_long, room, h)) in
+        ap₂ (λ (x y : List A). take (w * m - w) new ++ (x ++ y)) (e ∙ ap (λ (c : ℕ). replicate c z) some) (drop-drop (w * m - (w * m - w)) (w * m - w) new ∙ ap (λ (c : ℕ). drop c new) whole)
+        ∙ cleared z n (w * m - w) (w * m) new new_long (omega arith) room still-blank
+        ∙ ap (padded n z) (front-left ∙ sym rows)

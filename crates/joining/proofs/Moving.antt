@@ -2,13 +2,13 @@
 -- accepts the layout that stands there, everything else follows. Assumes nothing.
 use mathlib.Core.Path.{◌≡◌, refl, sym, ap, ap₂, ◌∙◌, subst}
 use mathlib.Core.List.{List, [], ◌∷◌, ◌++◌, map}
-use mathlib.Core.Option.{none}
+use Rattle.std.specs.Prelude.{None}
 use Prim.Native.Nat.{ℕ, zero, suc, ◌+◌, ◌-◌, ◌*◌, ◌≤◌, ◌<◌}
 use native.Mathlib.Nat.{mul-suc}
 use native.Mathlib.Omega.{arith}
 use lib.IntN.{ℤ, pos}
 use lib.ListN.{length, get_or, take, drop, set, length-append}
-use lib.Seq.{length-take-le, take-take}
+use lib.Seq.{length-take-le, take-take, drop-cons, get_or-take}
 use Rattle.strided.specs.Base.{padded, over, run}
 use Rattle.strided.specs.Layout.{lead, stride_row}
 use Rattle.strided.specs.Memory.{purpose_of}
@@ -22,7 +22,7 @@ use Rattle.laws.specs.Order.Ranks.{table_rows}
 use Rattle.session.specs.declared.Numbers.{Numbers}
 use Rattle.session.specs.Session.{Given, refused_of, ranks_of, weights_of, costs_of, plan_of, kind_of, fresh_of, old_place, sizes_without, strides_without}
 use Rattle.session.specs.Afresh.{few_strides, old-there, length_without, purpose_back, taken_of, row_new}
-use Rattle.session.specs.Tables.{table_joined}
+use Rattle.session.specs.Tables.{rows_agree, table_joined}
 use Rattle.session.specs.Made.{rows_of, ranks_in, TableOf, KeptIn, LayoutRight, Standing, given_in, session_at, with_plan}
 use Rattle.joining.proofs.Laying.{row-added}
 use Rattle.session.proofs.Tabling.{zero_row, table_of, over_agree, rows-laid, table_even, table_more, table_less, exact_ranks}
@@ -119,7 +119,7 @@ module _ (rank m : ℕ) (Z : List ℕ) (S : List ℤ) (R : List ℕ) (table : Li
                     ∙ (let a = stand_strides in let b = mul-suc rank m in let w : length ss + length ts ≡ rank * (m + 1) = omega (arith, a, b, counted) in w)
                     ∙ ap (λ (x : ℕ). rank * x) (sym more);
               };
-          sizes = ez ∙ row-added 8 0 0 Z m st.sizes room z;
+          sizes = ez ∙ row-added 8 0 Z m st.sizes room z;
           strides = es;
           rows = record { is = table_after ∙ ap (table_of (ss ++ ts) rank) (sym more) };
           ranks =
@@ -150,6 +150,14 @@ strides_cut ss rank m k h l =
     cut : (i : ℕ) → i < m → stride_row (take (rank * m) ss) rank i ≡ stride_row ss rank i
     cut i q = take_in (i * rank) rank (rank * m) ss (row_fits i rank m q)
 
+-- rows of one place each
+ones : {A : Type 0} (d : A) (xs : List A) (f : ℕ → ℕ) (n s : ℕ) → ((j : ℕ) → s ≤ j → j < s + n → f j < length xs)
+    → over (run s n) (λ j. take 1 (drop (f j * 1) xs)) ≡ map (λ j. get_or xs (f j) d) (run s n)
+ones d xs f zero s h = refl
+ones d xs f (suc n) s h =
+    let e : f s * 1 ≡ f s = omega arith in
+    ap₂ ◌++◌ (ap (λ (i : ℕ). take 1 (drop i xs)) e ∙ ap (take 1) (drop-cons xs (f s) d (h s (omega arith) (omega arith)))) (ones d xs f n (suc s) (λ j a b. h j (omega arith) (omega arith)))
+
 -- one leaves
 module _ (rank m : ℕ) (Z : List ℕ) (S : List ℤ) (R : List ℕ) (table : List (List ℕ)) (few : m ≤ 8)
     (st : Standing rank (take m Z) (take (rank * m) S) Z S R table) (k : ℕ) (there : k < m) where
@@ -174,10 +182,34 @@ module _ (rank m : ℕ) (Z : List ℕ) (S : List ℤ) (R : List ℕ) (table : Li
       ∙ ap (λ (x : ℕ). get_or table x []) e
       ∙ sym (ap (λ (t : List (List ℕ)). get_or t j []) et ∙ fill_at 8 zero_row [] (λ j. get_or table (old_place k j) []) (m - 1) j h (omega (arith, few)))
 
-  pub drop_stands : {Z' : List ℕ} {S' : List ℤ} {R' : List ℕ} {table' : List (List ℕ)} → Z' ≡ padded 8 0 (sizes_without k (take m Z))
-      → S' ≡ padded 512 (pos 0) (strides_without rank m k S) → table' ≡ padded 8 zero_row (map (λ j. get_or table (old_place k j) []) (run 0 (m - 1)))
-      → R' ≡ padded 512 0 (over (run 0 (m - 1)) (λ j. take 64 (drop (old_place k j * 64) R))) → Standing rank (sizes_without k (take m Z)) (strides_without rank m k (take (rank * m) S)) Z' S' R' table'
-  drop_stands {Z'} {S'} {R'} {table'} ez es et er =
+  places_left : {Z' : List ℕ} → Z' ≡ padded (length Z) 0 (over (run 0 (m - 1)) (λ j. take 1 (drop (old_place k j * 1) Z))) → Z' ≡ padded 8 0 (sizes_without k (take m Z))
+  places_left e =
+      let z = stand_places rank m Z S R table few st in
+      e ∙ ap₂ (λ (n : ℕ) (l : List ℕ). padded n 0 l) z
+      (ones 0 Z (old_place k) (m - 1) 0 (λ j a b. let q = old-there m k j there (omega arith) in omega (arith, q, few, z))
+      ∙ rows_agree (λ j. get_or Z (old_place k j) 0) (λ j. get_or (take m Z) (old_place k j) 0) (m - 1) 0 (λ j a b. sym (get_or-take m Z (old_place k j) 0 (old-there m k j there (omega arith))))
+      ∙ ap (λ (n : ℕ). map (λ j. get_or (take m Z) (old_place k j) 0) (run 0 (n - 1))) (sym (stand_operands rank m Z S R table few st)))
+
+  table_less_one : {table' : List (List ℕ)} → table' ≡ padded (length table) zero_row (over (run 0 (m - 1)) (λ j. take 1 (drop (old_place k j * 1) table)))
+      → table' ≡ padded 8 zero_row (map (λ j. get_or table (old_place k j) []) (run 0 (m - 1)))
+  table_less_one e =
+      let t : length table ≡ 8 = ap length (stand_table rank m Z S R table few st) ∙ length-padded zero_row 8 (map (padded 64 0) (rank_table (take (rank * m) S) rank m)) in
+      e ∙ ap₂ (λ (n : ℕ) (l : List (List ℕ)). padded n zero_row l) t
+      (ones [] table (old_place k) (m - 1) 0 (λ j a b. let q = old-there m k j there (omega arith) in omega (arith, q, few, t)))
+
+  -- what each of the four arrays holds when row k has been taken out of it
+  pub drop_stands : {Z' : List ℕ} {S' : List ℤ} {R' : List ℕ} {table' : List (List ℕ)}
+      → table' ≡ padded (length table) zero_row (over (run 0 (m - 1)) (λ j. take 1 (drop (old_place k j * 1) table)))
+      → R' ≡ padded (length R) 0 (over (run 0 (m - 1)) (λ j. take 64 (drop (old_place k j * 64) R)))
+      → Z' ≡ padded (length Z) 0 (over (run 0 (m - 1)) (λ j. take 1 (drop (old_place k j * 1) Z)))
+      → S' ≡ padded (length S) (pos 0) (strides_without rank m k S)
+      → Standing rank (sizes_without k (take m Z)) (strides_without rank m k (take (rank * m) S)) Z' S' R' table'
+  drop_stands {Z'} {S'} {R'} {table'} dt dr dz ds =
+      let et = table_less_one dt in
+      let er : R' ≡ padded 512 0 (over (run 0 (m - 1)) (λ j. take 64 (drop (old_place k j * 64) R))) =
+      dr ∙ ap (λ (n : ℕ). padded n 0 (over (run 0 (m - 1)) (λ j. take 64 (drop (old_place k j * 64) R)))) (ap length (stand_ranks rank m Z S R table few st) ∙ length-padded 0 512 (rows_of table m)) in
+      let ez = places_left dz in
+      let es : S' ≡ padded 512 (pos 0) (strides_without rank m k S) = ds ∙ ap (λ (n : ℕ). padded n (pos 0) (strides_without rank m k S)) (stand_long rank m Z S R table few st) in
       let ss = take (rank * m) S in
       let long = stand_strides rank m Z S R table few st in
       let after = table_less ss rank m few table (stand_table rank m Z S R table few st) k long there table' et in
@@ -198,7 +230,7 @@ module _ (rank m : ℕ) (Z : List ℕ) (S : List ℤ) (R : List ℕ) (table : Li
 
 -- ---- a layout that planning accepts stands in the arrays
 
-module _ (g : Given) (ok : refused_of g ≡ none) (n : Numbers) (E Z : List ℕ) (S : List ℤ) (R : List ℕ) (table : List (List ℕ))
+module _ (g : Given) (ok : refused_of g ≡ None) (n : Numbers) (E Z : List ℕ) (S : List ℤ) (R : List ℕ) (table : List (List ℕ))
     (e : E ≡ padded 64 0 g.extents) (st : Standing (length g.extents) g.sizes g.strides Z S R table)
     (er : n.rank ≡ length g.extents) (eo : n.operands ≡ length g.sizes) (em : n.machine ≡ g.machine)
     (ek : n.purpose ≡ kind_of g.purpose) (ec : n.chosen ≡ lead g.purpose) where

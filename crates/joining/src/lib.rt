@@ -8,19 +8,19 @@ use kernel::Aim;
 use layout::check_planning;
 use layouts::lay;
 use moves::{add_operand, begun, clear_plan, drop_operand, grown, keep, lay_operands, shrunk};
-use session::check::served;
-use session::{Moved, Numbers, check_join, check_leave};
+use session::{Numbers, check_join, check_leave};
+use strided::Refusal;
 pub use values::{begin, join, leave};
 
 pub mod layouts;
 pub mod moves;
 pub mod values;
 
-// A SESSION BEGINS in lent arrays, with any layout that planning accepts: rows 1 to 4, 24, 5, 6. On a refusal every byte is as it was, and
-// the numbers answered are those lent.
+// A SESSION BEGINS in lent numbers and arrays, with any layout that planning accepts: rows 1 to 4, 24, 5, 6. On a refusal every byte is as it
+// was.
 pub fn begin_lent<'a>(
     aim: Aim,
-    own_numbers: Numbers,
+    numbers: &mut Numbers,
     layout_extents: &'a [u64],
     layout_sizes: &'a [u64],
     layout_strides: &'a [i64],
@@ -33,61 +33,54 @@ pub fn begin_lent<'a>(
     plan_extents: &mut [u64; 64],
     blocks: &mut [u64; 64],
     plan_strides: &mut [i64; 512],
-) -> Moved
-    ensures { let old = session_at own_numbers extents.old sizes.old strides.old ranks.old
+) -> Result<(), Refusal>
+    ensures { let old = session_at numbers.old extents.old sizes.old strides.old ranks.old
         weights.old costs.old plan_extents.old blocks.old plan_strides.old in
-        let new = session_at result.numbers extents.new sizes.new strides.new ranks.new
+        let new = session_at numbers.new extents.new sizes.new strides.new ranks.new
         weights.new costs.new plan_extents.new blocks.new plan_strides.new in
         let g = given aim.machine layout_extents.now layout_sizes.now layout_strides.now aim.purpose in
-        Lent (begun g) old new result.answer }
+        Lent (begun g) old new result }
 {
-    let purpose = aim.purpose;
-    let answer = check_planning(
+    check_planning(
         layout_extents,
         layout_sizes,
         layout_strides,
-        purpose,
+        aim.purpose,
         aim.machine,
+    )?;
+    let rank = layout_extents.len();
+    let mut table = [[0u8; 64]; 8];
+    *extents = [0u64; 64];
+    lay(layout_extents, &mut *extents);
+    lay_operands(
+        rank,
+        layout_sizes,
+        layout_strides,
+        &mut table,
+        &mut *sizes,
+        &mut *strides,
+        ranks,
     );
-    if served(answer) {
-        let rank = layout_extents.len();
-        let mut table = [[0u8; 64]; 8];
-        *extents = [0u64; 64];
-        lay(layout_extents, &mut *extents);
-        lay_operands(
-            rank,
-            layout_sizes,
-            layout_strides,
-            &mut table,
-            &mut *sizes,
-            &mut *strides,
-            ranks,
-        );
-        *plan_strides = [0i64; 512];
-        let numbers = keep(
-            begun(aim, rank, layout_sizes.len()),
-            extents,
-            sizes,
-            strides,
-            &table,
-            weights,
-            costs,
-            plan_extents,
-            blocks,
-            plan_strides,
-        );
-        return Moved { answer, numbers };
-    }
-    Moved {
-        answer,
-        numbers: own_numbers,
-    }
+    *plan_strides = [0i64; 512];
+    *numbers = keep(
+        begun(aim, rank, layout_sizes.len()),
+        extents,
+        sizes,
+        strides,
+        &table,
+        weights,
+        costs,
+        plan_extents,
+        blocks,
+        plan_strides,
+    );
+    Ok(())
 }
 
 // AN OPERAND of a size and a stride for each axis JOINS a lent session at the end: rows 10, 20, 3, 6. Its ranks alone are worked out anew,
 // weights, costs and plan follow. On a refusal every byte is as it was.
 pub fn join_lent<'a>(
-    numbers: Numbers,
+    numbers: &mut Numbers,
     extents: &'a [u64; 64],
     sizes: &mut [u64; 8],
     strides: &mut [i64; 512],
@@ -99,16 +92,16 @@ pub fn join_lent<'a>(
     plan_strides: &mut [i64; 512],
     size: u64,
     joining: &'a [i64],
-) -> Moved
-    ensures { let old = session_at numbers extents.now sizes.old strides.old ranks.old
+) -> Result<(), Refusal>
+    ensures { let old = session_at numbers.old extents.now sizes.old strides.old ranks.old
         weights.old costs.old plan_extents.old blocks.old plan_strides.old in
-        let new = session_at result.numbers extents.now sizes.new strides.new ranks.new
+        let new = session_at numbers.new extents.now sizes.new strides.new ranks.new
         weights.new costs.new plan_extents.new blocks.new plan_strides.new in
-        Lent (joined old size joining.now) old new result.answer }
+        Lent (joined old size joining.now) old new result }
 {
     let mut table = [[0u8; 64]; 8];
-    let answer = check_join(
-        numbers,
+    check_join(
+        *numbers,
         extents,
         sizes,
         strides,
@@ -120,42 +113,36 @@ pub fn join_lent<'a>(
         plan_strides,
         joining,
         &mut table,
+    )?;
+    add_operand(
+        *numbers,
+        size,
+        joining,
+        &mut table,
+        &mut *sizes,
+        &mut *strides,
+        ranks,
     );
-    if served(answer) {
-        add_operand(
-            numbers,
-            size,
-            joining,
-            &mut table,
-            &mut *sizes,
-            &mut *strides,
-            ranks,
-        );
-        clear_plan(numbers, &mut *plan_strides);
-        let after = keep(
-            grown(numbers),
-            extents,
-            sizes,
-            strides,
-            &table,
-            weights,
-            costs,
-            plan_extents,
-            blocks,
-            plan_strides,
-        );
-        return Moved {
-            answer,
-            numbers: after,
-        };
-    }
-    Moved { answer, numbers }
+    clear_plan(*numbers, &mut *plan_strides);
+    *numbers = keep(
+        grown(*numbers),
+        extents,
+        sizes,
+        strides,
+        &table,
+        weights,
+        costs,
+        plan_extents,
+        blocks,
+        plan_strides,
+    );
+    Ok(())
 }
 
 // OPERAND `operand` LEAVES a lent session, and the later ones move up: rows 10, 21. The ranks of those that stay are kept. On a refusal every
 // byte is as it was.
 pub fn leave_lent<'a>(
-    numbers: Numbers,
+    numbers: &mut Numbers,
     extents: &'a [u64; 64],
     sizes: &mut [u64; 8],
     strides: &mut [i64; 512],
@@ -166,16 +153,16 @@ pub fn leave_lent<'a>(
     blocks: &mut [u64; 64],
     plan_strides: &mut [i64; 512],
     operand: u64,
-) -> Moved
-    ensures { let old = session_at numbers extents.now sizes.old strides.old ranks.old
+) -> Result<(), Refusal>
+    ensures { let old = session_at numbers.old extents.now sizes.old strides.old ranks.old
         weights.old costs.old plan_extents.old blocks.old plan_strides.old in
-        let new = session_at result.numbers extents.now sizes.new strides.new ranks.new
+        let new = session_at numbers.new extents.now sizes.new strides.new ranks.new
         weights.new costs.new plan_extents.new blocks.new plan_strides.new in
-        Lent (left old operand) old new result.answer }
+        Lent (left old operand) old new result }
 {
     let mut table = [[0u8; 64]; 8];
-    let answer = check_leave(
-        numbers,
+    check_leave(
+        *numbers,
         extents,
         sizes,
         strides,
@@ -187,33 +174,27 @@ pub fn leave_lent<'a>(
         plan_strides,
         operand,
         &mut table,
+    )?;
+    drop_operand(
+        *numbers,
+        operand as usize,
+        &mut table,
+        &mut *sizes,
+        &mut *strides,
+        ranks,
     );
-    if served(answer) {
-        drop_operand(
-            numbers,
-            operand as usize,
-            &mut table,
-            &mut *sizes,
-            &mut *strides,
-            ranks,
-        );
-        clear_plan(numbers, &mut *plan_strides);
-        let after = keep(
-            shrunk(numbers, operand),
-            extents,
-            sizes,
-            strides,
-            &table,
-            weights,
-            costs,
-            plan_extents,
-            blocks,
-            plan_strides,
-        );
-        return Moved {
-            answer,
-            numbers: after,
-        };
-    }
-    Moved { answer, numbers }
+    clear_plan(*numbers, &mut *plan_strides);
+    *numbers = keep(
+        shrunk(*numbers, operand),
+        extents,
+        sizes,
+        strides,
+        &table,
+        weights,
+        costs,
+        plan_extents,
+        blocks,
+        plan_strides,
+    );
+    Ok(())
 }

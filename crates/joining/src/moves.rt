@@ -7,8 +7,7 @@ ghost use Rattle.session.specs.Session.{sizes_without, strides_without};
 ghost use Rattle.session.specs.Made.{TableOf, KeptIn, LayoutRight, given_in, Standing, begun_with, with_more, with_less, with_plan};
 
 use super::layouts::{
-    add_row, clear_signed_from, drop_row, drop_strides, kind_of, lay, purpose_without, put_row,
-    put_strides, ranks_into, rows_without, sizes_without,
+    add_row, drop_row, kind_of, lay, purpose_without, put_row, put_strides, ranks_into,
 };
 use auxiliary::rank_table_into;
 use fuse::compute_costs;
@@ -136,12 +135,10 @@ pub fn drop_operand(
         sizes.new strides.new ranks.new table.new }
 {
     let operands = numbers.operands;
-    let rows = rows_without(table, operands, k);
-    *table = rows;
-    drop_row(ranks, 64, operands, k);
-    let left_sizes = sizes_without(sizes, operands, k);
-    *sizes = left_sizes;
-    drop_strides(strides, numbers.rank, operands, k);
+    drop_row(table, 1, operands, k, [0u8; 64]);
+    drop_row(ranks, 64, operands, k, 0);
+    drop_row(sizes, 1, operands, k, 0);
+    drop_row(strides, numbers.rank, operands, k, 0);
 }
 
 // ---- what the layout gives
@@ -152,7 +149,7 @@ pub fn clear_plan(numbers: Numbers, plan_strides: &mut [i64; 512])
     requires plan_strides_value { plan_strides.old ≡ padded 512 (pos 0) (take (numbers.plan_operands * 64) plan_strides.old) }
     ensures { plan_strides.new ≡ replicate 512 (pos 0) }
 {
-    clear_signed_from(plan_strides, 0, numbers.plan_operands * 64);
+    plan_strides[..numbers.plan_operands * 64].fill(0);
 }
 
 // Weights, costs and plan of the layout that stands in a session's arrays, from the table of its ranks. The strides of a plan are lent as
@@ -176,8 +173,7 @@ pub fn keep<'a>(
     ensures kept { let g = given_in numbers extents.now sizes.now strides.now in
         KeptIn g result.plan_rank weights.new costs.new plan_extents.new blocks.new plan_strides.new }
 {
-    let w = weights_kept(numbers, extents, strides, table);
-    *weights = w;
+    *weights = weights_kept(numbers, extents, strides, table);
     *plan_extents = [0u64; 64];
     let axes = axes_kept_into(
         numbers,
@@ -188,8 +184,7 @@ pub fn keep<'a>(
         &mut *plan_strides,
     );
     let after = planned(numbers, axes);
-    let c = compute_costs(plan_strides, numbers.operands, axes);
-    *costs = c;
+    *costs = compute_costs(plan_strides, numbers.operands, axes);
     blocks_kept_into(after, extents, sizes, plan_extents, plan_strides, blocks);
     after
 }

@@ -1,25 +1,24 @@
 // The entries by value: a session is taken and returned. Each lays its arrays out, changes them where they lie, and puts a session together
 // again.
 ghost use Rattle.std.specs.Prelude.{◌≡◌};
-ghost use Rattle.session.specs.Session.{given, no_session, begun as begunOf, joined as joinedOf, left as left_of};
-ghost use Rattle.session.specs.Made.{session_at, numbers_of, no_numbers};
+ghost use Rattle.session.specs.Session.{given, begun as begunOf, joined as joinedOf, left as left_of};
+ghost use Rattle.session.specs.Made.{session_at, numbers_of};
 
+use super::moves::begun;
 use super::{begin_lent, join_lent, leave_lent};
 use kernel::Aim;
-use session::check::served;
-use session::{Numbers, Session, Sessioned};
-use strided::{Answer, Machine, Plan};
+use session::{Numbers, Session};
+use strided::{Plan, Refusal};
 
 // The numbers of a session.
-fn numbers_of(session: Session) -> Numbers
-    ensures { result ≡ numbers_of session }
+fn numbers_of(session: &Session) -> Numbers
+    ensures { result ≡ numbers_of session.now }
 {
-    let machine = session.machine;
-    let plan = session.plan;
+    let plan = &session.plan;
     Numbers {
         purpose: session.purpose,
         chosen: session.chosen,
-        machine,
+        machine: session.machine,
         rank: session.rank,
         operands: session.operands,
         plan_rank: plan.rank,
@@ -27,9 +26,8 @@ fn numbers_of(session: Session) -> Numbers
     }
 }
 
-// An answer with a session out of its numbers and arrays.
+// A session out of its numbers and arrays.
 fn together(
-    answer: Answer,
     numbers: Numbers,
     extents: [u64; 64],
     sizes: [u64; 8],
@@ -40,10 +38,9 @@ fn together(
     plan_extents: [u64; 64],
     blocks: [u64; 64],
     plan_strides: [i64; 512],
-) -> Sessioned
-    ensures { result ≡ record { answer = answer; session = session_at numbers extents sizes strides ranks weights costs plan_extents blocks plan_strides } }
+) -> Session
+    ensures { result ≡ session_at numbers extents sizes strides ranks weights costs plan_extents blocks plan_strides }
 {
-    let machine = numbers.machine;
     let plan = Plan {
         rank: numbers.plan_rank,
         operands: numbers.plan_operands,
@@ -51,10 +48,10 @@ fn together(
         blocks,
         strides: plan_strides,
     };
-    let session = Session {
+    Session {
         purpose: numbers.purpose,
         chosen: numbers.chosen,
-        machine,
+        machine: numbers.machine,
         rank: numbers.rank,
         operands: numbers.operands,
         extents,
@@ -64,48 +61,7 @@ fn together(
         weights,
         costs,
         plan,
-    };
-    Sessioned { answer, session }
-}
-
-// The numbers of no session.
-fn none() -> Numbers
-    ensures { result ≡ no_numbers }
-{
-    let machine = Machine {
-        line: 0,
-        cache: 0,
-        way: 0,
-        live: 0,
-    };
-    Numbers {
-        purpose: 0,
-        chosen: 0,
-        machine,
-        rank: 0,
-        operands: 0,
-        plan_rank: 0,
-        plan_operands: 0,
     }
-}
-
-// An answer with no session.
-fn refused(answer: Answer) -> Sessioned
-    ensures { result ≡ record { answer = answer; session = no_session } }
-{
-    together(
-        answer,
-        none(),
-        [0u64; 64],
-        [0u64; 8],
-        [0i64; 512],
-        [0u64; 512],
-        [0u64; 64],
-        [0u64; 64],
-        [0u64; 64],
-        [0u64; 64],
-        [0i64; 512],
-    )
 }
 
 // A SESSION BEGINS with any layout that planning accepts: rows 1 to 4, 24, 5, 6.
@@ -114,9 +70,10 @@ pub fn begin<'a>(
     layout_extents: &'a [u64],
     layout_sizes: &'a [u64],
     layout_strides: &'a [i64],
-) -> Sessioned
+) -> Result<Session, Refusal>
     ensures { result ≡ begunOf (given aim.machine layout_extents.now layout_sizes.now layout_strides.now aim.purpose) }
 {
+    let mut numbers = begun(aim, layout_extents.len(), layout_sizes.len());
     let mut extents = [0u64; 64];
     let mut sizes = [0u64; 8];
     let mut strides = [0i64; 512];
@@ -126,9 +83,9 @@ pub fn begin<'a>(
     let mut plan_extents = [0u64; 64];
     let mut blocks = [0u64; 64];
     let mut plan_strides = [0i64; 512];
-    let moved = begin_lent(
+    begin_lent(
         aim,
-        none(),
+        &mut numbers,
         layout_extents,
         layout_sizes,
         layout_strides,
@@ -141,11 +98,8 @@ pub fn begin<'a>(
         &mut plan_extents,
         &mut blocks,
         &mut plan_strides,
-    );
-    let answer = moved.answer;
-    let numbers = moved.numbers;
-    together(
-        answer,
+    )?;
+    Ok(together(
         numbers,
         extents,
         sizes,
@@ -156,13 +110,15 @@ pub fn begin<'a>(
         plan_extents,
         blocks,
         plan_strides,
-    )
+    ))
 }
 
 // AN OPERAND JOINS a session: rows 10, 20, 3, 6.
-pub fn join(session: Session, size: u64, joining: &[i64]) -> Sessioned
+// Kept: joining and leaving differ in one call, and a closure over its eleven lent places, with its contract, is no plainer.
+pub fn join(session: Session, size: u64, joining: &[i64]) -> Result<Session, Refusal>
     ensures { result ≡ joinedOf session size joining.now }
 {
+    let mut numbers = numbers_of(&session);
     let extents = session.extents;
     let mut sizes = session.sizes;
     let mut strides = session.strides;
@@ -173,8 +129,8 @@ pub fn join(session: Session, size: u64, joining: &[i64]) -> Sessioned
     let mut plan_extents = plan.extents;
     let mut blocks = plan.blocks;
     let mut plan_strides = plan.strides;
-    let moved = join_lent(
-        numbers_of(session),
+    join_lent(
+        &mut numbers,
         &extents,
         &mut sizes,
         &mut strides,
@@ -186,31 +142,26 @@ pub fn join(session: Session, size: u64, joining: &[i64]) -> Sessioned
         &mut plan_strides,
         size,
         joining,
-    );
-    let answer = moved.answer;
-    if served(answer) {
-        let numbers = moved.numbers;
-        return together(
-            answer,
-            numbers,
-            extents,
-            sizes,
-            strides,
-            ranks,
-            weights,
-            costs,
-            plan_extents,
-            blocks,
-            plan_strides,
-        );
-    }
-    refused(answer)
+    )?;
+    Ok(together(
+        numbers,
+        extents,
+        sizes,
+        strides,
+        ranks,
+        weights,
+        costs,
+        plan_extents,
+        blocks,
+        plan_strides,
+    ))
 }
 
 // OPERAND `operand` LEAVES a session, and the later ones move up: rows 10, 21.
-pub fn leave(session: Session, operand: u64) -> Sessioned
+pub fn leave(session: Session, operand: u64) -> Result<Session, Refusal>
     ensures { result ≡ left_of session operand }
 {
+    let mut numbers = numbers_of(&session);
     let extents = session.extents;
     let mut sizes = session.sizes;
     let mut strides = session.strides;
@@ -221,8 +172,8 @@ pub fn leave(session: Session, operand: u64) -> Sessioned
     let mut plan_extents = plan.extents;
     let mut blocks = plan.blocks;
     let mut plan_strides = plan.strides;
-    let moved = leave_lent(
-        numbers_of(session),
+    leave_lent(
+        &mut numbers,
         &extents,
         &mut sizes,
         &mut strides,
@@ -233,23 +184,17 @@ pub fn leave(session: Session, operand: u64) -> Sessioned
         &mut blocks,
         &mut plan_strides,
         operand,
-    );
-    let answer = moved.answer;
-    if served(answer) {
-        let numbers = moved.numbers;
-        return together(
-            answer,
-            numbers,
-            extents,
-            sizes,
-            strides,
-            ranks,
-            weights,
-            costs,
-            plan_extents,
-            blocks,
-            plan_strides,
-        );
-    }
-    refused(answer)
+    )?;
+    Ok(together(
+        numbers,
+        extents,
+        sizes,
+        strides,
+        ranks,
+        weights,
+        costs,
+        plan_extents,
+        blocks,
+        plan_strides,
+    ))
 }

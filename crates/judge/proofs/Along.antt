@@ -1,11 +1,10 @@
 -- OUR OWN WALKS BY BLOCKS, WHERE AXIS 0 OF THE PLAN IS AN ORIGINAL AXIS: there the cells of each block go along that axis, so that the walk with
 -- each block as one run along it is accepted. For the index in the plan is additive in the original index.
 -- Assumes nothing.
-use Rattle.std.specs.Prelude.{◌≡◌, refl, Bool, true, false, eqb, ℤ, length, get_or, take, replicate}
+use Rattle.std.specs.Prelude.{◌≡◌, refl, Bool, true, false, eqb, ℤ, length, get_or, take, replicate, Some}
 use Rattle.std.proofs.Math.Path.{sym, ap}
 use Rattle.std.proofs.Common.{ap₂, ◌∙◌, subst, add-zero, zero-add, arith}
 use mathlib.Core.List.{List, [], ◌∷◌, ◌++◌}
-use Rattle.std.proofs.Math.Option.{some}
 use Prim.Native.Nat.{ℕ, zero, suc, ◌+◌, ◌-◌, ◌*◌, ◌≤◌, ◌<◌}
 use Rattle.std.proofs.lemmas.List.{length-replicate}
 use Rattle.strided.specs.Base.{over, nth}
@@ -24,7 +23,6 @@ use Rattle.strided.specs.declared.Plan.{Plan}
 use Rattle.strided.specs.declared.Stepped.{Stepped}
 use Rattle.strided.specs.declared.Outcome.{Outcome}
 use Rattle.strided.specs.declared.Outcome.TheVariants.{Block, Ended, Rejected}
-use Rattle.strided.specs.declared.Answer.TheVariants.{Served}
 use Rattle.laws.specs.Base.Layouts.{within-length, within-at, within-total, extent_le, length-extents}
 use Rattle.laws.specs.Order.Picked.{length-pick}
 use Rattle.laws.specs.Fuse.Maps.{plan_in, orig_plan}
@@ -34,7 +32,8 @@ use Rattle.judge.specs.Judge.{moved, Judgement, Judges}
 use Rattle.judge.proofs.Own.{each_fits, text_accepted, told_at, taken, told-met}
 use Rattle.judge.proofs.Blocks.{run_by, block_run, run_in, runs_before, AlongAxis, blocks_accepted}
 use Rattle.judge.specs.declared.Verdict.TheVariants.{Accepted}
-use Rattle.judge.specs.declared.Judged.TheVariants.{Told}
+use Rattle.std.specs.Prelude.{Ok}
+use Rattle.strided.specs.declared.Walk.{Walk}
 
 -- the index with 0 on each of n axes
 abbrev pub origin : ℕ → List ℕ
@@ -186,11 +185,11 @@ module _ (es : List ℕ) (m : ℕ) (ss : List ℤ) (u : Purpose) where
     plan_along x y (suc k) w v e =
         let n : ℕ = get_or x a 0 in
         let z = cleared es x a w f.there in
-        let some : 0 < length axes = rank (omega (arith, within-at es x a w f.there)) in
-        let x-long : 0 < length (in_plan x) = omega (arith, some, plan_length x w) in
-        let z-long : 0 < length (in_plan z.0) = omega (arith, some, plan_length z.0 z.1) in
+        let Some : 0 < length axes = rank (omega (arith, within-at es x a w f.there)) in
+        let x-long : 0 < length (in_plan x) = omega (arith, Some, plan_length x w) in
+        let z-long : 0 < length (in_plan z.0) = omega (arith, Some, plan_length z.0 z.1) in
         let y-first : get_or (in_plan y) 0 0 ≡ get_or (in_plan x) 0 0 + suc k = ap (λ (l : List ℕ). get_or l 0 0) e ∙ moved_at_lem 0 (suc k) (in_plan x) x-long in
-        let y-below : get_or (in_plan y) 0 0 < get_or (extents axes) 0 0 = within-at (extents axes) (in_plan y) 0 (plan_in es m ss u y v) (omega (arith, some, length-extents axes)) in
+        let y-below : get_or (in_plan y) 0 0 < get_or (extents axes) 0 0 = within-at (extents axes) (in_plan y) 0 (plan_in es m ss u y v) (omega (arith, Some, length-extents axes)) in
         let steps : 1 < get_or es a 0 = omega (arith, y-first, y-below, f.extent) in
         let x-first : get_or (in_plan x) 0 0 ≡ get_or (in_plan z.0) 0 0 + n =
         ap (λ (l : List ℕ). get_or l 0 0) (ap in_plan z.2 ∙ plan_moved steps n z.0 z.1) ∙ moved_at_lem 0 n (in_plan z.0) z-long in
@@ -207,7 +206,7 @@ each_append : (P : Visit → Type 0) (vs ws : List Visit) → Each P vs → Each
 each_append P [] ws p q = q
 each_append P (v ∷ vs) ws p q = (p.0, each_append P vs ws p.1 q)
 
-each_over : {A : Type 0} (P : Visit → Type 0) (f : A → List Visit) (l : List A) → ((i : ℕ) (x : A) → nth l i ≡ some x → Each P (f x)) → Each P (over l f)
+each_over : {A : Type 0} (P : Visit → Type 0) (f : A → List Visit) (l : List A) → ((i : ℕ) (x : A) → nth l i ≡ Some x → Each P (f x)) → Each P (over l f)
 each_over P f [] h = tt
 each_over P f (x ∷ l) h = each_append P (f x) (over l f) (h 0 x refl) (each_over P f l (λ i y e. h (suc i) y e))
 
@@ -244,7 +243,7 @@ module _ (es sizes : List ℕ) (ss : List ℤ) (u : Purpose) (p : Plan) (steps :
       ∙ ap (moved a k) (sym x.told)
 
   -- a block is a run that a line can say
-  run_fits : total es ≤ 65536 → (m : ℕ) (s : Stepped) → nth steps m ≡ some s → Each (VisitFits (length es)) (run_in es sizes ss u p steps a s)
+  run_fits : total es ≤ 65536 → (m : ℕ) (s : Stepped) → nth steps m ≡ Some s → Each (VisitFits (length es)) (run_in es sizes ss u p steps a s)
   run_fits t m s e = go s.answer refl
     where
       go : (o : Outcome) → s.answer ≡ o → Each (VisitFits (length es)) (run_by o (block_run es sizes ss u p steps a s))
@@ -280,21 +279,21 @@ module _ (es sizes : List ℕ) (ss : List ℤ) (u : Purpose) (p : Plan) (steps :
       }
 
 -- OUR OWN WALKS, BLOCK BY BLOCK: as `own_accepted`, where axis 0 of the plan is the original axis a, with each block as one run along a
-pub first_accepted : (mc : Machine) (es sizes : List ℕ) (ss : List ℤ) (u : Purpose) → (planned mc es sizes ss u).answer ≡ Served
+pub first_accepted : (mc : Machine) (es sizes : List ℕ) (ss : List ℤ) (u : Purpose) (q : Plan) → planned mc es sizes ss u ≡ Ok q
     → length es ≤ 64 → total es ≤ 65536 → (a : ℕ) → FirstAxis es (length sizes) ss u a
-    → (bs : List ℕ) (starts : List ℤ) → (begun_at (replaced (planned mc es sizes ss u).plan bs) starts).answer ≡ Served
+    → (bs : List ℕ) (starts : List ℤ) (w : Walk) → begun_at (replaced q bs) starts ≡ Ok w
     → (n : ℕ)
-    → let p : Plan = replaced (planned mc es sizes ss u).plan bs in
-    let steps : List Stepped = steps_from p n (begun_at p starts).walk in
-    (m : ℕ) (s : Stepped) → nth steps m ≡ some s → s.answer ≡ Ended
-    → (marks : List ℕ) → length marks ≡ total es → (j : Judgement) → Judges es (over (runs_before es sizes ss u p steps a m) visit_line) marks j → j.answer ≡ Told Accepted
-first_accepted mc es sizes ss u hp few t a f bs starts hb n m s e h marks k j g =
-    let p : Plan = replaced (planned mc es sizes ss u).plan bs in
-    let steps : List Stepped = steps_from p n (begun_at p starts).walk in
+    → let p : Plan = replaced q bs in
+    let steps : List Stepped = steps_from p n w in
+    (m : ℕ) (s : Stepped) → nth steps m ≡ Some s → s.answer ≡ Ended
+    → (marks : List ℕ) → length marks ≡ total es → (j : Judgement) → Judges es (over (runs_before es sizes ss u p steps a m) visit_line) marks j → j.answer ≡ Ok Accepted
+first_accepted mc es sizes ss u q hp few t a f bs starts w hb n m s e h marks k j g =
+    let p : Plan = replaced q bs in
+    let steps : List Stepped = steps_from p n w in
     let d : Demand3 es sizes ss u p steps starts = demand3_any mc es sizes ss u hp bs starts hb n in
     let vs : List Visit = runs_before es sizes ss u p steps a m in
     let there : a < length es = f.there in
     text_accepted es (over vs visit_line) marks vs
     (runs_formed es sizes ss u p steps few starts d a f t m)
-    (blocks_accepted mc es sizes ss u hp few bs starts hb n a (first-along es sizes ss u p steps few starts d a f) m s e h)
+    (blocks_accepted mc es sizes ss u q hp few bs starts w hb n a (first-along es sizes ss u p steps few starts d a f) m s e h)
     (omega arith) few t k j g

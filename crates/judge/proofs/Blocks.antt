@@ -2,9 +2,8 @@
 -- walk followed to its end, each as one run along that axis, are accepted. `AlongAxis` says so of a walk, by the indices told; Along has plans
 -- of which it holds.
 -- Assumes nothing.
-use Rattle.std.specs.Prelude.{◌≡◌, refl, List, [], ◌∷◌, ◌++◌, map, ℕ, zero, suc, ◌+◌, ◌≤◌, ◌<◌, ℤ, length, take}
+use Rattle.std.specs.Prelude.{◌≡◌, refl, List, [], ◌∷◌, ◌++◌, map, ℕ, zero, suc, ◌+◌, ◌≤◌, ◌<◌, ℤ, length, take, Some, Ok}
 use Rattle.std.proofs.Common.{sym, ap, ap₂, ◌∙◌, subst, append-nil, zero-add, arith}
-use Rattle.std.proofs.Math.Option.{some}
 use Rattle.strided.specs.Base.{over, nth, run}
 use Rattle.strided.specs.Plan.{planned}
 use Rattle.strided.specs.Begin.{begun_at}
@@ -15,7 +14,6 @@ use Rattle.strided.specs.declared.Plan.{Plan}
 use Rattle.strided.specs.declared.Stepped.{Stepped}
 use Rattle.strided.specs.declared.Outcome.{Outcome}
 use Rattle.strided.specs.declared.Outcome.TheVariants.{Block, Ended, Rejected}
-use Rattle.strided.specs.declared.Answer.TheVariants.{Served}
 use Rattle.laws.specs.Base.Lists.{over-append}
 use Rattle.laws.specs.Base.Counting.{count}
 use Rattle.laws.specs.Demand3.Whole.{demand3_any}
@@ -25,6 +23,7 @@ use Rattle.judge.specs.Counts.{counted, stands_counted}
 use Rattle.judge.proofs.Verdicts.{lies_stands, lies_once, accepted_iff}
 use Rattle.judge.proofs.Own.{EachOnce, told_by, told_at, told_in, told_before, taken, walk_once}
 use Rattle.judge.specs.declared.Verdict.TheVariants.{Accepted}
+use Rattle.strided.specs.declared.Walk.{Walk}
 
 -- any runs whose cells are each index of the layout once
 pub cells_accepted : (es : List ℕ) (vs : List Visit) → EachOnce es (met vs) → verdict es vs ≡ Accepted
@@ -36,7 +35,7 @@ cells_accepted es vs h =
 
 -- ---- lists joined
 
-over-over : {A : Type 0} (f : A → List Visit) (g : A → List (List ℕ)) (l : List A) → ((i : ℕ) (x : A) → nth l i ≡ some x → over (f x) cells ≡ g x) → over (over l f) cells ≡ over l g
+over-over : {A : Type 0} (f : A → List Visit) (g : A → List (List ℕ)) (l : List A) → ((i : ℕ) (x : A) → nth l i ≡ Some x → over (f x) cells ≡ g x) → over (over l f) cells ≡ over l g
 over-over f g [] h = refl
 over-over f g (x ∷ l) h =
     over-append (f x) (over l f) cells ∙ ap₂ (λ a b. a ++ b) (h 0 x refl) (over-over f g l (λ i y e. h (suc i) y e))
@@ -72,7 +71,7 @@ module _ (es sizes : List ℕ) (ss : List ℤ) (u : Purpose) (p : Plan) (steps :
   AlongAxis = (m k : ℕ) (s : Stepped) → Place es sizes ss u p steps m k s → told_at es sizes ss u p steps s k ≡ moved a k (told_at es sizes ss u p steps s 0)
 
   module _ (along : AlongAxis) where
-    run-cells : (i : ℕ) (s : Stepped) → nth steps i ≡ some s → over (run_in s) cells ≡ told_in es sizes ss u p steps s
+    run-cells : (i : ℕ) (s : Stepped) → nth steps i ≡ Some s → over (run_in s) cells ≡ told_in es sizes ss u p steps s
     run-cells i s e = go s.answer refl
       where
         go : (o : Outcome) → s.answer ≡ o → over (run_by o (block_run s)) cells ≡ told_by o (map (told_at es sizes ss u p steps s) (run 0 s.length))
@@ -89,16 +88,16 @@ module _ (es sizes : List ℕ) (ss : List ℤ) (u : Purpose) (p : Plan) (steps :
     runs_cells m = over-over run_in (told_in es sizes ss u p steps) (take m steps) (λ i s e. run-cells i s (taken es sizes ss u p steps steps m i s e).1)
 
 -- OUR OWN WALKS, BLOCK BY BLOCK: as `own_accepted`, with each block as one run along the original axis a that its cells go along
-pub blocks_accepted : (mc : Machine) (es sizes : List ℕ) (ss : List ℤ) (u : Purpose) → (planned mc es sizes ss u).answer ≡ Served → length es ≤ 64
-    → (bs : List ℕ) (starts : List ℤ) → (begun_at (replaced (planned mc es sizes ss u).plan bs) starts).answer ≡ Served
+pub blocks_accepted : (mc : Machine) (es sizes : List ℕ) (ss : List ℤ) (u : Purpose) (q : Plan) → planned mc es sizes ss u ≡ Ok q → length es ≤ 64
+    → (bs : List ℕ) (starts : List ℤ) (w : Walk) → begun_at (replaced q bs) starts ≡ Ok w
     → (n a : ℕ)
-    → let p : Plan = replaced (planned mc es sizes ss u).plan bs in
-    let steps : List Stepped = steps_from p n (begun_at p starts).walk in
-    AlongAxis es sizes ss u p steps a → (m : ℕ) (s : Stepped) → nth steps m ≡ some s → s.answer ≡ Ended
+    → let p : Plan = replaced q bs in
+    let steps : List Stepped = steps_from p n w in
+    AlongAxis es sizes ss u p steps a → (m : ℕ) (s : Stepped) → nth steps m ≡ Some s → s.answer ≡ Ended
     → verdict es (runs_before es sizes ss u p steps a m) ≡ Accepted
-blocks_accepted mc es sizes ss u hp few bs starts hb n a along m s e h =
-    let p : Plan = replaced (planned mc es sizes ss u).plan bs in
-    let steps : List Stepped = steps_from p n (begun_at p starts).walk in
+blocks_accepted mc es sizes ss u q hp few bs starts w hb n a along m s e h =
+    let p : Plan = replaced q bs in
+    let steps : List Stepped = steps_from p n w in
     cells_accepted es (runs_before es sizes ss u p steps a m)
     (subst (EachOnce es) (sym (runs_cells es sizes ss u p steps a along m))
     (walk_once es sizes ss u p steps few starts (demand3_any mc es sizes ss u hp bs starts hb n) m s e h))

@@ -1,8 +1,7 @@
 -- Figures: verdicts and marks of short lists, a line as text, the order of the rows, and plans whose axis 0 is an original axis or is not, by
 -- computation on the definitions.
 -- Assumes nothing.
-use Rattle.std.specs.Prelude.{◌≡◌, refl, List, [], ◌∷◌, ℕ, zero, suc, pos, replicate}
-use Rattle.std.proofs.Math.Option.{none, some}
+use Rattle.std.specs.Prelude.{◌≡◌, refl, List, [], ◌∷◌, ℕ, zero, suc, pos, replicate, None, Some}
 use Rattle.std.proofs.Common.{arith}
 use Rattle.strided.specs.Base.{every, some_of}
 use Rattle.strided.specs.Digits.{digits_of}
@@ -72,9 +71,9 @@ pub judge_rows_lem : (es : List ℕ) (room : ℕ) → numbers (judge_rows es roo
 judge_rows_lem es room = refl
 
 -- 1 before 5 before 13 before 23
-pub rows_right : (judge_refused (replicate 65 4294967296) 0 ≡ some Rank) × (judge_refused (replicate 2 4294967296) 0 ≡ some Total)
-    × (judge_refused (65537 ∷ []) 0 ≡ some TextTotal) × (judge_refused (65536 ∷ []) 65535 ≡ some Visits) × (judge_refused [] 1 ≡ some Visits)
-    × (judge_refused (65536 ∷ []) 65536 ≡ none)
+pub rows_right : (judge_refused (replicate 65 4294967296) 0 ≡ Some Rank) × (judge_refused (replicate 2 4294967296) 0 ≡ Some Total)
+    × (judge_refused (65537 ∷ []) 0 ≡ Some TextTotal) × (judge_refused (65536 ∷ []) 65535 ≡ Some Visits) × (judge_refused [] 1 ≡ Some Visits)
+    × (judge_refused (65536 ∷ []) 65536 ≡ None)
 unfolding judge_refused
 rows_right = (refl, refl, refl, refl, refl, refl)
 

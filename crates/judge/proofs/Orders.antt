@@ -1,9 +1,8 @@
 -- THE ORDER OF LINES DOES NOT MATTER: lists of the same runs in another order have one verdict and leave the same marks, and their texts are
 -- judged alike. And extents, text and buffer fix the judgement.
 -- Assumes nothing.
-use Rattle.std.specs.Prelude.{◌≡◌, refl, Bool, true, false, cond, ◌||◌, List, ◌∷◌, ◌++◌, map, ℕ, ◌+◌, min, ltb, length, replicate}
+use Rattle.std.specs.Prelude.{◌≡◌, refl, Bool, true, false, cond, ◌||◌, List, ◌∷◌, ◌++◌, map, ℕ, ◌+◌, min, ltb, length, replicate, Option, None, Some}
 use Rattle.std.proofs.Common.{sym, ap, ◌∙◌, ⊎_elim, arith}
-use Rattle.std.proofs.Math.Option.{Option, none, some}
 use Rattle.strided.specs.Base.{run, every, some_of}
 use Rattle.strided.specs.Layout.{total}
 use Rattle.strided.specs.declared.Refusal.{Refusal}
@@ -11,7 +10,7 @@ use Rattle.laws.specs.Base.Counting.{count}
 use Rattle.judge.specs.Visits.{Visit, Formed, NotFormed}
 use Rattle.judge.specs.Judge.{cells, met, leaves, some_leaves, index_at, met_at, verdict, marks_of, marks_after, Judgement, judging, judge_refused, Judges}
 use Rattle.judge.specs.Counts.{often-count, count-append}
-use Rattle.judge.specs.declared.Judged.TheVariants.{Told}
+use Rattle.std.specs.Prelude.{Ok}
 use Rattle.judge.specs.declared.Verdict.TheVariants.{Accepted, Short, Double, Outside}
 
 -- the same runs, one after the other changed places
@@ -50,7 +49,7 @@ leaves_reordered es (chain r s) = leaves_reordered es r ∙ leaves_reordered es 
 abbrev judged_by : List ℕ → Bool → (ℕ → ℕ) → Judgement
 judged_by es out often =
     record {
-      answer = Told (cond out Outside (cond (some_of (λ n. ltb 1 (often n)) 0 (total es)) Double (cond (every (λ n. ltb 0 (often n)) 0 (total es)) Accepted Short)));
+      answer = Ok (cond out Outside (cond (some_of (λ n. ltb 1 (often n)) 0 (total es)) Double (cond (every (λ n. ltb 0 (often n)) 0 (total es)) Accepted Short)));
       marks = cond out (replicate (total es) 0) (map (λ n. min 1 (often n)) (run 0 (total es)));
     }
 
@@ -69,12 +68,12 @@ order_free es {vs} {ws} r =
 
 -- two judgements, each of a text and the same buffer: refused by a row alike, or each by its text
 module _ (es marks : List ℕ) (j k : Judgement) where
-  judged_alike : (a b : List ℕ) → Judges es a marks j → Judges es b marks k → (judge_refused es (length marks) ≡ none → j ≡ k) → j ≡ k
+  judged_alike : (a b : List ℕ) → Judges es a marks j → Judges es b marks k → (judge_refused es (length marks) ≡ None → j ≡ k) → j ≡ k
   judged_alike a b d e f = go (judge_refused es (length marks)) refl
     where
       go : (o : Option Refusal) → judge_refused es (length marks) ≡ o → j ≡ k
-      go none q = f q
-      go (some r) q = d.refused r q ∙ sym (e.refused r q)
+      go None q = f q
+      go (Some r) q = d.refused r q ∙ sym (e.refused r q)
 
   -- THE ENTRY judges the texts of both alike
   pub text_order_free : (a b : List ℕ) {vs ws : List Visit} → Formed (length es) a vs → Formed (length es) b ws → Reordered vs ws

@@ -1,9 +1,8 @@
 -- OUR OWN WALKS: "Each of our own walks at such a rank and total, followed to its end and turned into runs of single cells along axis 0, is
 -- accepted." First of any list that has each index of the layout once and no other; then of the indices told at the places of a walk.
 -- Assumes nothing.
-use Rattle.std.specs.Prelude.{◌≡◌, refl, false, List, [], ◌∷◌, map, ℕ, zero, suc, ◌*◌, ◌≤◌, ◌<◌, ℤ, length, take}
+use Rattle.std.specs.Prelude.{◌≡◌, refl, false, List, [], ◌∷◌, map, ℕ, zero, suc, ◌*◌, ◌≤◌, ◌<◌, ℤ, length, take, None, Some, Err, Result}
 use Rattle.std.proofs.Common.{sym, ap, ◌∙◌, subst, add-zero, zero-add, arith, le-ltb, eq-eqb, ne_eqb}
-use Rattle.std.proofs.Math.Option.{none, some}
 use Rattle.strided.specs.Base.{over, nth, run}
 use Rattle.strided.specs.Layout.{total, Within, max_u}
 use Rattle.strided.specs.Index.{told_original}
@@ -14,11 +13,10 @@ use Rattle.strided.specs.Demand3.{replaced, steps_from, Place, cell_of, Meets, D
 use Rattle.strided.specs.declared.Machine.{Machine}
 use Rattle.strided.specs.declared.Purpose.{Purpose}
 use Rattle.strided.specs.declared.Plan.{Plan}
-use Rattle.strided.specs.declared.Told.{Told as Index}
+use Rattle.strided.specs.declared.Told.{Told}
 use Rattle.strided.specs.declared.Stepped.{Stepped}
 use Rattle.strided.specs.declared.Outcome.{Outcome}
 use Rattle.strided.specs.declared.Outcome.TheVariants.{Block, Ended, Rejected}
-use Rattle.strided.specs.declared.Answer.TheVariants.{Served}
 use Rattle.laws.specs.Base.Lists.{nth-take}
 use Rattle.laws.specs.Base.Counting.{count}
 use Rattle.laws.specs.Base.Arrays.{take_counted}
@@ -32,7 +30,9 @@ use Rattle.judge.specs.Judge.{moved, verdict, judge_refused, Judgement, Judges}
 use Rattle.judge.specs.Counts.{Stands, counted, there, once_only, counted_stands, once_stands, nth-run, run-nth}
 use Rattle.judge.proofs.Verdicts.{Lies, accepted_iff}
 use Rattle.judge.specs.declared.Verdict.TheVariants.{Accepted}
-use Rattle.judge.specs.declared.Judged.TheVariants.{Told}
+use Rattle.std.specs.Prelude.{Ok}
+use Rattle.strided.specs.declared.Walk.{Walk}
+use Rattle.strided.specs.declared.Refusal.{Refusal}
 
 -- ---- runs of single cells along axis 0
 
@@ -47,7 +47,7 @@ moved_none [] = refl
 moved_none (y ∷ x) = ap (λ (k : ℕ). k ∷ x) (add-zero y)
 
 -- run i of them is the i-th index
-single_lies : (xs : List (List ℕ)) (i k : ℕ) (x : List ℕ) → Lies (singles xs) i k x → (nth xs i ≡ some x) × (k ≡ 0)
+single_lies : (xs : List (List ℕ)) (i k : ℕ) (x : List ℕ) → Lies (singles xs) i k x → (nth xs i ≡ Some x) × (k ≡ 0)
 single_lies [] i k x l = let q = l.there in let z : ◌≡◌ {A = ℕ} 0 1 = cc q in absurd (omega arith)
 single_lies (y ∷ xs) zero k x l =
     let q = l.there in
@@ -55,10 +55,10 @@ single_lies (y ∷ xs) zero k x l =
     let n : k < 1 = subst (λ (v : Visit). k < v.len) (sym e) l.below in
     let z : k ≡ 0 = omega arith in
     let s : x ≡ moved 0 k y = subst (λ (v : Visit). x ≡ moved v.axis k v.index) (sym e) l.is in
-    (ap (λ (w : List ℕ). some w) (sym (s ∙ ap (λ (j : ℕ). moved 0 j y) z ∙ moved_none y)), z)
+    (ap (λ (w : List ℕ). Some w) (sym (s ∙ ap (λ (j : ℕ). moved 0 j y) z ∙ moved_none y)), z)
 single_lies (y ∷ xs) (suc i) k x l = single_lies xs i k x (record { visit = l.visit; there = l.there; below = l.below; is = l.is })
 
-lies_single : (xs : List (List ℕ)) (i : ℕ) (x : List ℕ) → nth xs i ≡ some x → Lies (singles xs) i 0 x
+lies_single : (xs : List (List ℕ)) (i : ℕ) (x : List ℕ) → nth xs i ≡ Some x → Lies (singles xs) i 0 x
 lies_single [] i x e = let z : ◌≡◌ {A = ℕ} 0 1 = cc e in absurd (omega arith)
 lies_single (y ∷ xs) zero x e =
     let q : y ≡ x = cc e in
@@ -69,7 +69,7 @@ lies_single (y ∷ xs) (suc i) x e =
 
 -- each index of the layout stands in the list once, and no other
 pub record EachOnce (es : List ℕ) (xs : List (List ℕ)) : Type 0 where
-  pub inside : (i : ℕ) (x : List ℕ) → nth xs i ≡ some x → Within es x
+  pub inside : (i : ℕ) (x : List ℕ) → nth xs i ≡ Some x → Within es x
   pub once : (x : List ℕ) → Within es x → count x xs ≡ 1
 
 -- A LIST WITH EACH INDEX ONCE IS ACCEPTED, as runs of single cells
@@ -105,11 +105,11 @@ each_fits (e ∷ es) (y ∷ x) t w =
     tail_le zero b h = absurd (omega arith)
     tail_le (suc a) b h = omega arith
 
-pub singles_formed : (es : List ℕ) (xs : List (List ℕ)) → 0 < length es → total es ≤ 65536 → ((i : ℕ) (x : List ℕ) → nth xs i ≡ some x → Within es x)
+pub singles_formed : (es : List ℕ) (xs : List (List ℕ)) → 0 < length es → total es ≤ 65536 → ((i : ℕ) (x : List ℕ) → nth xs i ≡ Some x → Within es x)
     → Formed (length es) (over (singles xs) visit_line) (singles xs)
 singles_formed es xs h t w = record { form = refl; fits = go xs w }
   where
-    go : (xs : List (List ℕ)) → ((i : ℕ) (x : List ℕ) → nth xs i ≡ some x → Within es x) → Each (VisitFits (length es)) (singles xs)
+    go : (xs : List (List ℕ)) → ((i : ℕ) (x : List ℕ) → nth xs i ≡ Some x → Within es x) → Each (VisitFits (length es)) (singles xs)
     go [] w = tt
     go (x ∷ xs) w = (
       record {
@@ -124,7 +124,7 @@ singles_formed es xs h t w = record { form = refl; fits = go xs w }
     )
 
 -- and the entry takes it, with a buffer of the right length
-not-refused : (es : List ℕ) (room : ℕ) → 0 < length es → length es ≤ 64 → total es ≤ 65536 → room ≡ total es → judge_refused es room ≡ none
+not-refused : (es : List ℕ) (room : ℕ) → 0 < length es → length es ≤ 64 → total es ≤ 65536 → room ≡ total es → judge_refused es room ≡ None
 unfolding judge_refused
 not-refused es room h r t e =
     let five : (row5 es).applies ≡ false = row5-total es ∙ le-ltb max_u (total es) (omega arith) in
@@ -133,9 +133,9 @@ not-refused es room h r t e =
 -- THE ENTRY ACCEPTS a text of runs that are accepted
 pub text_accepted : (es text marks : List ℕ) (vs : List Visit) → Formed (length es) text vs → verdict es vs ≡ Accepted
     → 0 < length es → length es ≤ 64 → total es ≤ 65536 → length marks ≡ total es
-    → (j : Judgement) → Judges es text marks j → j.answer ≡ Told Accepted
+    → (j : Judgement) → Judges es text marks j → j.answer ≡ Ok Accepted
 text_accepted es text marks vs f v r1 r2 t e j d =
-    ap (λ (k : Judgement). k.answer) ((d.judged (not-refused es (length marks) r1 r2 t e)).formed vs f) ∙ ap Told v
+    ap (λ (k : Judgement). k.answer) ((d.judged (not-refused es (length marks) r1 r2 t e)).formed vs f) ∙ ap Ok v
 
 -- ---- the walk
 
@@ -145,9 +145,14 @@ told_by Block l = l
 told_by Ended l = []
 told_by (Rejected r) l = []
 
+-- the index that index finding tells
+abbrev pub index_of : Result Told Refusal → List ℕ
+index_of (Ok t) = t.index
+index_of (Err r) = []
+
 module _ (es sizes : List ℕ) (ss : List ℤ) (u : Purpose) (p : Plan) (steps : List Stepped) where
   abbrev pub told_at : Stepped → ℕ → List ℕ
-  told_at s k = take (length es) (told_original es sizes ss u (cell_of es sizes ss u p steps k s)).index
+  told_at s k = take (length es) (index_of (told_original es sizes ss u (cell_of es sizes ss u p steps k s)))
 
   abbrev pub told_in : Stepped → List (List ℕ)
   told_in s = told_by s.answer (map (told_at s) (run 0 s.length))
@@ -156,13 +161,13 @@ module _ (es sizes : List ℕ) (ss : List ℤ) (u : Purpose) (p : Plan) (steps :
   abbrev pub told_before : ℕ → List (List ℕ)
   told_before m = over (take m steps) told_in
 
-  told_block : (o : Outcome) (l : List (List ℕ)) (k : ℕ) (x : List ℕ) → nth (told_by o l) k ≡ some x → (o ≡ Block) × (nth l k ≡ some x)
+  told_block : (o : Outcome) (l : List (List ℕ)) (k : ℕ) (x : List ℕ) → nth (told_by o l) k ≡ Some x → (o ≡ Block) × (nth l k ≡ Some x)
   told_block Block l k x e = (refl, e)
   told_block Ended l k x e = let z : ◌≡◌ {A = ℕ} 0 1 = cc e in absurd (omega arith)
   told_block (Rejected r) l k x e = let z : ◌≡◌ {A = ℕ} 0 1 = cc e in absurd (omega arith)
 
   -- an element of the first m is one of all, and its number is below m
-  pub taken : (l : List Stepped) (m i : ℕ) (s : Stepped) → nth (take m l) i ≡ some s → (i < m) × (nth l i ≡ some s)
+  pub taken : (l : List Stepped) (m i : ℕ) (s : Stepped) → nth (take m l) i ≡ Some s → (i < m) × (nth l i ≡ Some s)
   taken l zero i s e = let z : ◌≡◌ {A = ℕ} 0 1 = cc e in absurd (omega arith)
   taken [] (suc m) i s e = let z : ◌≡◌ {A = ℕ} 0 1 = cc e in absurd (omega arith)
   taken (a ∷ l) (suc m) zero s e = (omega arith, e)
@@ -172,7 +177,7 @@ module _ (es sizes : List ℕ) (ss : List ℤ) (u : Purpose) (p : Plan) (steps :
     -- at a place where x is met, x is told
     pub told-met : (m k : ℕ) (x : List ℕ) (q : Meets es sizes ss u p steps m k x) → told_at q.by k ≡ x
     told-met m k x q =
-        ap (λ (t : Index). take (length es) t.index) (d.tells m k x q) ∙ take_counted 0 64 (length es) x (within-length es x q.inside) few
+        ap (λ (t : Result Told Refusal). take (length es) (index_of t)) (d.tells m k x q) ∙ take_counted 0 64 (length es) x (within-length es x q.inside) few
 
     -- what stands in the list of told indices is met there
     stands_meets : (m j l : ℕ) (x : List ℕ) → Stands (take m steps) told_in j l x → Meets es sizes ss u p steps j l x
@@ -192,8 +197,8 @@ module _ (es sizes : List ℕ) (ss : List ℤ) (u : Purpose) (p : Plan) (steps :
     meets_stands : (m i k : ℕ) (x : List ℕ) → i < m → Meets es sizes ss u p steps i k x → Stands (take m steps) told_in i k x
     meets_stands m i k x h q =
         let s : Stepped = q.by in
-        let n : nth (map (told_at s) (run 0 s.length)) k ≡ some x =
-        nth-run (told_at s) s.length 0 k q.place.below ∙ ap (λ (j : ℕ). some (told_at s j)) (zero-add k) ∙ ap (λ (v : List ℕ). some v) (told-met i k x q) in
+        let n : nth (map (told_at s) (run 0 s.length)) k ≡ Some x =
+        nth-run (told_at s) s.length 0 k q.place.below ∙ ap (λ (j : ℕ). Some (told_at s j)) (zero-add k) ∙ ap (λ (v : List ℕ). Some v) (told-met i k x q) in
         record {
           of = s;
           element = nth-take steps m i h ∙ q.place.there;
@@ -201,7 +206,7 @@ module _ (es sizes : List ℕ) (ss : List ℤ) (u : Purpose) (p : Plan) (steps :
         }
 
     -- the indices told before the end: each of the layout once, and no other
-    pub walk_once : (m : ℕ) (s : Stepped) → nth steps m ≡ some s → s.answer ≡ Ended → EachOnce es (told_before m)
+    pub walk_once : (m : ℕ) (s : Stepped) → nth steps m ≡ Some s → s.answer ≡ Ended → EachOnce es (told_before m)
     walk_once m s e h =
         record {
           inside = λ i x g. (
@@ -215,27 +220,27 @@ module _ (es sizes : List ℕ) (ss : List ℤ) (u : Purpose) (p : Plan) (steps :
 -- OUR OWN WALKS ARE ACCEPTED: a layout that planning does not refuse, of rank 1 to 64 and with at most 65,536 cells, any purpose, its plan with each
 -- block size left or replaced by any number, any starts that are not refused; the steps up to one that answers "ended", as runs of single
 -- cells along axis 0 at the indices told; and a mark buffer of the right length
-pub own_accepted : (mc : Machine) (es sizes : List ℕ) (ss : List ℤ) (u : Purpose) → (planned mc es sizes ss u).answer ≡ Served
+pub own_accepted : (mc : Machine) (es sizes : List ℕ) (ss : List ℤ) (u : Purpose) (q : Plan) → planned mc es sizes ss u ≡ Ok q
     → 0 < length es → length es ≤ 64 → total es ≤ 65536
-    → (bs : List ℕ) (starts : List ℤ) → (begun_at (replaced (planned mc es sizes ss u).plan bs) starts).answer ≡ Served
+    → (bs : List ℕ) (starts : List ℤ) (w : Walk) → begun_at (replaced q bs) starts ≡ Ok w
     → (n m : ℕ) (s : Stepped)
-    → nth (steps_from (replaced (planned mc es sizes ss u).plan bs) n (begun_at (replaced (planned mc es sizes ss u).plan bs) starts).walk) m ≡ some s
+    → nth (steps_from (replaced q bs) n w) m ≡ Some s
     → s.answer ≡ Ended
     → (marks : List ℕ) → length marks ≡ total es → (j : Judgement)
     → Judges es
-    (over (singles (told_before es sizes ss u (replaced (planned mc es sizes ss u).plan bs) (steps_from (replaced (planned mc es sizes ss u).plan bs) n (begun_at (replaced (planned mc es sizes ss u).plan bs) starts).walk) m)) visit_line)
+    (over (singles (told_before es sizes ss u (replaced q bs) (steps_from (replaced q bs) n w) m)) visit_line)
     marks j
-    → j.answer ≡ Told Accepted
-own_accepted mc es sizes ss u hp r1 r2 t bs starts hb n m s e h marks k j d =
-    let p : Plan = replaced (planned mc es sizes ss u).plan bs in
-    let steps : List Stepped = steps_from p n (begun_at p starts).walk in
+    → j.answer ≡ Ok Accepted
+own_accepted mc es sizes ss u q hp r1 r2 t bs starts w hb n m s e h marks k j d =
+    let p : Plan = replaced q bs in
+    let steps : List Stepped = steps_from p n w in
     let xs : List (List ℕ) = told_before es sizes ss u p steps m in
     let each : EachOnce es xs = walk_once es sizes ss u p steps r2 starts (demand3_any mc es sizes ss u hp bs starts hb n) m s e h in
     text_accepted es (over (singles xs) visit_line) marks (singles xs) (singles_formed es xs r1 t each.inside) (singles_accepted es xs each) r1 r2 t k j d
 
 -- and there is such a step: every walk comes to its end
-pub own_ends : (mc : Machine) (es sizes : List ℕ) (ss : List ℤ) (u : Purpose) → (planned mc es sizes ss u).answer ≡ Served
-    → (bs : List ℕ) (starts : List ℤ) → (begun_at (replaced (planned mc es sizes ss u).plan bs) starts).answer ≡ Served
+pub own_ends : (mc : Machine) (es sizes : List ℕ) (ss : List ℤ) (u : Purpose) (q : Plan) → planned mc es sizes ss u ≡ Ok q
+    → (bs : List ℕ) (starts : List ℤ) (w : Walk) → begun_at (replaced q bs) starts ≡ Ok w
     → (m : ℕ) × (s : Stepped)
-    × (nth (steps_from (replaced (planned mc es sizes ss u).plan bs) (suc m) (begun_at (replaced (planned mc es sizes ss u).plan bs) starts).walk) m ≡ some s) × (s.answer ≡ Ended)
-own_ends = walk_ends
+    × (nth (steps_from (replaced q bs) (suc m) w) m ≡ Some s) × (s.answer ≡ Ended)
+own_ends mc es sizes ss u q hp bs starts w hb = walk_ends mc es sizes ss u hp bs starts hb

@@ -1,10 +1,9 @@
 -- WHAT THE VERDICT MEANS, over indices: each of the four by a claim of its own, of which exactly one holds.
 -- Assumes nothing.
-use Rattle.std.specs.Prelude.{◌≡◌, ◌↔◌, Bool, true, false, cond, ◌&&◌, ◌||◌, List, [], ◌∷◌, ℕ, zero, suc, ◌+◌, ◌≤◌, ◌<◌, ltb}
+use Rattle.std.specs.Prelude.{◌≡◌, ◌↔◌, Bool, true, false, cond, ◌&&◌, ◌||◌, List, [], ◌∷◌, ℕ, zero, suc, ◌+◌, ◌≤◌, ◌<◌, ltb, Some}
 use Rattle.std.proofs.Math.Path.{refl}
 use Rattle.std.proofs.Common.{sym, ap, ◌∙◌, subst, ⊎_elim, true≢false, zero-add, arith, ltb-true, ltb-false}
 use Rattle.std.proofs.lemmas.Bool.{false≢true, not-true, not-false}
-use Rattle.std.proofs.Math.Option.{some}
 use Rattle.strided.specs.Base.{nth, every}
 use Rattle.strided.specs.Layout.{total, Within, within}
 use Rattle.laws.specs.Base.Tests.{and_both, both_and, or_none}
@@ -28,28 +27,28 @@ both_ways false false f g = refl
 
 -- ---- none leaves: every cell lies within the extents
 
-pub in_within : (es : List ℕ) (l : List (List ℕ)) → all_in es l ≡ true → (k : ℕ) (y : List ℕ) → nth l k ≡ some y → Within es y
+pub in_within : (es : List ℕ) (l : List (List ℕ)) → all_in es l ≡ true → (k : ℕ) (y : List ℕ) → nth l k ≡ Some y → Within es y
 in_within es [] h k y e = let z : ◌≡◌ {A = ℕ} 0 1 = cc e in absurd (omega arith)
 in_within es (x ∷ l) h zero y e =
     let q : x ≡ y = cc e in
     subst (Within es) q (true_within es x (and_both (within es x) (all_in es l) h).0)
 in_within es (x ∷ l) h (suc k) y e = in_within es l (and_both (within es x) (all_in es l) h).1 k y e
 
-pub within_in : (es : List ℕ) (l : List (List ℕ)) → ((k : ℕ) (y : List ℕ) → nth l k ≡ some y → Within es y) → all_in es l ≡ true
+pub within_in : (es : List ℕ) (l : List (List ℕ)) → ((k : ℕ) (y : List ℕ) → nth l k ≡ Some y → Within es y) → all_in es l ≡ true
 within_in es [] h = refl
 within_in es (x ∷ l) h = both_and (within es x) (all_in es l) (within_true es x (h 0 x refl)) (within_in es l (λ k y e. h (suc k) y e))
 
 pub in_cells_lem : (es : List ℕ) (v : Visit) → leaves es v ≡ false → (k : ℕ) → k < v.len → Within es (moved v.axis k v.index)
 in_cells_lem es v h k l =
     in_within es (cells v) (not-false (all_in es (cells v)) h) k (moved v.axis k v.index)
-    (nth-run (λ k. moved v.axis k v.index) v.len 0 k l ∙ ap (λ (j : ℕ). some (moved v.axis j v.index)) (zero-add k))
+    (nth-run (λ k. moved v.axis k v.index) v.len 0 k l ∙ ap (λ (j : ℕ). Some (moved v.axis j v.index)) (zero-add k))
 
 -- ---- where an index lies
 
 -- run i of the list has the index x as its cell k
 pub record Lies (vs : List Visit) (i k : ℕ) (x : List ℕ) : Type 0 where
   pub visit : Visit
-  pub there : nth vs i ≡ some visit
+  pub there : nth vs i ≡ Some visit
   pub below : k < visit.len
   pub is : x ≡ moved visit.axis k visit.index
 
@@ -60,8 +59,8 @@ lies_stands vs i k x h =
       of = v;
       element = h.there;
       inside =
-          nth-run (λ (k : ℕ). moved v.axis k v.index) v.len 0 k h.below ∙ ap (λ (j : ℕ). some (moved v.axis j v.index)) (zero-add k)
-          ∙ ap (λ (y : List ℕ). some y) (sym h.is);
+          nth-run (λ (k : ℕ). moved v.axis k v.index) v.len 0 k h.below ∙ ap (λ (j : ℕ). Some (moved v.axis j v.index)) (zero-add k)
+          ∙ ap (λ (y : List ℕ). Some y) (sym h.is);
     }
 
 pub stands_lies : (vs : List Visit) (i k : ℕ) (x : List ℕ) → Stands vs cells i k x → Lies vs i k x
@@ -108,12 +107,12 @@ some_leaves_none es (v ∷ vs) h (suc i) k x l =
     some_leaves_none es vs o.1 i k x (record { visit = l.visit; there = l.there; below = l.below; is = l.is })
 
 -- some index of a list is not within
-out-nth : (es : List ℕ) (l : List (List ℕ)) → all_in es l ≡ false → (k : ℕ) × (y : List ℕ) × (nth l k ≡ some y) × (Within es y → ⊥)
+out-nth : (es : List ℕ) (l : List (List ℕ)) → all_in es l ≡ false → (k : ℕ) × (y : List ℕ) × (nth l k ≡ Some y) × (Within es y → ⊥)
 out-nth es [] h = absurd (true≢false h)
 out-nth es (x ∷ l) h = go (within es x) refl h (out-nth es l)
   where
-    go : (b : Bool) → within es x ≡ b → (b && all_in es l) ≡ false → (all_in es l ≡ false → (k : ℕ) × (y : List ℕ) × (nth l k ≡ some y) × (Within es y → ⊥))
-        → (k : ℕ) × (y : List ℕ) × (nth (x ∷ l) k ≡ some y) × (Within es y → ⊥)
+    go : (b : Bool) → within es x ≡ b → (b && all_in es l) ≡ false → (all_in es l ≡ false → (k : ℕ) × (y : List ℕ) × (nth l k ≡ Some y) × (Within es y → ⊥))
+        → (k : ℕ) × (y : List ℕ) × (nth (x ∷ l) k ≡ Some y) × (Within es y → ⊥)
     go true q g ih = let r = ih g in (suc r.0, r.1, r.2, r.3)
     go false q g ih = (0, x, refl, λ w. absurd (false≢true (sym q ∙ within_true es x w)))
 

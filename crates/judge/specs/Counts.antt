@@ -1,8 +1,7 @@
 -- How often an index stands in a list of indices, and in lists joined: once exactly if at one place and at no other.
 -- Assumes nothing.
-use Rattle.std.specs.Prelude.{◌≡◌, refl, Bool, true, false, cond, ◌&&◌, List, [], ◌∷◌, ◌++◌, map, ℕ, zero, suc, ◌+◌, ◌*◌, ◌≤◌, ◌<◌, eqb}
+use Rattle.std.specs.Prelude.{◌≡◌, refl, Bool, true, false, cond, ◌&&◌, List, [], ◌∷◌, ◌++◌, map, ℕ, zero, suc, ◌+◌, ◌*◌, ◌≤◌, ◌<◌, eqb, Some}
 use Rattle.std.proofs.Common.{sym, ap, ap₂, ◌∙◌, ⊎_elim, arith}
-use Rattle.std.proofs.Math.Option.{some}
 use Rattle.strided.specs.Base.{over, nth, run}
 use Rattle.laws.specs.Base.Ranges.{below_or}
 use Rattle.laws.specs.Base.Sums.{sum-append, sum_pos, pos_sum, sum_twice}
@@ -29,24 +28,24 @@ module _ (x : List ℕ) where
   count-append l m = sum-append l m (same_list x)
 
   -- one that is counted is there, and back
-  pub counted : (l : List (List ℕ)) → 0 < count x l → (n : ℕ) × (nth l n ≡ some x)
+  pub counted : (l : List (List ℕ)) → 0 < count x l → (n : ℕ) × (nth l n ≡ Some x)
   counted l h =
       let r = sum_pos (same_list x) l h in
       let e : x ≡ r.1 = same_list_pos x r.1 r.3 in
-      (r.0, r.2 ∙ ap (λ (y : List ℕ). some y) (sym e))
+      (r.0, r.2 ∙ ap (λ (y : List ℕ). Some y) (sym e))
 
-  pub there : (l : List (List ℕ)) (n : ℕ) → nth l n ≡ some x → 0 < count x l
+  pub there : (l : List (List ℕ)) (n : ℕ) → nth l n ≡ Some x → 0 < count x l
   there l n e = pos_sum (same_list x) l n x e (omega (arith, same_list_refl x))
 
   -- at two places: counted twice
-  pub there_twice : (l : List (List ℕ)) (n m : ℕ) → nth l n ≡ some x → nth l m ≡ some x → n < m → 1 < count x l
+  pub there_twice : (l : List (List ℕ)) (n m : ℕ) → nth l n ≡ Some x → nth l m ≡ Some x → n < m → 1 < count x l
   there_twice l n m e f h = sum_twice (same_list x) l n m x x e f h (omega (arith, same_list_refl x)) (omega (arith, same_list_refl x))
 
-  nowhere : (l : List (List ℕ)) → ((n : ℕ) → nth l n ≡ some x → ⊥) → count x l ≡ 0
+  nowhere : (l : List (List ℕ)) → ((n : ℕ) → nth l n ≡ Some x → ⊥) → count x l ≡ 0
   nowhere l none = ⊎_elim (λ (h : 0 < count x l). absurd (none (counted l h).0 (counted l h).1)) (λ (h : count x l ≤ 0). omega arith) (below_or 0 (count x l))
 
   -- at one place and at no other: counted once
-  pub once : (l : List (List ℕ)) (n : ℕ) → nth l n ≡ some x → ((m : ℕ) → nth l m ≡ some x → m ≡ n) → count x l ≡ 1
+  pub once : (l : List (List ℕ)) (n : ℕ) → nth l n ≡ Some x → ((m : ℕ) → nth l m ≡ Some x → m ≡ n) → count x l ≡ 1
   once [] n e u = let z : ◌≡◌ {A = ℕ} 0 1 = cc in absurd (omega arith)
   once (y ∷ l) zero e u =
       let q : y ≡ x = cc in
@@ -58,12 +57,12 @@ module _ (x : List ℕ) where
       ⊎_elim
       (λ (h : 0 < same_list x y). (
       let q : x ≡ y = same_list_pos x y h in
-      let z : 0 ≡ suc n = u 0 (ap (λ (w : List ℕ). some w) (sym q)) in
+      let z : 0 ≡ suc n = u 0 (ap (λ (w : List ℕ). Some w) (sym q)) in
       absurd (omega arith)))
       (λ (h : same_list x y ≤ 0). omega (arith, r, h))
       (below_or 0 (same_list x y))
 
-  pub once_only : (l : List (List ℕ)) (n m : ℕ) → count x l ≤ 1 → nth l n ≡ some x → nth l m ≡ some x → n ≡ m
+  pub once_only : (l : List (List ℕ)) (n m : ℕ) → count x l ≤ 1 → nth l n ≡ Some x → nth l m ≡ Some x → n ≡ m
   once_only l n m c e f =
       ⊎_elim (λ (h : n < m). absurd (omega (arith, there_twice l n m e f h)))
       (λ (h : m ≤ n).
@@ -74,8 +73,8 @@ module _ (x : List ℕ) where
 
 pub record Stands {A : Type 0} (xs : List A) (f : A → List (List ℕ)) (i k : ℕ) (x : List ℕ) : Type 0 where
   pub of : A
-  pub element : nth xs i ≡ some of
-  pub inside : nth (f of) k ≡ some x
+  pub element : nth xs i ≡ Some of
+  pub inside : nth (f of) k ≡ Some x
 
 module _ {A : Type 0} (f : A → List (List ℕ)) (x : List ℕ) where
   next_stands : (a : A) (xs : List A) (i k : ℕ) → Stands xs f i k x → Stands (a ∷ xs) f (suc i) k x
@@ -84,7 +83,7 @@ module _ {A : Type 0} (f : A → List (List ℕ)) (x : List ℕ) where
   last_stands : (a : A) (xs : List A) (i k : ℕ) → Stands (a ∷ xs) f (suc i) k x → Stands xs f i k x
   last_stands a xs i k s = record { of = s.of; element = s.element; inside = s.inside }
 
-  first_stands : (a : A) (xs : List A) (k : ℕ) → nth (f a) k ≡ some x → Stands (a ∷ xs) f 0 k x
+  first_stands : (a : A) (xs : List A) (k : ℕ) → nth (f a) k ≡ Some x → Stands (a ∷ xs) f 0 k x
   first_stands a xs k e = record { of = a; element = refl; inside = e }
 
   pub stands_counted : (xs : List A) (i k : ℕ) → Stands xs f i k x → 0 < count x (over xs f)
@@ -92,7 +91,7 @@ module _ {A : Type 0} (f : A → List (List ℕ)) (x : List ℕ) where
   stands_counted (a ∷ xs) zero k s =
       let q = s.element in
       let e : a ≡ s.of = cc q in
-      let g : nth (f a) k ≡ some x = ap (λ (b : A). nth (f b) k) e ∙ s.inside in
+      let g : nth (f a) k ≡ Some x = ap (λ (b : A). nth (f b) k) e ∙ s.inside in
       omega (arith, count-append x (f a) (over xs f), there x (f a) k g)
   stands_counted (a ∷ xs) (suc i) k s = omega (arith, count-append x (f a) (over xs f), stands_counted xs i k (last_stands a xs i k s))
 
@@ -115,7 +114,7 @@ module _ {A : Type 0} (f : A → List (List ℕ)) (x : List ℕ) where
   once_stands (a ∷ xs) zero k s u =
       let q = s.element in
       let e : a ≡ s.of = cc q in
-      let g : nth (f a) k ≡ some x = ap (λ (b : A). nth (f b) k) e ∙ s.inside in
+      let g : nth (f a) k ≡ Some x = ap (λ (b : A). nth (f b) k) e ∙ s.inside in
       let p : count x (f a) ≡ 1 = once x (f a) k g (λ m h. (u 0 m (first_stands a xs m h)).1) in
       let r : count x (over xs f) ≡ 0 =
       empty (over xs f) (λ h.
@@ -144,18 +143,18 @@ module _ {A : Type 0} (f : A → List (List ℕ)) (x : List ℕ) where
       let r = t.element in
       let e : a ≡ s.of = cc q in
       let d : a ≡ t.of = cc r in
-      let g : nth (f a) k ≡ some x = ap (λ (b : A). nth (f b) k) e ∙ s.inside in
-      let h : nth (f a) l ≡ some x = ap (λ (b : A). nth (f b) l) d ∙ t.inside in
+      let g : nth (f a) k ≡ Some x = ap (λ (b : A). nth (f b) k) e ∙ s.inside in
+      let h : nth (f a) l ≡ Some x = ap (λ (b : A). nth (f b) l) d ∙ t.inside in
       (refl, once_only x (f a) k l (omega (arith, c, count-append x (f a) (over xs f))) g h)
   stands_once (a ∷ xs) zero k (suc j) l c s t =
       let q = s.element in
       let e : a ≡ s.of = cc q in
-      let g : nth (f a) k ≡ some x = ap (λ (b : A). nth (f b) k) e ∙ s.inside in
+      let g : nth (f a) k ≡ Some x = ap (λ (b : A). nth (f b) k) e ∙ s.inside in
       absurd (omega (arith, c, count-append x (f a) (over xs f), there x (f a) k g, stands_counted xs j l (last_stands a xs j l t)))
   stands_once (a ∷ xs) (suc i) k zero l c s t =
       let q = t.element in
       let e : a ≡ t.of = cc q in
-      let g : nth (f a) l ≡ some x = ap (λ (b : A). nth (f b) l) e ∙ t.inside in
+      let g : nth (f a) l ≡ Some x = ap (λ (b : A). nth (f b) l) e ∙ t.inside in
       absurd (omega (arith, c, count-append x (f a) (over xs f), there x (f a) l g, stands_counted xs i k (last_stands a xs i k s)))
   stands_once (a ∷ xs) (suc i) k (suc j) l c s t =
       let r = stands_once xs i k j l (omega (arith, c, count-append x (f a) (over xs f))) (last_stands a xs i k s) (last_stands a xs j l t) in
@@ -163,12 +162,12 @@ module _ {A : Type 0} (f : A → List (List ℕ)) (x : List ℕ) where
 
 -- ---- a mapped run of numbers
 
-pub nth-run : {B : Type 0} (f : ℕ → B) (n s k : ℕ) → k < n → nth (map f (run s n)) k ≡ some (f (s + k))
+pub nth-run : {B : Type 0} (f : ℕ → B) (n s k : ℕ) → k < n → nth (map f (run s n)) k ≡ Some (f (s + k))
 nth-run f zero s k h = absurd (omega arith)
-nth-run f (suc n) s zero h = let e : s ≡ s + 0 = omega arith in ap (λ (j : ℕ). some (f j)) e
-nth-run f (suc n) s (suc k) h = let e : suc s + k ≡ s + suc k = omega arith in nth-run f n (suc s) k (omega arith) ∙ ap (λ (j : ℕ). some (f j)) e
+nth-run f (suc n) s zero h = let e : s ≡ s + 0 = omega arith in ap (λ (j : ℕ). Some (f j)) e
+nth-run f (suc n) s (suc k) h = let e : suc s + k ≡ s + suc k = omega arith in nth-run f n (suc s) k (omega arith) ∙ ap (λ (j : ℕ). Some (f j)) e
 
-pub run-nth : {B : Type 0} (f : ℕ → B) (n s k : ℕ) (y : B) → nth (map f (run s n)) k ≡ some y → (k < n) × (y ≡ f (s + k))
+pub run-nth : {B : Type 0} (f : ℕ → B) (n s k : ℕ) (y : B) → nth (map f (run s n)) k ≡ Some y → (k < n) × (y ≡ f (s + k))
 run-nth f zero s k y e = let z : ◌≡◌ {A = ℕ} 0 1 = cc in absurd (omega arith)
 run-nth f (suc n) s zero y e =
     let q : f s ≡ y = cc in
@@ -181,18 +180,18 @@ run-nth f (suc n) s (suc k) y e =
 
 -- ---- twice: at two places
 
-pub twice_there : (x : List ℕ) (l : List (List ℕ)) → 1 < count x l → (n : ℕ) × (m : ℕ) × (nth l n ≡ some x) × (nth l m ≡ some x) × (n < m)
+pub twice_there : (x : List ℕ) (l : List (List ℕ)) → 1 < count x l → (n : ℕ) × (m : ℕ) × (nth l n ≡ Some x) × (nth l m ≡ Some x) × (n < m)
 twice_there x [] h = absurd (omega arith)
 twice_there x (y ∷ l) h = go (twice_there x l)
   where
-    go : (1 < count x l → (n : ℕ) × (m : ℕ) × (nth l n ≡ some x) × (nth l m ≡ some x) × (n < m))
-        → (n : ℕ) × (m : ℕ) × (nth (y ∷ l) n ≡ some x) × (nth (y ∷ l) m ≡ some x) × (n < m)
+    go : (1 < count x l → (n : ℕ) × (m : ℕ) × (nth l n ≡ Some x) × (nth l m ≡ Some x) × (n < m))
+        → (n : ℕ) × (m : ℕ) × (nth (y ∷ l) n ≡ Some x) × (nth (y ∷ l) m ≡ Some x) × (n < m)
     go ih = ⊎_elim
         (λ (g : 0 < same_list x y). (
         let e : x ≡ y = same_list_pos x y g in
         let s : same_list x y ≡ 1 = ap (same_list x) (sym e) ∙ same_list_refl x in
         let r = counted x l (omega (arith, h, s)) in
-        (0, suc r.0, ap (λ (w : List ℕ). some w) (sym e), r.1, omega arith)))
+        (0, suc r.0, ap (λ (w : List ℕ). Some w) (sym e), r.1, omega arith)))
         (λ (g : same_list x y ≤ 0). (
         let r = ih (omega (arith, h, g)) in
         let t : r.0 < r.1 = r.4 in

@@ -1,8 +1,7 @@
 -- ASK 12, THE VERDICT: "The tool accepts exactly if no run leaves the layout and each index of it lies in the runs exactly once". "A rejected
 -- list is called short, double or outside: outside if any run leaves the layout, else double if an index comes again, else short."
 -- Assumes nothing.
-use Rattle.std.specs.Prelude.{◌≡◌, ◌⊎◌, Bool, true, false, cond, ◌&&◌, ◌||◌, not, List, [], ◌∷◌, map, ℕ, zero, suc, ◌+◌, ◌/◌, ◌%◌, min, ltb, eqb, length, replicate}
-use Rattle.std.proofs.Math.Option.{Option, none, some}
+use Rattle.std.specs.Prelude.{◌≡◌, ◌⊎◌, Bool, true, false, cond, ◌&&◌, ◌||◌, not, List, [], ◌∷◌, map, ℕ, zero, suc, ◌+◌, ◌/◌, ◌%◌, min, ltb, eqb, length, replicate, Result, Ok, Err, Option, None, Some}
 use Rattle.strided.specs.Base.{over, run, every, some_of}
 use Rattle.strided.specs.Layout.{total, within}
 use Rattle.strided.specs.Refusals.{Row, refused_by, row1, row5}
@@ -11,8 +10,6 @@ use Rattle.strided.specs.declared.Refusal.TheVariants.{TextTotal, Visits}
 use Rattle.judge.specs.Visits.{Visit, Formed, NotFormed}
 use Rattle.judge.specs.declared.Verdict.{Verdict}
 use Rattle.judge.specs.declared.Verdict.TheVariants.{Accepted, Short, Double, Outside}
-use Rattle.judge.specs.declared.Judged.{Judged}
-use Rattle.judge.specs.declared.Judged.TheVariants.{Told, Refused}
 
 -- ---- the cells of a run
 
@@ -89,15 +86,15 @@ marks_after es vs = cond (some_leaves es vs) (replicate (total es) 0) (marks_of 
 
 -- the answer, and the lent bytes afterwards
 pub record Judgement : Type 0 where
-  pub answer : Judged
+  pub answer : Result Verdict Refusal
   pub marks : List ℕ
 
 -- "A refusal carries its number and nothing else": the lent bytes are as they were
 abbrev pub refusing : Refusal → List ℕ → Judgement
-refusing r marks = record { answer = Refused r; marks = marks }
+refusing r marks = record { answer = Err r; marks = marks }
 
 abbrev pub judging : List ℕ → List Visit → Judgement
-judging es vs = record { answer = Told (verdict es vs); marks = marks_after es vs }
+judging es vs = record { answer = Ok (verdict es vs); marks = marks_after es vs }
 
 -- 13, "from 65,537"; with a zero extent the total is 0
 abbrev pub cells_row : List ℕ → Row
@@ -125,5 +122,5 @@ pub record JudgesText (es text marks : List ℕ) (j : Judgement) : Type 0 where
 
 -- THE ENTRY: extents, a text and the lent mark buffer give this judgement
 pub record Judges (es text marks : List ℕ) (j : Judgement) : Type 0 where
-  pub refused : (r : Refusal) → judge_refused es (length marks) ≡ some r → j ≡ refusing r marks
-  pub judged : judge_refused es (length marks) ≡ none → JudgesText es text marks j
+  pub refused : (r : Refusal) → judge_refused es (length marks) ≡ Some r → j ≡ refusing r marks
+  pub judged : judge_refused es (length marks) ≡ None → JudgesText es text marks j

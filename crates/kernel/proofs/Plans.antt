@@ -3,7 +3,7 @@
 use mathlib.Core.Path.{◌≡◌, sym, ap, ◌∙◌, subst}
 use mathlib.Core.Bool.{Bool, true, false, cond}
 use mathlib.Core.List.{List}
-use mathlib.Core.Option.{none}
+use Rattle.std.specs.Prelude.{None, Ok, Result}
 use Prim.Native.Nat.{ℕ, ◌<◌}
 use native.Mathlib.Omega.{arith}
 use lib.Dec.{leb}
@@ -17,9 +17,6 @@ use Rattle.strided.specs.Fuse.{plan_axes}
 use Rattle.strided.specs.Plan.{stride_table, cut_blocks, plan_from, planned}
 use Rattle.strided.specs.declared.Machine.{Machine}
 use Rattle.strided.specs.declared.Purpose.{Purpose}
-use Rattle.strided.specs.declared.Answer.{Answer}
-use Rattle.strided.specs.declared.Answer.TheVariants.{Served}
-use Rattle.strided.specs.declared.Planned.{Planned}
 use Rattle.laws.specs.Base.Arrays.{length-padded}
 use Rattle.laws.specs.Base.Layouts.{total_nozero}
 use Rattle.laws.specs.Refusals.Accepted.{Accepted}
@@ -29,6 +26,8 @@ use Rattle.laws.specs.Plan.Bounds.{plan_few, array_small, array_near}
 use Rattle.fuse.specs.Named.{given}
 use Rattle.model.specs.Plannable.{Plannable}
 use Rattle.kernel.specs.Made.{Made}
+use Rattle.strided.specs.declared.Refusal.{Refusal}
+use Rattle.strided.specs.declared.Plan.{Plan}
 
 -- "Total at most 1,024": the order of fusing names each axis at its own place
 pub given_small : (es : List ℕ) (m : ℕ) (ss : List ℤ) (u : Purpose) → leb (total es) 1024 ≡ true → given (length es) ≡ padded 64 0 (fusing_order es m ss u)
@@ -76,7 +75,7 @@ module _ (es sizes : List ℕ) (ss : List ℤ) (u : Purpose) (a : Accepted es si
       }
 
 -- what is made is handed out
-pub serves : (mc : Machine) (es sizes : List ℕ) (ss : List ℤ) (u : Purpose) → planning_refused mc es sizes ss u ≡ none
-    → (rank : ℕ) (E B : List ℕ) (S : List ℤ) → Made mc es sizes ss u rank E B S → (a : Answer) → a ≡ Served
-    → ◌≡◌ {A = Planned} (record { answer = a; plan = record { rank = rank; operands = length sizes; extents = E; blocks = B; strides = S } }) (planned mc es sizes ss u)
-serves mc es sizes ss u h rank E B S m a s = (λ i. record { answer = s i; plan = m.is i }) ∙ sym (planned_served mc es sizes ss u h)
+pub serves : (mc : Machine) (es sizes : List ℕ) (ss : List ℤ) (u : Purpose) → planning_refused mc es sizes ss u ≡ None
+    → (rank : ℕ) (E B : List ℕ) (S : List ℤ) → Made mc es sizes ss u rank E B S
+    → ◌≡◌ {A = Result Plan Refusal} (Ok (record { rank = rank; operands = length sizes; extents = E; blocks = B; strides = S })) (planned mc es sizes ss u)
+serves mc es sizes ss u h rank E B S m = ap (λ (p : Plan). Ok p) m.is ∙ sym (planned_served mc es sizes ss u h)

@@ -16,7 +16,7 @@ use fuse::{given_axes_into, plan_axes_into};
 use layout::{check_planning, total_at_most};
 use model::block_sizes_into;
 use order::{SMALL_TENSOR_THRESHOLD, fusing_order_into};
-use strided::{Answer, Machine, Plan, Planned, Purpose};
+use strided::{Machine, Plan, Purpose, Refusal};
 
 // What a plan is for: layout, purpose and record alone fix the plan.
 #[derive(Clone, Copy)]
@@ -32,10 +32,8 @@ fn clear_up_to(table: &mut [i64; 512], from: usize, to: usize)
     requires table_len { length table.old ≡ 512 }
     ensures { table.new ≡ replicate to (pos 0) ++ drop to table.old }
 {
-    let mut i = from;
-    while i < to {
+    for i in from..to {
         table[i] = 0;
-        i += 1;
     }
 }
 
@@ -115,50 +113,36 @@ pub fn plan_into<'a>(
     rank
 }
 
-// THE PLAN of a layout for a purpose on a machine: rows 1 to 4, 24, 5, 6, then the plan. A refusal has a plan of zeros beside it.
+// THE PLAN of a layout for a purpose on a machine: rows 1 to 4, 24, 5, 6, then the plan.
 pub fn plan<'a>(
     extents: &'a [u64],
     sizes: &'a [u64],
     strides: &'a [i64],
     purpose: Purpose,
     machine: Machine,
-) -> Planned
+) -> Result<Plan, Refusal>
     ensures { result ≡ planned machine extents.now sizes.now strides.now purpose }
 {
+    check_planning(extents, sizes, strides, purpose, machine)?;
     let mut es = [0u64; 64];
     let mut blocks = [0u64; 64];
     let mut table = [0i64; 512];
-    let answer = check_planning(extents, sizes, strides, purpose, machine);
-    match answer {
-        Answer::Served => {
-            let aim = Aim { purpose, machine };
-            let rank = plan_into(
-                aim,
-                extents,
-                sizes,
-                strides,
-                &mut es,
-                &mut blocks,
-                &mut table,
-            );
-            let made = Plan {
-                rank,
-                operands: sizes.len(),
-                extents: es,
-                blocks,
-                strides: table,
-            };
-            Planned { answer, plan: made }
-        }
-        Answer::Refused(refusal) => {
-            let none = Plan {
-                rank: 0,
-                operands: 0,
-                extents: es,
-                blocks,
-                strides: table,
-            };
-            Planned { answer, plan: none }
-        }
-    }
+    let aim = Aim { purpose, machine };
+    let rank = plan_into(
+        aim,
+        extents,
+        sizes,
+        strides,
+        &mut es,
+        &mut blocks,
+        &mut table,
+    );
+    let made = Plan {
+        rank,
+        operands: sizes.len(),
+        extents: es,
+        blocks,
+        strides: table,
+    };
+    Ok(made)
 }

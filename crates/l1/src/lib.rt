@@ -5,12 +5,10 @@
 #![tactic(auto)]
 
 ghost use Rattle.std.specs.Prelude.{◌≡◌, ◌<◌, ◌≤◌, min, length, set};
-ghost use Rattle.strided.specs.Machine.{Allowed};
 ghost use Rattle.strided.specs.Fit.{fitted};
 ghost use Rattle.l1.specs.Live.{top, Live, Of, Few, product_by, load_by, enters_by, most_by, chosen_size};
 
-use region::{sat_add, sat_mul, wide};
-use strided::Machine;
+use region::AllowedMachine;
 
 // Of one operand the axes before its reuse axis: their number, 0 if it does not count; and those whose byte stride is a multiple of the way,
 // axis i as bit i.
@@ -41,10 +39,15 @@ impl L1Sets {
     const TOP: u64 = 17;
 
     // The live axes of operand k, whose size is given. Their byte strides are a line at least, so none is 0.
-    fn live_axes(machine: Machine, bytes: &[u32; 512], size: u64, rank: usize, k: usize) -> LiveAxes
-        requires allowed { Allowed machine }
-        requires k_bound { (k < 8) × (rank ≤ 64) }
-        ensures { Live machine bytes.now size rank k result }
+    fn live_axes(
+        machine: AllowedMachine,
+        bytes: &[u32; 512],
+        size: u64,
+        rank: usize,
+        k: usize,
+    ) -> LiveAxes
+        requires { (k < 8) × (rank ≤ 64) }
+        ensures { Live machine.numbers bytes.now size rank k result }
     {
         let none = LiveAxes {
             count: 0,
@@ -54,32 +57,28 @@ impl L1Sets {
             return none;
         }
         let mut aliased: u64 = 0;
-        let mut i = 0;
-        while i < rank {
-            let s = wide(bytes[k * 64 + i]);
-            if s < machine.line {
-                return LiveAxes {
-                    count: i,
-                    aliased: aliased,
-                };
+        for i in 0..rank {
+            let s = u64::from(bytes[k * 64 + i]);
+            if s < machine.numbers.line {
+                return LiveAxes { count: i, aliased };
             }
-            aliased += ((s % machine.way == 0) as u64) << i;
-            i += 1;
+            aliased += u64::from(s % machine.numbers.way == 0) << i;
         }
         none
     }
 
-    fn of<'a>(machine: Machine, bytes: &'a [u32; 512], sizes: &'a [u64], rank: usize) -> L1Sets
-        requires allowed { Allowed machine }
-        requires rank_bound { (rank ≤ 64) × (length sizes.now ≡ 2) }
-        ensures { Of machine bytes.now sizes.now rank result }
+    fn of<'a>(
+        machine: AllowedMachine,
+        bytes: &'a [u32; 512],
+        sizes: &'a [u64],
+        rank: usize,
+    ) -> L1Sets
+        requires { (rank ≤ 64) × (length sizes.now ≡ 2) }
+        ensures { Of machine.numbers bytes.now sizes.now rank result }
     {
         let first = Self::live_axes(machine, bytes, sizes[0], rank, 0);
         let second = Self::live_axes(machine, bytes, sizes[1], rank, 1);
-        L1Sets {
-            first: first,
-            second: second,
-        }
+        L1Sets { first, second }
     }
 
     // The lines of one set that an operand keeps live; 0 if it does not count.
@@ -87,13 +86,11 @@ impl L1Sets {
         requires { live.count ≤ 64 }
         ensures { result ≡ min (product_by live blocks.now live.count) top }
     {
-        let mut m = (0 < live.count) as u64;
-        let mut i = 0;
-        while i < live.count {
+        let mut m = u64::from(0 < live.count);
+        for i in 0..live.count {
             if (live.aliased >> i) % 2 == 1 {
-                m = sat_mul(m, blocks[i], Self::TOP);
+                m = m.saturating_mul(blocks[i]).min(Self::TOP);
             }
-            i += 1;
         }
         m
     }
@@ -103,11 +100,9 @@ impl L1Sets {
         requires { Few self }
         ensures { result ≡ min (load_by self blocks.now) top }
     {
-        sat_add(
-            Self::operand_load(self.first, blocks),
-            Self::operand_load(self.second, blocks),
-            Self::TOP,
-        )
+        let first = Self::operand_load(self.first, blocks);
+        let second = Self::operand_load(self.second, blocks);
+        (first + second).min(Self::TOP)
     }
 
     // The block of axis i is put at x. Answers the load.
@@ -149,7 +144,7 @@ impl L1Sets {
     // The blocks with load at most the live lines, or with every block that may be shortened at 1. The outermost axis is shortened first, so
     // that the inner run stays long; blocks only shrink, so that the region still fits.
     pub fn fit<'a>(
-        machine: Machine,
+        machine: AllowedMachine,
         blocks: &mut [u64; 64],
         bytes: &'a [u32; 512],
         sizes: &'a [u64],
@@ -157,27 +152,23 @@ impl L1Sets {
         chosen: usize,
         rank: usize,
     )
-        requires allowed { Allowed machine }
-        requires rank_bound { ((rank ≤ 64) × (chosen < 8)) × (length sizes.now ≡ 2) }
+        requires { ((rank ≤ 64) × (chosen < 8)) × (length sizes.now ≡ 2) }
         ensures { blocks.new
-            ≡ fitted machine bytes.now sizes.now rank (chosen_size strides.now chosen) blocks.old }
+            ≡ fitted machine.numbers bytes.now sizes.now rank (chosen_size strides.now chosen) blocks.old }
     {
         let sets = Self::of(machine, bytes, sizes, rank);
-        if sets.load(blocks) <= machine.live {
+        if sets.load(blocks) <= machine.numbers.live {
             return;
         }
-        let mut n = rank;
-        while 0 < n {
-            let i = n - 1;
+        for i in (0..rank).rev() {
             let whole = blocks[i];
             // The order in which a cell of the chosen operand is written never changes: an axis along which it does not move is left alone.
             if (strides[chosen * 64 + i] != 0) & (sets.enters(i) & (1 < whole)) {
-                if sets.set_block(blocks, i, 1) <= machine.live {
-                    sets.widen(machine.live, blocks, i, whole);
+                if sets.set_block(blocks, i, 1) <= machine.numbers.live {
+                    sets.widen(machine.numbers.live, blocks, i, whole);
                     return;
                 }
             }
-            n -= 1;
         }
     }
 }

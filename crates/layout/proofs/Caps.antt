@@ -1,8 +1,7 @@
 -- Laws of products and sums that stop at a cap, and of the reach made with them. Assumes nothing.
-use mathlib.Core.Path.{◌≡◌, ap, ap₂, ◌∙◌, subst}
+use mathlib.Core.Path.{◌≡◌, ap, ap₂, ◌∙◌}
 use mathlib.Core.List.{List, []}
-use Prim.Native.Nat.{ℕ, ◌+◌, ◌-◌, ◌*◌, ◌/◌, ◌^◌, ◌≤◌, ◌<◌, min}
-use native.Mathlib.Nat.{le_trans, mul-le-mul_left, mul_comm, div-mul-le_self, div-lt_iff_lt-mul, zero-mul}
+use Prim.Native.Nat.{ℕ, ◌+◌, ◌-◌, ◌*◌, ◌^◌, ◌≤◌, ◌<◌, min}
 use native.Mathlib.Numerals.{add-one}
 use native.Mathlib.Omega.{arith}
 use lib.IntN.{ℤ, pos, nat_abs}
@@ -13,19 +12,6 @@ use mir.Val.{to_z, of_z}
 use mir.Facts.{to_z-of_z}
 use lib.Seq.{drop-cons, drop-length}
 use Rattle.strided.specs.Layout.{reach}
-
-pub none_is : (a b cap : ℕ) → a ≡ 0 → 0 ≡ min (a * b) cap
-none_is a b cap h = let z : a * b ≡ 0 = ap (λ (n : ℕ). n * b) h ∙ zero-mul b in omega arith
-
-pub past_is : (a b cap : ℕ) → (a ≡ 0 → ⊥) → cap / a < b → cap ≡ min (a * b) cap
-past_is a b cap nz h =
-    let p : 0 < a = omega arith in
-    let z : cap < b * a = (div-lt_iff_lt-mul p).0 h in
-    let y : b * a ≡ a * b = mul_comm b a in omega arith
-
-pub under : (a b cap : ℕ) → b ≤ cap / a → a * b ≤ cap
-under a b cap h =
-    le_trans (mul-le-mul_left a h) (subst (λ (n : ℕ). n ≤ cap) (mul_comm (cap / a) a) (div-mul-le_self cap a))
 
 -- ---- the reach, summed from axis 0 up
 

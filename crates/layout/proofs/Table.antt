@@ -2,7 +2,7 @@
 use mathlib.Core.Path.{◌≡◌, refl, sym, ap, ◌∙◌}
 use mathlib.Core.Bool.{Bool, true, false, ◌&&◌, ◌||◌}
 use mathlib.Core.List.{List, ◌∷◌}
-use mathlib.Core.Option.{none}
+use Rattle.std.specs.Prelude.{None, Err, Result}
 use Prim.Native.Nat.{ℕ, ◌*◌, ◌%◌, ◌≤◌}
 use native.Mathlib.Nat.{mul_comm, mul-le-mul_right}
 use native.Mathlib.Omega.{arith}
@@ -16,11 +16,10 @@ use Rattle.strided.specs.declared.Machine.{Machine}
 use Rattle.strided.specs.declared.Purpose.{Purpose}
 use Rattle.strided.specs.declared.Refusal.{Refusal}
 use Rattle.strided.specs.declared.Refusal.TheVariants.{Record}
-use Rattle.strided.specs.declared.Answer.{Answer}
-use Rattle.strided.specs.declared.Answer.TheVariants.{Refused}
 use Rattle.laws.specs.Base.Refusals.{NoneApplies, none_applies}
 use Rattle.laws.specs.Refusals.Rows.{Past, rows_refuse, rows_pass, refused_some, few-axes, few_operands}
 use Rattle.layout.specs.Laid.{Laid}
+use Rattle.strided.specs.Index.{told}
 
 -- the first n of rows 1 to 4 do not apply
 abbrev pub Passed : ℕ → List ℕ → List ℕ → List ℤ → Purpose → Type 0
@@ -34,11 +33,11 @@ rows-laid es operands ss is h =
     record { apart = omega arith; all = omega arith }
 
 -- where none of rows 1 to 4 applies
-pub counts-laid : (es sizes : List ℕ) (ss : List ℤ) (u : Purpose) → refused_by (count_rows es sizes ss u) ≡ none → Laid es ss (length es) (length sizes)
+pub counts-laid : (es sizes : List ℕ) (ss : List ℤ) (u : Purpose) → refused_by (count_rows es sizes ss u) ≡ None → Laid es ss (length es) (length sizes)
 unfolding NoneApplies
 counts-laid es sizes ss u h = rows-laid es (length sizes) ss refl (none_applies (count_rows es sizes ss u) h).1.1.0
 
-pub counts-few : (es sizes : List ℕ) (ss : List ℤ) (u : Purpose) → refused_by (count_rows es sizes ss u) ≡ none → (length es ≤ 64) × (length ss ≤ 512)
+pub counts-few : (es sizes : List ℕ) (ss : List ℤ) (u : Purpose) → refused_by (count_rows es sizes ss u) ≡ None → (length es ≤ 64) × (length ss ≤ 512)
 unfolding NoneApplies
 counts-few es sizes ss u h =
     let n = none_applies (count_rows es sizes ss u) h in
@@ -63,8 +62,8 @@ allowed_is mc p q r s = λ i. p i && (q i && (r i && s i))
 
 -- ---- rows 1 to 4, then the others
 
-module _ (es sizes : List ℕ) (ss : List ℤ) (u : Purpose) (passed : refused_by (count_rows es sizes ss u) ≡ none) where
-  pub layout_spans : {a : Answer} → a ≡ answered (refused_by (span_rows es sizes ss)) → a ≡ answered (layout_refused es sizes ss u)
+module _ (es sizes : List ℕ) (ss : List ℤ) (u : Purpose) (passed : refused_by (count_rows es sizes ss u) ≡ None) where
+  pub layout_spans : {a : Result (Unit {0}) Refusal} → a ≡ answered (refused_by (span_rows es sizes ss)) → a ≡ answered (layout_refused es sizes ss u)
   unfolding layout_refused
   layout_spans h = h ∙ ap answered (sym (rows_pass (count_rows es sizes ss u) (span_rows es sizes ss) passed))
 
@@ -73,17 +72,17 @@ module _ (es sizes : List ℕ) (ss : List ℤ) (u : Purpose) (passed : refused_b
     unfolding planning_refused
     behind = ap answered (sym (rows_pass (count_rows es sizes ss u) (row24 mc ∷ span_rows es sizes ss) passed))
 
-    pub planning_spans : {a : Answer} → allowed mc ≡ true → a ≡ answered (refused_by (span_rows es sizes ss)) → a ≡ answered (planning_refused mc es sizes ss u)
+    pub planning_spans : {a : Result (Unit {0}) Refusal} → allowed mc ≡ true → a ≡ answered (refused_by (span_rows es sizes ss)) → a ≡ answered (planning_refused mc es sizes ss u)
     planning_spans t h = h ∙ sym (rw t) ∙ behind
 
-    pub planning_record : allowed mc ≡ false → Refused Record ≡ answered (planning_refused mc es sizes ss u)
+    pub planning_record : allowed mc ≡ false → Err Record ≡ answered (planning_refused mc es sizes ss u)
     planning_record t = sym (rw t) ∙ behind
 
-module _ (es sizes : List ℕ) (ss : List ℤ) (u : Purpose) (r : Refusal) (told : answered (refused_by (count_rows es sizes ss u)) ≡ Refused r) where
-  pub layout_counts_refuse : Refused r ≡ answered (layout_refused es sizes ss u)
+module _ (es sizes : List ℕ) (ss : List ℤ) (u : Purpose) (r : Refusal) (told : answered (refused_by (count_rows es sizes ss u)) ≡ Err r) where
+  pub layout_counts_refuse : Err r ≡ answered (layout_refused es sizes ss u)
   unfolding layout_refused
-  layout_counts_refuse = sym (ap answered (rows_refuse (count_rows es sizes ss u) (span_rows es sizes ss) r (refused_some (refused_by (count_rows es sizes ss u)) told)))
+  layout_counts_refuse = sym (ap answered (rows_refuse (count_rows es sizes ss u) (span_rows es sizes ss) r (refused_some (refused_by (count_rows es sizes ss u)) _ told)))
 
-  pub planning_counts_refuse : (mc : Machine) → Refused r ≡ answered (planning_refused mc es sizes ss u)
+  pub planning_counts_refuse : (mc : Machine) → Err r ≡ answered (planning_refused mc es sizes ss u)
   unfolding planning_refused
-  planning_counts_refuse mc = sym (ap answered (rows_refuse (count_rows es sizes ss u) (row24 mc ∷ span_rows es sizes ss) r (refused_some (refused_by (count_rows es sizes ss u)) told)))
+  planning_counts_refuse mc = sym (ap answered (rows_refuse (count_rows es sizes ss u) (row24 mc ∷ span_rows es sizes ss) r (refused_some (refused_by (count_rows es sizes ss u)) _ told)))

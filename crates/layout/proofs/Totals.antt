@@ -2,49 +2,39 @@
 use mathlib.Core.Path.{◌≡◌, refl, sym, ◌∙◌, ap}
 use mathlib.Core.Bool.{Bool, true, false, false≢true}
 use mathlib.Core.List.{List, [], ◌∷◌}
-use Prim.Native.Nat.{ℕ, zero, suc, ◌+◌, ◌*◌, ◌-◌, ◌/◌, ◌^◌, ◌≤◌, ◌<◌}
-use native.Mathlib.Nat.{le_trans, mul-le-mul_left, mul-le-mul_right, mul_assoc, zero-mul, mul-zero, mul-one, div-mul-le_self, div-lt_iff_lt-mul}
+use Prim.Native.Nat.{ℕ, zero, suc, ◌+◌, ◌*◌, ◌-◌, ◌^◌, ◌≤◌, ◌<◌}
+use native.Mathlib.Nat.{le_trans, mul-le-mul_left, mul-le-mul_right, mul_assoc, zero-mul, mul-zero, mul-one}
 use native.Mathlib.Numerals.{add-one}
 use native.Mathlib.Omega.{arith}
 use lib.Dec.{ltb, leb, eqb}
 use lib.ListN.{length, get_or, take, drop, length-drop}
 use lib.Seq.{take_all}
 use borrow.Author.Tests.{lt-ltb, le-ltb, le-leb, lt-leb, ltb-true, ltb-false, eq-eqb, ne_eqb, eqb-true, eqb-false}
-use Rattle.layout.specs.declared.sizes.Total.{Total}
-use Rattle.layout.specs.declared.sizes.Total.TheVariants.{Fits, Over}
-use Rattle.strided.specs.Layout.{total, has_zero}
+use Rattle.std.specs.Prelude.{Option, Some, None, SomeIff, is_some, not}
+use Rattle.strided.specs.Layout.{total, has_zero, max_u}
 use Rattle.layout.specs.Held.{held, times_of}
 
-pub held_fits : (n : ℕ) → n < 2 ^ 64 → held n ≡ Fits n
+pub held_fits : (n : ℕ) → n < 2 ^ 64 → held n ≡ Some n
 unfolding held
 held_fits n h = rw (lt-ltb n (2 ^ 64) h)
 
-pub held-over : (n : ℕ) → 2 ^ 64 ≤ n → held n ≡ Over
+pub held-over : (n : ℕ) → 2 ^ 64 ≤ n → held n ≡ None
 unfolding held
 held-over n h = rw (le-ltb n (2 ^ 64) h)
 
-held-zero : (x e : ℕ) → e ≡ 0 → held (x * e) ≡ Fits 0
+held-zero : (x e : ℕ) → e ≡ 0 → held (x * e) ≡ Some 0
 held-zero x e h = ap held (ap (λ (k : ℕ). x * k) h ∙ mul-zero x) ∙ held_fits 0 (omega arith)
 
 -- ---- one factor
 
-pub times_none : (t : Total) (e : ℕ) → e ≡ 0 → Fits 0 ≡ times_of t e
+pub times_none : (t : Option ℕ) (e : ℕ) → e ≡ 0 → Some 0 ≡ times_of t e
 unfolding times_of
-times_none (Fits x) e h = sym (held-zero x e h)
-times_none Over e h = sym (rw (eq-eqb e 0 h))
+times_none (Some x) e h = sym (held-zero x e h)
+times_none None e h = sym (rw (eq-eqb e 0 h))
 
-pub times_over : (e : ℕ) → (e ≡ 0 → ⊥) → Over ≡ times_of Over e
+pub times_over : (e : ℕ) → (e ≡ 0 → ⊥) → None ≡ times_of None e
 unfolding times_of
 times_over e h = sym (rw (ne_eqb e 0 h))
-
-pub times_fits : (x e : ℕ) → x ≤ 18446744073709551615 / e → x * e < 2 ^ 64
-times_fits x e h =
-    let g : x * e ≤ 18446744073709551615 = le_trans (mul-le-mul_right e h) (div-mul-le_self 18446744073709551615 e) in omega arith
-
-pub times_past : (x e : ℕ) → (e ≡ 0 → ⊥) → 18446744073709551615 / e < x → 2 ^ 64 ≤ x * e
-times_past x e nz h =
-    let p : 0 < e = omega arith in
-    let g : 18446744073709551615 < x * e = (div-lt_iff_lt-mul p).0 h in omega arith
 
 -- ---- the loop
 
@@ -58,7 +48,7 @@ times_held x e = go (ltb x (2 ^ 64)) refl
         let p : 1 ≤ e = omega arith in
         let a : x * 1 ≤ x * e = mul-le-mul_left x p in omega (arith, mul-one x)
 
-    zero_or_lem : 2 ^ 64 ≤ x → (b : Bool) → eqb e 0 ≡ b → times_of Over e ≡ held (x * e)
+    zero_or_lem : 2 ^ 64 ≤ x → (b : Bool) → eqb e 0 ≡ b → times_of None e ≡ held (x * e)
     zero_or_lem h true q = rw q (sym (held-zero x e (eqb-true e 0 q)))
     zero_or_lem h false q = rw q (sym (held-over (x * e) (past h (eqb-false e 0 q))))
 
@@ -74,18 +64,17 @@ total-take [] i h = absurd (bad h)
 total-take (e ∷ es) zero h = omega arith
 total-take (e ∷ es) (suc i) h = rw (total-take es i (omega arith)) (omega arith)
 
-pub total_none : (es : List ℕ) → Fits 1 ≡ held (total (take 0 es))
+-- with one more extent
+pub total-next : (es : List ℕ) (i : ℕ) → i < length es → total (take (i + 1) es) ≡ total (take i es) * get_or es i 0
+total-next es i h = ap (λ (n : ℕ). total (take n es)) (add-one i) ∙ total-take es i h
+
+pub total_none : (es : List ℕ) → Some 1 ≡ held (total (take 0 es))
 total_none es = sym (held_fits 1 (omega arith))
 
-pub total_turn : (es : List ℕ) (i : ℕ) (t r : Total) → i < length es → t ≡ held (total (take i es)) → r ≡ times_of t (get_or es i 0) → r ≡ held (total (take (i + 1) es))
+pub total_turn : (es : List ℕ) (i : ℕ) (t r : Option ℕ) → i < length es → t ≡ held (total (take i es)) → r ≡ times_of t (get_or es i 0) → r ≡ held (total (take (i + 1) es))
 total_turn es i t r h p q =
-    q ∙ ap (λ (x : Total). times_of x (get_or es i 0)) p ∙ times_held (total (take i es)) (get_or es i 0)
+    q ∙ ap (λ (x : Option ℕ). times_of x (get_or es i 0)) p ∙ times_held (total (take i es)) (get_or es i 0)
     ∙ ap held (sym (ap (λ (n : ℕ). total (take n es)) (add-one i) ∙ total-take es i h))
-
-pub product_turn : (es : List ℕ) (i t : ℕ) (r : Total) → i < length es → t ≡ total (take i es) → r ≡ times_of (Fits t) (get_or es i 0) → r ≡ held (total (take (i + 1) es))
-unfolding times_of
-product_turn es i t r h p q =
-    q ∙ ap held (ap (λ (x : ℕ). x * get_or es i 0) p ∙ sym (ap (λ (n : ℕ). total (take n es)) (add-one i) ∙ total-take es i h))
 
 -- ---- once the product is above a limit
 
@@ -127,21 +116,19 @@ total_past es n limit h = ap has_zero (take_all (length es - n) (drop n es) (ome
 
 -- ---- which of the two it is
 
-module _ (n : ℕ) (t : Total) (is : t ≡ held n) where
-  pub fits_is : (x : ℕ) → t ≡ Fits x → (n < 2 ^ 64) × (x ≡ n)
-  fits_is x e = go (ltb n (2 ^ 64)) refl
-    where
-      go : (b : Bool) → ltb n (2 ^ 64) ≡ b → (n < 2 ^ 64) × (x ≡ n)
-      go true q = let f : held n ≡ Fits n = held_fits n (ltb-true n (2 ^ 64) q) in (ltb-true n (2 ^ 64) q, cc)
-      go false q =
-          let f : held n ≡ Over = held-over n (ltb-false n (2 ^ 64) q) in
-          let z : ◌≡◌ {A = ℕ} 0 1 = cc in absurd (omega arith)
+-- a checked product, as it is held
+pub held_checked : (r : Option ℕ) (n : ℕ) → SomeIff r (n < 2 ^ 64) n → r ≡ held n
+held_checked None n h = sym (held-over n (omega (arith, h)))
+held_checked (Some x) n h = ap (λ (m : ℕ). Some m) h.1 ∙ sym (held_fits n h.0)
 
-  pub over_is : t ≡ Over → 2 ^ 64 ≤ n
-  over_is e = go (ltb n (2 ^ 64)) refl
-    where
-      go : (b : Bool) → ltb n (2 ^ 64) ≡ b → 2 ^ 64 ≤ n
-      go true q =
-          let f : held n ≡ Fits n = held_fits n (ltb-true n (2 ^ 64) q) in
-          let z : ◌≡◌ {A = ℕ} 0 1 = cc in absurd (omega arith)
-      go false q = ltb-false n (2 ^ 64) q
+not_not : (b : Bool) {t : Bool} → t ≡ not b → b ≡ not t
+not_not true e = ap not (sym e)
+not_not false e = ap not (sym e)
+
+-- whether none is held: b is its negation's
+pub none_held : (n : ℕ) (o : Option ℕ) (b : Bool) → o ≡ held n → is_some o ≡ not b → b ≡ ltb max_u n
+none_held n o b is s = not_not b s ∙ ap (λ (p : Option ℕ). not (is_some p)) is ∙ go (ltb n (2 ^ 64)) refl
+  where
+    go : (c : Bool) → ltb n (2 ^ 64) ≡ c → not (is_some (held n)) ≡ ltb max_u n
+    go true q = rw (held_fits n (ltb-true n (2 ^ 64) q)) (sym (le-ltb max_u n (omega (arith, ltb-true n (2 ^ 64) q))))
+    go false q = rw (held-over n (ltb-false n (2 ^ 64) q)) (sym (lt-ltb max_u n (omega (arith, ltb-false n (2 ^ 64) q))))

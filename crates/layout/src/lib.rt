@@ -1,5 +1,5 @@
 // What a layout is refused for: rows 1 to 6 of the refusal table, with 24 among them where it is to be planned. Beside it what all later
-// crates read off a layout: the size of a stride, the total, the reach, the lead, the purpose, and the number of a refusal.
+// crates read off a layout: the total, the reach, the lead, the purpose, and the number of a refusal.
 #![tactic(auto)]
 
 ghost use Rattle.std.specs.Prelude.{◌≡◌, ◌≤◌, length};
@@ -8,7 +8,7 @@ ghost use Rattle.strided.specs.Refusals.{number, negated, refused_by, answered, 
 ghost use Rattle.strided.specs.Memory.{purpose_of};
 ghost use Rattle.layout.specs.Laid.{Laid};
 
-use strided::{Answer, Machine, Purpose, Refusal};
+use strided::{Machine, Purpose, Refusal};
 
 mod near;
 pub mod rows;
@@ -18,37 +18,13 @@ pub use rows::{
     chosen_missing, machine_allowed, operands_wrong, rank_over, reach_at, reach_over,
     strides_wrong, total_over,
 };
-pub use sizes::{Total, has_zero, magnitude, total_at_most, total_len};
+pub use sizes::{has_zero, total_at_most, total_len};
 
 // The number of a refusal in document 01's table.
 pub fn number(refusal: Refusal) -> u64
     ensures { result ≡ number refusal }
 {
-    match refusal {
-        Refusal::Rank => 1,
-        Refusal::Operands => 2,
-        Refusal::StrideCount => 3,
-        Refusal::Chosen => 4,
-        Refusal::Total => 5,
-        Refusal::Reach => 6,
-        Refusal::StartCount => 8,
-        Refusal::Offsets => 9,
-        Refusal::State => 10,
-        Refusal::Index => 11,
-        Refusal::Form => 12,
-        Refusal::TextTotal => 13,
-        Refusal::Room => 14,
-        Refusal::Window => 15,
-        Refusal::CopySizes => 16,
-        Refusal::Buffer => 17,
-        Refusal::Repeats => 18,
-        Refusal::ByteStrides => 19,
-        Refusal::Ninth => 20,
-        Refusal::Leaving => 21,
-        Refusal::Slice => 22,
-        Refusal::Visits => 23,
-        Refusal::Record => 24,
-    }
+    refusal as u64
 }
 
 // That number negated: the answer of an entry that answers with one signed number.
@@ -64,8 +40,7 @@ pub fn lead(purpose: Purpose) -> u64
 {
     match purpose {
         Purpose::Pointwise => 0,
-        Purpose::PointwiseInto(k) => k,
-        Purpose::Fold(k) => k,
+        Purpose::PointwiseInto(k) | Purpose::Fold(k) => k,
     }
 }
 
@@ -73,13 +48,11 @@ pub fn lead(purpose: Purpose) -> u64
 pub fn purpose_of(kind: u64, chosen: u64) -> Purpose
     ensures { result ≡ purpose_of kind chosen }
 {
-    if kind == 0 {
-        return Purpose::Pointwise;
+    match kind {
+        0 => Purpose::Pointwise,
+        1 => Purpose::PointwiseInto(chosen),
+        _ => Purpose::Fold(chosen),
     }
-    if kind == 1 {
-        return Purpose::PointwiseInto(chosen);
-    }
-    Purpose::Fold(chosen)
 }
 
 // Rows 1 to 4, the least number first. Row 3 multiplies counts that rows 1 and 2 let through.
@@ -88,28 +61,28 @@ pub fn check_counts<'a>(
     sizes: &'a [u64],
     strides: &'a [i64],
     purpose: Purpose,
-) -> Answer
+) -> Result<(), Refusal>
     ensures { result ≡ answered (refused_by (count_rows extents.now sizes.now strides.now purpose)) }
 {
     let rank = extents.len();
     let operands = sizes.len();
     if rank_over(rank) {
-        return Answer::Refused(Refusal::Rank);
+        return Err(Refusal::Rank);
     }
     if operands_wrong(operands) {
-        return Answer::Refused(Refusal::Operands);
+        return Err(Refusal::Operands);
     }
     if strides_wrong(rank, operands, strides) {
-        return Answer::Refused(Refusal::StrideCount);
+        return Err(Refusal::StrideCount);
     }
     if chosen_missing(operands, purpose) {
-        return Answer::Refused(Refusal::Chosen);
+        return Err(Refusal::Chosen);
     }
-    Answer::Served
+    Ok(())
 }
 
 // Rows 5 and 6. Row 6 reads the strides that row 3 counted.
-fn check_spans<'a>(extents: &'a [u64], sizes: &'a [u64], strides: &'a [i64]) -> Answer
+fn check_spans<'a>(extents: &'a [u64], sizes: &'a [u64], strides: &'a [i64]) -> Result<(), Refusal>
     requires laid { Laid extents.now strides.now (length extents.now) (length sizes.now) }
     requires extents_len_bound { (length extents.now ≤ 64) × (length strides.now ≤ 512) }
     ensures { result ≡ answered (refused_by (span_rows extents.now sizes.now strides.now)) }
@@ -117,15 +90,15 @@ fn check_spans<'a>(extents: &'a [u64], sizes: &'a [u64], strides: &'a [i64]) -> 
     let rank = extents.len();
     let operands = sizes.len();
     if total_over(extents) {
-        return Answer::Refused(Refusal::Total);
+        return Err(Refusal::Total);
     }
     if near::small_layout(extents, strides) {
-        return Answer::Served;
+        return Ok(());
     }
     if reach_over(extents, strides, rank, operands) {
-        return Answer::Refused(Refusal::Reach);
+        return Err(Refusal::Reach);
     }
-    Answer::Served
+    Ok(())
 }
 
 // Rows 1 to 6, the least number first: what index finding refuses a layout for, and the text.
@@ -134,14 +107,11 @@ pub fn check_layout<'a>(
     sizes: &'a [u64],
     strides: &'a [i64],
     purpose: Purpose,
-) -> Answer
+) -> Result<(), Refusal>
     ensures { result ≡ answered (layout_refused extents.now sizes.now strides.now purpose) }
 {
-    let counts = check_counts(extents, sizes, strides, purpose);
-    match counts {
-        Answer::Served => check_spans(extents, sizes, strides),
-        Answer::Refused(refusal) => counts,
-    }
+    check_counts(extents, sizes, strides, purpose)?;
+    check_spans(extents, sizes, strides)
 }
 
 // Rows 1 to 4, 24, 5, 6: what planning refuses.
@@ -151,18 +121,12 @@ pub fn check_planning<'a>(
     strides: &'a [i64],
     purpose: Purpose,
     machine: Machine,
-) -> Answer
+) -> Result<(), Refusal>
     ensures { result ≡ answered (planning_refused machine extents.now sizes.now strides.now purpose) }
 {
-    let counts = check_counts(extents, sizes, strides, purpose);
-    match counts {
-        Answer::Served => {
-            if machine_allowed(machine) {
-                check_spans(extents, sizes, strides)
-            } else {
-                Answer::Refused(Refusal::Record)
-            }
-        }
-        Answer::Refused(refusal) => counts,
+    check_counts(extents, sizes, strides, purpose)?;
+    if !machine_allowed(machine) {
+        return Err(Refusal::Record);
     }
+    check_spans(extents, sizes, strides)
 }

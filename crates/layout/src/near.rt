@@ -3,18 +3,14 @@
 ghost use Rattle.std.specs.Prelude.{◌≡◌, ◌&&◌, ◌≤◌, length};
 ghost use Rattle.layout.specs.Near.{short, near};
 
-use super::sizes::magnitude;
-
 // Whether every extent is below 2^16.
 fn all_short(extents: &[u64]) -> bool
     requires { length extents.now ≤ 64 }
     ensures { result ≡ short extents.now }
 {
     let mut above: u64 = 0;
-    let mut i: usize = 0;
-    while i < extents.len() {
-        above += extents[i] >> 16;
-        i += 1;
+    for e in extents {
+        above += *e >> 16;
     }
     above == 0
 }
@@ -25,11 +21,8 @@ fn all_near(strides: &[i64]) -> bool
     ensures { result ≡ near strides.now }
 {
     let mut above: u64 = 0;
-    let mut i: usize = 0;
-    while i < strides.len() {
-        let size = magnitude(strides[i]);
-        above += size >> 41;
-        i += 1;
+    for s in strides {
+        above += s.unsigned_abs() >> 41;
     }
     above == 0
 }
@@ -39,9 +32,5 @@ pub fn small_layout<'a>(extents: &'a [u64], strides: &'a [i64]) -> bool
     requires { (length extents.now ≤ 64) × (length strides.now ≤ 512) }
     ensures { result ≡ (short extents.now && near strides.now) }
 {
-    if all_short(extents) {
-        all_near(strides)
-    } else {
-        false
-    }
+    all_short(extents) && all_near(strides)
 }

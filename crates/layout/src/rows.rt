@@ -7,7 +7,7 @@ ghost use Rattle.strided.specs.Layout.{reach};
 ghost use Rattle.strided.specs.Refusals.{row1, row2, row3, row4, row5, row6};
 ghost use Rattle.layout.specs.Laid.{Laid, row_at, far_at};
 
-use super::sizes::{Total, has_zero, reach_of, total_len};
+use super::sizes::{has_zero, reach_of, total_len};
 use strided::{MAX_OPERANDS, MAX_RANK, Machine, Purpose};
 
 // Row 1.
@@ -38,8 +38,7 @@ pub fn chosen_missing(operands: usize, purpose: Purpose) -> bool
 {
     match purpose {
         Purpose::Pointwise => false,
-        Purpose::PointwiseInto(k) => operands as u64 <= k,
-        Purpose::Fold(k) => operands as u64 <= k,
+        Purpose::PointwiseInto(k) | Purpose::Fold(k) => operands as u64 <= k,
     }
 }
 
@@ -47,23 +46,14 @@ pub fn chosen_missing(operands: usize, purpose: Purpose) -> bool
 fn line_allowed(line: u64) -> bool
     ensures { result ≡ line_allowed line }
 {
-    if line == 32 {
-        return true;
-    }
-    if line == 64 {
-        return true;
-    }
-    if line == 128 {
-        return true;
-    }
-    line == 256
+    matches!(line, 32 | 64 | 128 | 256)
 }
 
 // A number between two, both included.
 fn between(low: u64, x: u64, high: u64) -> bool
     ensures { result ≡ leb low x && leb x high }
 {
-    if low <= x { x <= high } else { false }
+    low <= x && x <= high
 }
 
 // A way of the machine: whole lines, from one up to the cache.
@@ -71,36 +61,27 @@ fn way_allowed(line: u64, cache: u64, way: u64) -> bool
     requires { 0 < line }
     ensures { result ≡ eqb (way % line) 0 && (leb line way && leb way cache) }
 {
-    if way % line == 0 {
-        between(line, way, cache)
-    } else {
-        false
-    }
+    way % line == 0 && between(line, way, cache)
 }
 
 // Row 24, whether it does not apply. The line is tested first: the way is divided by it.
 pub fn machine_allowed(machine: Machine) -> bool
     ensures { result ≡ allowed machine }
 {
-    if line_allowed(machine.line) {
-        if between(4096, machine.cache, 1048576) {
-            if way_allowed(machine.line, machine.cache, machine.way) {
-                return between(1, machine.live, 16);
-            }
-        }
+    if !line_allowed(machine.line) {
+        return false;
     }
-    false
+    if !between(4096, machine.cache, 1048576) {
+        return false;
+    }
+    way_allowed(machine.line, machine.cache, machine.way) && between(1, machine.live, 16)
 }
 
 // Row 5. A zero extent makes the total 0.
 pub fn total_over(extents: &[u64]) -> bool
     ensures { result ≡ (row5 extents.now).applies }
 {
-    let t = total_len(extents);
-    match t {
-        Total::Fits(x) => false,
-        Total::Over => true,
-    }
+    total_len(extents).is_none()
 }
 
 // The reach of operand k, whose strides begin at k * pitch, or 2^63 where that is less.
@@ -118,12 +99,10 @@ fn some_far<'a>(extents: &'a [u64], strides: &'a [i64], pitch: usize, operands: 
     requires { Laid extents.now strides.now pitch operands }
     ensures { result ≡ some_of (far_at extents.now (row_at extents.now strides.now pitch)) 0 operands }
 {
-    let mut k: usize = 0;
-    while k < operands {
+    for k in 0..operands {
         if 9223372036854775807 < reach_at(extents, strides, pitch, k) {
             return true;
         }
-        k += 1;
     }
     false
 }
@@ -133,8 +112,5 @@ pub fn reach_over<'a>(extents: &'a [u64], strides: &'a [i64], pitch: usize, oper
     requires { Laid extents.now strides.now pitch operands }
     ensures { result ≡ (row6 extents.now operands (row_at extents.now strides.now pitch)).applies }
 {
-    if has_zero(extents) {
-        return false;
-    }
-    some_far(extents, strides, pitch, operands)
+    !has_zero(extents) && some_far(extents, strides, pitch, operands)
 }

@@ -1,34 +1,13 @@
-// The size of a stride, the total and the reach, in 64 bits and without a wrap anywhere: what does not fit is told, exactly what does.
+// The total and the reach, in 64 bits and without a wrap anywhere: what does not fit is told, exactly what does.
 ghost use Rattle.std.specs.Prelude.{◌≡◌, ◌+◌, ◌-◌, ◌*◌, ◌^◌, ◌≤◌, min, leb, nat_abs, length};
 ghost use Rattle.strided.specs.Layout.{total, has_zero, reach};
 ghost use Rattle.layout.specs.Held.{held, times_of};
-
-// The size of a stride. It has no overflow at the least i64 either.
-pub fn magnitude(s: i64) -> u64
-    ensures { result ≡ nat_abs s }
-{
-    if s < 0 {
-        ((-(s + 1)) as u64) + 1
-    } else {
-        s as u64
-    }
-}
 
 // The product, or the cap where that is less. The first test is the machine's own for a product that is too large: no division is left of it.
 pub fn mul_cap(a: u64, b: u64, cap: u64) -> u64
     ensures { result ≡ min (a * b) cap }
 {
-    if a == 0 {
-        return 0;
-    }
-    if 18446744073709551615 / a < b {
-        return cap;
-    }
-    let product = a * b;
-    if cap < product {
-        return cap;
-    }
-    product
+    a.saturating_mul(b).min(cap)
 }
 
 // The sum, or the cap where that is less.
@@ -36,64 +15,26 @@ pub fn add_cap(a: u64, b: u64, cap: u64) -> u64
     requires { a ≤ cap }
     ensures { result ≡ min (a + b) cap }
 {
-    if cap - a < b {
-        return cap;
-    }
-    a + b
+    a.saturating_add(b).min(cap)
 }
 
-// The lesser of two numbers.
-pub fn least(a: u64, b: u64) -> u64
-    ensures { result ≡ min a b }
-{
-    if a < b { a } else { b }
-}
-
-// One less, and 0 of 0.
-pub fn less_one(e: u64) -> u64
-    ensures { result ≡ e - 1 }
-{
-    if e == 0 {
-        return 0;
-    }
-    e - 1
-}
-
-// A total, where a u64 holds it.
-#[derive(Clone, Copy)]
-pub enum Total {
-    Fits(u64),
-    Over,
-}
-
-// The total with one more extent.
-pub fn times(t: Total, e: u64) -> Total
+// The total with one more extent. A total is told where a u64 holds it.
+pub fn times(t: Option<u64>, e: u64) -> Option<u64>
     ensures { result ≡ times_of t e }
 {
     if e == 0 {
-        return Total::Fits(0);
+        return Some(0);
     }
-    match t {
-        Total::Over => Total::Over,
-        Total::Fits(x) => {
-            if x <= 18446744073709551615 / e {
-                Total::Fits(x * e)
-            } else {
-                Total::Over
-            }
-        }
-    }
+    t?.checked_mul(e)
 }
 
 // The product of the extents. The loop goes on where it is over, since a later 0 makes it 0.
-pub fn total_len(extents: &[u64]) -> Total
+pub fn total_len(extents: &[u64]) -> Option<u64>
     ensures { result ≡ held (total extents.now) }
 {
-    let mut t = Total::Fits(1);
-    let mut i: usize = 0;
-    while i < extents.len() {
-        t = times(t, extents[i]);
-        i += 1;
+    let mut t = Some(1);
+    for e in extents {
+        t = times(t, *e);
     }
     t
 }
@@ -103,17 +44,11 @@ pub fn total_at_most(extents: &[u64], limit: u64) -> bool
     ensures { result ≡ leb (total extents.now) limit }
 {
     let mut t: u64 = 1;
-    let mut i: usize = 0;
-    while i < extents.len() {
-        let product = times(Total::Fits(t), extents[i]);
-        i += 1;
-        let Total::Fits(x) = product else {
-            return has_zero(&extents[i..]);
-        };
-        if limit < x {
-            return has_zero(&extents[i..]);
+    for (i, e) in extents.iter().enumerate() {
+        match t.checked_mul(*e) {
+            Some(x) if x <= limit => t = x,
+            _ => return has_zero(&extents[i + 1..]),
         }
-        t = x;
     }
     t <= limit
 }
@@ -122,14 +57,7 @@ pub fn total_at_most(extents: &[u64], limit: u64) -> bool
 pub fn has_zero(extents: &[u64]) -> bool
     ensures { result ≡ has_zero extents.now }
 {
-    let mut i: usize = 0;
-    while i < extents.len() {
-        if extents[i] == 0 {
-            return true;
-        }
-        i += 1;
-    }
-    false
+    extents.contains(&0)
 }
 
 // The reach of an operand, or 2^63 where that is less: above 2^63 - 1 the reach is refused.
@@ -138,12 +66,13 @@ pub fn reach_of<'a>(extents: &'a [u64], strides: &'a [i64]) -> u64
     ensures { result ≡ min (reach extents.now strides.now) (2 ^ 63) }
 {
     let mut sum: u64 = 0;
-    let mut i: usize = 0;
-    while i < extents.len() {
-        let size = magnitude(strides[i]);
-        let term = mul_cap(less_one(extents[i]), size, 9223372036854775808);
-        sum = add_cap(sum, term, 9223372036854775808);
-        i += 1;
+    for i in 0..extents.len() {
+        let way = mul_cap(
+            extents[i].saturating_sub(1),
+            strides[i].unsigned_abs(),
+            9223372036854775808,
+        );
+        sum = add_cap(sum, way, 9223372036854775808);
     }
     sum
 }

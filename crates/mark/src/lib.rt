@@ -8,7 +8,7 @@ ghost use Rattle.strided.specs.Mark.{mark_of, marked};
 use distinct::repeats;
 use layout::{has_zero, rank_over, reach_over, strides_wrong, total_at_most, total_over};
 use quick::{rising, some_stays};
-use strided::{Answer, Mark, Marked, Refusal};
+use strided::{Mark, Refusal};
 
 pub mod quick;
 
@@ -38,37 +38,21 @@ fn mark_of<'a>(extents: &'a [u64], strides: &'a [i64]) -> Mark
 }
 
 // The repeat mark: rows 1, 3, which reads one operand, 5 and 6.
-pub fn repeat_mark<'a>(extents: &'a [u64], strides: &'a [i64]) -> Marked
+pub fn repeat_mark<'a>(extents: &'a [u64], strides: &'a [i64]) -> Result<Mark, Refusal>
     ensures { result ≡ marked extents.now strides.now }
 {
     let rank = extents.len();
     if rank_over(rank) {
-        return Marked {
-            answer: Answer::Refused(Refusal::Rank),
-            mark: Mark::No,
-        };
+        return Err(Refusal::Rank);
     }
     if strides_wrong(rank, 1, strides) {
-        return Marked {
-            answer: Answer::Refused(Refusal::StrideCount),
-            mark: Mark::No,
-        };
+        return Err(Refusal::StrideCount);
     }
     if total_over(extents) {
-        return Marked {
-            answer: Answer::Refused(Refusal::Total),
-            mark: Mark::No,
-        };
+        return Err(Refusal::Total);
     }
     if reach_over(extents, strides, rank, 1) {
-        return Marked {
-            answer: Answer::Refused(Refusal::Reach),
-            mark: Mark::No,
-        };
+        return Err(Refusal::Reach);
     }
-    let mark = mark_of(extents, strides);
-    Marked {
-        answer: Answer::Served,
-        mark,
-    }
+    Ok(mark_of(extents, strides))
 }

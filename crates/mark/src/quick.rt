@@ -5,14 +5,11 @@ ghost use Rattle.strided.specs.Layout.{reach, max_i};
 ghost use Rattle.strided.specs.Mark.{stays_at, rises};
 ghost use Rattle.laws.specs.Mark.Sizes.{reach_up_to, ClearAt};
 
-use layout::magnitude;
-use layout::sizes::less_one;
-
 // Whether an axis has more than one index and none of them moves.
 fn stays(extent: u64, stride: i64) -> bool
     ensures { result ≡ (ltb 1 extent && eqb (nat_abs stride) 0) }
 {
-    if 1 < extent { stride == 0 } else { false }
+    1 < extent && stride == 0
 }
 
 // Whether some axis does.
@@ -20,12 +17,10 @@ pub fn some_stays<'a>(extents: &'a [u64], strides: &'a [i64]) -> bool
     requires { length strides.now ≡ length extents.now }
     ensures { result ≡ some_of (stays_at extents.now strides.now) 0 (length extents.now) }
 {
-    let mut i: usize = 0;
-    while i < extents.len() {
+    for i in 0..extents.len() {
         if stays(extents[i], strides[i]) {
             return true;
         }
-        i += 1;
     }
     false
 }
@@ -35,11 +30,12 @@ fn part_up_to(extent: u64, stride: i64, b: u64) -> u64
     requires { (extent - 1) * nat_abs stride ≤ max_i }
     ensures { result ≡ cond (leb (nat_abs stride) b) ((extent - 1) * nat_abs stride) 0 }
 {
-    let size = magnitude(stride);
+    let size = stride.unsigned_abs();
     if size <= b {
-        return less_one(extent) * size;
+        extent.saturating_sub(1) * size
+    } else {
+        0
     }
-    0
 }
 
 // The reach of the axes whose stride's size is at most b.
@@ -48,9 +44,7 @@ fn reach_up_to<'a>(extents: &'a [u64], strides: &'a [i64], b: u64) -> u64
     ensures { result ≡ reach_up_to b extents.now strides.now }
 {
     let mut sum: u64 = 0;
-    let mut i = extents.len();
-    while 0 < i {
-        i -= 1;
+    for i in (0..extents.len()).rev() {
         sum += part_up_to(extents[i], strides[i], b);
     }
     sum
@@ -65,7 +59,7 @@ fn is_clear<'a>(extents: &'a [u64], strides: &'a [i64], i: usize) -> bool
     if extent <= 1 {
         return true;
     }
-    let size = magnitude(strides[i]);
+    let size = strides[i].unsigned_abs();
     reach_up_to(extents, strides, size) < (extent - 1) * size + size
 }
 
@@ -75,11 +69,8 @@ pub fn rising<'a>(extents: &'a [u64], strides: &'a [i64]) -> bool
     requires { (length strides.now ≡ length extents.now) × (reach extents.now strides.now ≤ max_i) }
     ensures { result ≡ rises extents.now strides.now }
 {
-    let mut i: usize = 0;
-    while i < extents.len() {
-        if is_clear(extents, strides, i) {
-            i += 1;
-        } else {
+    for i in 0..extents.len() {
+        if !is_clear(extents, strides, i) {
             return false;
         }
     }

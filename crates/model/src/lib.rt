@@ -20,8 +20,7 @@ use block::compute_blocks_at;
 use decline::declines_tiles;
 use fuse::compute_costs;
 use l1::L1Sets;
-use layout::sizes::magnitude;
-use region::{Tail, memory_region};
+use region::{AllowedMachine, Tail, memory_region};
 use strided::{Machine, Purpose};
 use wide::Wide;
 
@@ -31,9 +30,8 @@ use ranks::plan_ranks_into;
 
 // What the table holds for a byte stride: itself if it has 32 bits; else, counted from the first multiple of the way above the cache, what it
 // leaves by the way.
-fn byte_image(machine: Machine, stride: u64, size: u64) -> u32
-    requires { Allowed machine }
-    ensures { result ≡ image machine (stride * size) }
+fn byte_image(machine: AllowedMachine, stride: u64, size: u64) -> u32
+    ensures { result ≡ image machine.numbers (stride * size) }
 {
     let bytes = Wide::product(stride, size);
     let limit = Wide {
@@ -43,52 +41,45 @@ fn byte_image(machine: Machine, stride: u64, size: u64) -> u32
     if bytes.below(limit) {
         return bytes.low as u32;
     }
-    let beyond = (machine.cache / machine.way + 1) * machine.way;
-    (beyond + bytes.remainder(machine.way)) as u32
+    let beyond = (machine.numbers.cache / machine.numbers.way + 1) * machine.numbers.way;
+    (beyond + bytes.remainder(machine.numbers.way)) as u32
 }
 
 // Operand k's byte strides, put into the table behind those of the operands before it: stride size times element size.
 fn put_bytes<'a>(
-    machine: Machine,
+    machine: AllowedMachine,
     table: &mut [u32; 512],
     sizes: &'a [u64],
     strides: &'a [i64; 512],
     rank: usize,
     k: usize,
 )
-    requires allowed { Allowed machine }
     requires k_in_bounds { (k < length sizes.now) × ((k < 8) × (rank ≤ 64)) }
-    requires table_value { table.old ≡ byte_rows machine sizes.now strides.now rank k }
-    ensures { table.new ≡ byte_rows machine sizes.now strides.now rank (k + 1) }
+    requires table_value { table.old ≡ byte_rows machine.numbers sizes.now strides.now rank k }
+    ensures { table.new ≡ byte_rows machine.numbers sizes.now strides.now rank (k + 1) }
 {
     let size = sizes[k];
     let from = k * 64;
-    let mut i: usize = 0;
-    while i < rank {
+    for i in 0..rank {
         let t = strides[from + i];
-        table[from + i] = byte_image(machine, magnitude(t), size);
-        i += 1;
+        table[from + i] = byte_image(machine, t.unsigned_abs(), size);
     }
 }
 
 // The byte strides of every operand, written into a table of zeros.
 fn byte_table_into<'a>(
-    machine: Machine,
+    machine: AllowedMachine,
     sizes: &'a [u64],
     strides: &'a [i64; 512],
     rank: usize,
     table: &mut [u32; 512],
 )
-    requires allowed { Allowed machine }
     requires sizes_len_bound { (length sizes.now ≤ 8) × (rank ≤ 64) }
     requires table_value { table.old ≡ replicate 512 0 }
-    ensures { table.new ≡ byte_rows machine sizes.now strides.now rank (length sizes.now) }
+    ensures { table.new ≡ byte_rows machine.numbers sizes.now strides.now rank (length sizes.now) }
 {
-    let operands = sizes.len();
-    let mut k: usize = 0;
-    while k < operands {
+    for k in 0..sizes.len() {
         put_bytes(machine, table, sizes, strides, rank, k);
-        k += 1;
     }
 }
 
@@ -97,20 +88,16 @@ fn strictly_increasing(strides: &[i64; 512], rank: usize, k: usize) -> bool
     requires { (k < 8) × ((0 < rank) × (rank ≤ 64)) }
     ensures { result ≡ increasing strides.now rank k }
 {
-    let first = strides[k * 64];
-    let mut last = magnitude(first);
+    let mut last = strides[k * 64].unsigned_abs();
     if last == 0 {
         return false;
     }
-    let mut i = 1;
-    while i < rank {
-        let t = strides[k * 64 + i];
-        let m = magnitude(t);
+    for i in 1..rank {
+        let m = strides[k * 64 + i].unsigned_abs();
         if m <= last {
             return false;
         }
         last = m;
-        i += 1;
     }
     true
 }
@@ -120,15 +107,8 @@ fn all_grow<'a>(sizes: &'a [u64], strides: &'a [i64; 512], rank: usize) -> bool
     requires { (length sizes.now ≤ 8) × ((0 < rank) × (rank ≤ 64)) }
     ensures { result ≡ every (grows sizes.now strides.now rank) 0 (length sizes.now) }
 {
-    let operands = sizes.len();
-    let mut k = 0;
-    while k < operands {
-        if sizes[k] == 0 {
-            return false;
-        }
-        if strictly_increasing(strides, rank, k) {
-            k += 1;
-        } else {
+    for k in 0..sizes.len() {
+        if sizes[k] == 0 || !strictly_increasing(strides, rank, k) {
             return false;
         }
     }
@@ -140,36 +120,32 @@ fn keeps_order<'a>(sizes: &'a [u64], strides: &'a [i64; 512], rank: usize) -> bo
     requires { (length sizes.now ≤ 8) × (rank ≤ 64) }
     ensures { result ≡ in_order sizes.now strides.now rank }
 {
-    if rank == 0 {
-        return true;
-    }
-    all_grow(sizes, strides, rank)
+    rank == 0 || all_grow(sizes, strides, rank)
 }
 
 // Whether the whole fits the cache, so that no axis is cut either.
 fn fits_whole<'a>(
-    machine: Machine,
+    machine: AllowedMachine,
     extents: &'a [u64; 64],
     bytes: &'a [u32; 512],
     operands: usize,
     rank: usize,
 ) -> bool
-    requires allowed { Allowed machine }
-    requires operands_bound { (operands ≤ 8) × (rank ≤ 64) }
-    ensures { result ≡ leb (region machine bytes.now operands extents.now 0 rank) machine.cache }
+    requires { (operands ≤ 8) × (rank ≤ 64) }
+    ensures { result ≡ leb (region machine.numbers bytes.now operands extents.now 0 rank) machine.numbers.cache }
 {
     let all = Tail {
         operands,
         offset: 0,
         rank,
     };
-    memory_region(machine, all, extents, bytes) <= machine.cache
+    memory_region(machine, all, extents, bytes) <= machine.numbers.cache
 }
 
 // A copy into the chosen operand is fitted to the L1 sets. A fold keeps the model's blocks, which order its sum; walks with more operands
 // lose more by short runs than they gain.
 fn fit_for<'a>(
-    machine: Machine,
+    machine: AllowedMachine,
     blocks: &mut [u64; 64],
     bytes: &'a [u32; 512],
     sizes: &'a [u64],
@@ -177,9 +153,8 @@ fn fit_for<'a>(
     rank: usize,
     purpose: Purpose,
 )
-    requires allowed { Allowed machine }
-    requires rank_bound { (rank ≤ 64) × (missing (length sizes.now) (chosen purpose) ≡ false) }
-    ensures { blocks.new ≡ fitted_for machine purpose bytes.now sizes.now strides.now rank blocks.old }
+    requires { (rank ≤ 64) × (missing (length sizes.now) (chosen purpose) ≡ false) }
+    ensures { blocks.new ≡ fitted_for machine.numbers purpose bytes.now sizes.now strides.now rank blocks.old }
 {
     match purpose {
         Purpose::Pointwise => (),
@@ -194,17 +169,16 @@ fn fit_for<'a>(
 
 // The cutting rule on all the plan's axes, which `blocks` holds whole. Costs and ranks are those of the plan's axes, worked out once.
 fn cut_axes<'a>(
-    machine: Machine,
+    machine: AllowedMachine,
     sizes: &'a [u64],
     strides: &'a [i64; 512],
     bytes: &'a [u32; 512],
     rank: usize,
     blocks: &mut [u64; 64],
 )
-    requires allowed { Allowed machine }
     requires plannable { Plannable sizes.now blocks.old strides.now rank Pointwise }
-    requires images { Images machine (length sizes.now) rank bytes.now (byte_table sizes.now strides.now) }
-    ensures { blocks.new ≡ ruled machine sizes.now blocks.old strides.now rank }
+    requires images { Images machine.numbers (length sizes.now) rank bytes.now (byte_table sizes.now strides.now) }
+    ensures { blocks.new ≡ ruled machine.numbers sizes.now blocks.old strides.now rank }
 {
     let costs = compute_costs(strides, sizes.len(), rank);
     let mut ranks = [[0u8; 64]; 8];
@@ -214,7 +188,7 @@ fn cut_axes<'a>(
         offset: 0,
         rank,
     };
-    compute_blocks_at(machine, all, blocks, bytes, &costs, ranks);
+    compute_blocks_at(machine, all, blocks, bytes, &costs, &ranks);
 }
 
 // The blocks of a plan whose total is above 1,024, from its arrays. The tests that keep every axis whole come before what they can spare.
@@ -235,6 +209,7 @@ pub fn block_sizes_into<'a>(
         *blocks = *es;
         return;
     }
+    let machine = AllowedMachine { numbers: machine };
     let mut bytes = [0u32; 512];
     byte_table_into(machine, sizes, table, rank, &mut bytes);
     if fits_whole(machine, es, &bytes, sizes.len(), rank) {

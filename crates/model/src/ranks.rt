@@ -6,19 +6,6 @@ ghost use Rattle.strided.specs.Cut.{plan_ranks};
 
 use auxiliary::index_order_into;
 
-// Ranks of 1, written into a row of zeros.
-fn ones_into(rank: usize, row: &mut [u8; 64])
-    requires rank_bound { rank ≤ 64 }
-    requires row_value { row.old ≡ replicate 64 0 }
-    ensures { row.new ≡ padded 64 0 (replicate rank 1) }
-{
-    let mut i: usize = 0;
-    while i < rank {
-        row[i] = 1;
-        i += 1;
-    }
-}
-
 // The ranks of an operand's strides, written into a row of zeros. At size 0 every byte stride is 0, so every rank is 1.
 fn ranks_into(size: u64, strides: &[i64], row: &mut [u8; 64])
     requires strides_len_bound { length strides.now ≤ 64 }
@@ -26,7 +13,7 @@ fn ranks_into(size: u64, strides: &[i64], row: &mut [u8; 64])
     ensures { row.new ≡ padded 64 0 (cond (eqb size 0) (replicate (length strides.now) 1) (ranks strides.now)) }
 {
     if size == 0 {
-        ones_into(strides.len(), row);
+        row[..strides.len()].fill(1);
     } else {
         index_order_into(strides, row);
     }
@@ -38,12 +25,9 @@ pub fn plan_ranks_into(sizes: &[u64], strides: &[i64], rank: usize, table: &mut 
     requires table_value { table.old ≡ replicate 8 (replicate 64 0) }
     ensures { table.new ≡ padded 8 (replicate 64 0) (map (padded 64 0) (plan_ranks sizes.now strides.now rank)) }
 {
-    let operands = sizes.len();
-    let mut k: usize = 0;
-    while k < operands {
+    for k in 0..sizes.len() {
         let start = k * 64;
         let end = start + rank;
         ranks_into(sizes[k], &strides[start..end], &mut table[k]);
-        k += 1;
     }
 }

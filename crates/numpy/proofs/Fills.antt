@@ -1,20 +1,24 @@
 -- Loops that fill an array of 64 places from the last element of a list to its first, and those of packed strides.
 -- Assumes nothing.
-use mathlib.Core.Path.{◌≡◌, refl, sym, ap, ◌∙◌}
-use mathlib.Core.List.{List, [], ◌∷◌, map}
+use mathlib.Core.Path.{◌≡◌, refl, sym, ap, ap₂, ◌∙◌, subst}
+use mathlib.Core.List.{List, [], ◌∷◌, ◌++◌, map}
 use Prim.Native.Nat.{ℕ, zero, suc, ◌+◌, ◌-◌, ◌*◌, ◌^◌, ◌≤◌, ◌<◌, min}
 use native.Mathlib.Nat.{one-mul}
 use native.Mathlib.Omega.{arith}
 use lib.IntN.{ℤ, pos}
-use lib.ListN.{length, get_or, take, set, length-map}
+use lib.ListN.{length, get_or, take, set, replicate, length-map}
 use lib.Seq.{take_all, take-suc}
 use native.Mathlib.Numerals.{add-one}
+use Rattle.std.specs.List.{AllZip}
+use Rattle.std.proofs.lemmas.List.{length-take-le}
+use Rattle.std.proofs.lemmas.List.Elements.{all_zip_more, length_all_zip}
 use Rattle.strided.specs.Base.{padded}
 use Rattle.strided.specs.Layout.{total}
-use Rattle.laws.specs.Base.Stores.{fill_first}
+use Rattle.laws.specs.Base.Filling.{fill_none}
+use Rattle.laws.specs.Base.Stores.{fill_first, set_behind}
 use Rattle.numpy.specs.Numpy.{reversed}
-use Rattle.numpy.specs.Reversing.{length-reversed, get_d_reversed, total-append}
-use Rattle.numpy.specs.Units.{firsts, length-firsts, firsts_at, Near}
+use Rattle.numpy.specs.Reversing.{length-reversed, get_d_reversed, reversed-map, total-append}
+use Rattle.numpy.specs.Units.{firsts, length-firsts, firsts_at, Near, Turns}
 
 pub map_at : {A B : Type 0} (f : A → B) (xs : List A) (d : A) (z : B) (i : ℕ) → i < length xs → get_or (map f xs) i z ≡ f (get_or xs i d)
 map_at f [] d z i h = absurd (omega arith)
@@ -30,20 +34,50 @@ module _ {A : Type 0} (z : A) (vs : List A) where
   pub filling_end : (n i : ℕ) → length vs ≡ n → n ≤ i → {out : List A} → out ≡ padded 64 z (take i vs) → out ≡ padded 64 z vs
   filling_end n i l h e = e ∙ ap (padded 64 z) (take_all i vs (omega (arith, l, h)))
 
--- element i of the reversed list
-pub turned-at : (xs : List ℕ) (i : ℕ) → i < length xs → get_or xs (length xs - 1 - i) 0 ≡ get_or (reversed xs) i 0
-turned-at xs i h = sym (get_d_reversed xs 0 i h)
+pub turned-length : (f : ℤ → ℤ) (xs : List ℤ) → length (reversed (map f xs)) ≡ length xs
+turned-length f xs = length-reversed (map f xs) ∙ length-map xs f
 
-module _ (f : ℤ → ℤ) (xs : List ℤ) where
-  pub turned-length : length (reversed (map f xs)) ≡ length xs
-  turned-length = length-reversed (map f xs) ∙ length-map xs f
+-- an array that holds what calls answered to the last i numbers, the last one first, and zeros behind
+module _ {A : Type 0} (R : A → A → Type 0) (z : A) (xs : List A) where
+  pub record Turning (i : ℕ) (out : List A) : Type 0 where
+    pub results : List A
+    pub each : AllZip R (take i (reversed xs)) results
+    pub laid : out ≡ padded 64 z results
 
-  pub turned-map : (i : ℕ) → i < length xs → f (get_or xs (length xs - 1 - i) (pos 0)) ≡ get_or (reversed (map f xs)) i (pos 0)
-  turned-map i h =
-      let l = length-map xs f in
-      sym (get_d_reversed (map f xs) (pos 0) i (omega (arith, l, h))
-      ∙ ap (λ (n : ℕ). get_or (map f xs) (n - 1 - i) (pos 0)) l
-      ∙ map_at f xs (pos 0) (pos 0) (length xs - 1 - i) (omega (arith, h)))
+  pub turning_start : Turning 0 (replicate 64 z)
+  turning_start = record { results = []; each = tt; laid = fill_none 64 z }
+
+  pub turning_turn : (i : ℕ) → length xs ≤ 64 → i < length xs → {out : List A} → Turning i out → {x r : A} → x ≡ get_or xs (length xs - 1 - i) x → R x r
+      → Turning (i + 1) (set out i r)
+  turning_turn i l h {out} t {x} {r} e q =
+      let rs : List A = t.results in
+      let ys : List A = reversed xs in
+      let b : i < length ys = omega (arith, h, length-reversed xs) in
+      let n : length rs ≡ i = sym (length_all_zip R (take i ys) rs t.each) ∙ length-take-le i ys (omega (arith, b)) in
+      record {
+        results = rs ++ (r ∷ []);
+        each = all_zip_more R ys rs i x r b (e ∙ sym (get_d_reversed xs x i h)) t.each q;
+        laid = ap (λ (k : List A). set k i r) t.laid ∙ ap (λ (k : ℕ). set (padded 64 z rs) k r) (sym n) ∙ set_behind z 64 rs r (omega (arith, n, h, l));
+      }
+
+  pub turning_end : (i : ℕ) → length xs ≤ i → {out : List A} → Turning i out → Turns R z xs out
+  turning_end i h t =
+      record {
+        results = t.results;
+        each = subst (λ (x : List A). AllZip R x t.results) (take_all i (reversed xs) (let l = length-reversed xs in omega (arith, l, h))) t.each;
+        laid = t.laid;
+      }
+
+-- where each answer is what v makes of its number, the array is that list
+module _ {A : Type 0} (R : A → A → Type 0) (v : A → A) where
+  mapped : (xs ys : List A) → ((x y : A) → R x y → y ≡ v x) → AllZip R xs ys → ys ≡ map v xs
+  mapped [] [] f a = refl
+  mapped [] (y ∷ ys) f a = absurd a
+  mapped (x ∷ xs) [] f a = absurd a
+  mapped (x ∷ xs) (y ∷ ys) f a = ap₂ (λ (w : A) (l : List A). w ∷ l) (f x y a.0) (mapped xs ys f a.1)
+
+  pub turned-map : (z : A) (xs : List A) {out : List A} → Turns R z xs out → ((x y : A) → R x y → y ≡ v x) → out ≡ padded 64 z (reversed (map v xs))
+  turned-map z xs t f = t.laid ∙ ap (padded 64 z) (mapped (reversed xs) t.results f t.each ∙ sym (reversed-map v xs))
 
 -- ---- packed strides: `step` is the product of the first i extents, cut at 2^63
 

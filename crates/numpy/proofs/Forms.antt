@@ -2,7 +2,7 @@
 -- Assumes nothing.
 use mathlib.Core.Path.{◌≡◌, refl, sym, ap, ◌∙◌, subst}
 use mathlib.Core.List.{List, [], ◌∷◌, ◌++◌}
-use mathlib.Core.Option.{Option, none, some}
+use Rattle.std.specs.Prelude.{Option, None, Some}
 use Prim.Native.Nat.{ℕ, ◌≤◌, ◌<◌}
 use native.Mathlib.Omega.{arith}
 use lib.IntN.{ℤ}
@@ -17,14 +17,12 @@ use Rattle.reading.specs.Counted.{counts_once}
 use Rattle.reading.specs.Heads.{CountsHere, ReadsCounts}
 use Rattle.reading.specs.Rows.{RowHere}
 use Rattle.reading.specs.declared.head.Counts.{Counts}
-use Rattle.reading.specs.declared.head.Counts.TheVariants as N
 use Rattle.numpy.specs.Descriptions.{Description, head_line, shape_line, strides_part, StridesFit, InForm, NotInForm}
 use Rattle.numpy.specs.Once.{head_text, shape_text, head_once}
 use Rattle.numpy.specs.Readers.{saying, HeadHere, ReadsHead, LineAt, TakesLine, LinesHere, TakesLines, ReadsDescription}
-use Rattle.numpy.specs.declared.lines.Line.{Line}
-use Rattle.numpy.specs.declared.lines.Line.TheVariants as L
+use Rattle.numpy.specs.declared.lines.Head.{Head}
 use Rattle.numpy.specs.declared.lines.Said.{Said}
-use Rattle.numpy.specs.declared.lines.Said.TheVariants.{Packed, Given, Unformed}
+use Rattle.numpy.specs.declared.lines.Said.TheVariants.{Packed, Given}
 
 -- two variants are never one answer: `clash (cc)` where both are said
 pub clash : {A : Type 0} → ◌≡◌ {A = ℕ} 0 1 → A
@@ -40,63 +38,64 @@ head_parts size rank {rest} h = (
 )
 
 module _ {s : List ℕ} where
-  no_head : ((size rank : ℕ) (rest : List ℕ) → HeadHere s size rank rest → ⊥) → ReadsHead s N.Bad
-  no_head never = record { told = λ size rank next e. clash (cc); bad = λ e. never }
+  no_head : ((size rank : ℕ) (rest : List ℕ) → HeadHere s size rank rest → ⊥) → ReadsHead s None
+  no_head never = record { told = λ h e. clash (cc); bad = λ e. never }
 
-  pub head_letter : ((rest : List ℕ) → s ≡ 78 ∷ rest → ⊥) → ReadsHead s N.Bad
+  pub head_letter : ((rest : List ℕ) → s ≡ 78 ∷ rest → ⊥) → ReadsHead s None
   head_letter never = no_head (λ size rank rest h. let p = head_parts size rank h in never p.0 p.1)
 
-  module _ {from : ℕ} (q : s ≡ 78 ∷ drop from s) {r : Counts} (h : ReadsCounts s from r) where
+  module _ {from : ℕ} (q : s ≡ 78 ∷ drop from s) {r : Option Counts} (h : ReadsCounts s from r) where
     -- what stands behind the letter of any N line
     behind : (size rank : ℕ) (rest : List ℕ) → HeadHere s size rank rest → CountsHere (drop from s) size rank (10 ∷ rest)
     behind size rank rest w =
         let p = head_parts size rank w in
         subst (λ (u : List ℕ). CountsHere u size rank (10 ∷ rest)) (ap tail (sym p.1 ∙ q)) p.2
 
-    pub head-counts : r ≡ N.Bad → ReadsHead s N.Bad
+    pub head-counts : r ≡ None → ReadsHead s None
     head-counts e = no_head (λ size rank rest w. h.bad e size rank (10 ∷ rest) (behind size rank rest w))
 
-    module _ (size rank p : ℕ) (e : r ≡ N.Told size rank p) where
-      pub head_end : ((rest : List ℕ) → drop p s ≡ 10 ∷ rest → ⊥) → ReadsHead s N.Bad
-      head_end never = no_head (λ z n rest w. never rest (counts_once (h.told size rank p e) (behind z n rest w)).2)
+    module _ (n : Counts) (e : r ≡ Some n) where
+      pub head_end : ((rest : List ℕ) → drop n.next s ≡ 10 ∷ rest → ⊥) → ReadsHead s None
+      head_end never = no_head (λ size rank rest w. never rest (counts_once (h.told n e) (behind size rank rest w)).2)
 
-      pub head-told : (next : ℕ) → drop p s ≡ 10 ∷ drop next s → ReadsHead s (N.Told size rank next)
+      pub head-told : (next : ℕ) → drop n.next s ≡ 10 ∷ drop next s → ReadsHead s (Some (record { size = n.rank; rank = n.operands; next = next }))
       head-told next l =
-          let c = h.told size rank p e in
+          let c = h.told n e in
+          let size = n.rank in
+          let rank = n.operands in
           let f : s ≡ head_line size rank ++ drop next s =
           q ∙ ap (λ (u : List ℕ). 78 ∷ u) (c.form ∙ ap (λ (u : List ℕ). field size ++ (field rank ++ u)) l) ∙ sym (head_text size rank (drop next s)) in
           let here : HeadHere s size rank (drop next s) = record { size_fits_lem = c.rank_fits; rank_fits = c.operands_fit; form = f } in
           record {
-            told = λ z n k g. (
-                let p1 : size ≡ z = cc in
-                let p2 : rank ≡ n = cc in
-                let p3 : next ≡ k = cc in
-                subst (λ (i : ℕ). HeadHere s z n (drop i s)) p3 (subst (λ (i : ℕ). HeadHere s z i (drop next s)) p2 (subst (λ (i : ℕ). HeadHere s i rank (drop next s)) p1 here)));
+            told = λ w g. (
+                let p : record { size = size; rank = rank; next = next } ≡ w = cc in
+                subst (λ (x : Head). HeadHere s x.size x.rank (drop x.next s)) p here);
             bad = λ g. clash (cc);
           }
 
 -- ---- a line of numbers
 
 module _ {A : Type 0} (g : A → List ℕ) (Fits : A → Type 0) (letter : ℕ) {s : List ℕ} {at rank : ℕ} {old new : List A} where
-  no_line : ((vs : List A) (t rest : List ℕ) → length vs ≡ rank → drop at s ≡ letter ∷ t → RowHere g Fits t vs rest → ⊥) → TakesLine g Fits letter s at rank old new L.Bad
+  no_line : ((vs : List A) (t rest : List ℕ) → length vs ≡ rank → drop at s ≡ letter ∷ t → RowHere g Fits t vs rest → ⊥) → TakesLine g Fits letter s at rank old new None
   no_line never = record { there = λ from next e. clash (cc); bad = λ e. never }
 
-  pub line_letter : ((rest : List ℕ) → drop at s ≡ letter ∷ rest → ⊥) → TakesLine g Fits letter s at rank old new L.Bad
+  pub line_letter : ((rest : List ℕ) → drop at s ≡ letter ∷ rest → ⊥) → TakesLine g Fits letter s at rank old new None
   line_letter never = no_line (λ vs t rest l b r. never t b)
 
   module _ (from : ℕ) (q : drop at s ≡ letter ∷ drop from s) where
-    pub line_row : ((vs : List A) (rest : List ℕ) → length vs ≡ rank → RowHere g Fits (drop from s) vs rest → ⊥) → TakesLine g Fits letter s at rank old new L.Bad
+    pub line_row : ((vs : List A) (rest : List ℕ) → length vs ≡ rank → RowHere g Fits (drop from s) vs rest → ⊥) → TakesLine g Fits letter s at rank old new None
     line_row never =
         no_line (λ vs t rest l b r. never vs rest l (subst (λ (u : List ℕ). RowHere g Fits u vs rest) (ap tail (sym b ∙ q)) r))
 
     pub line_there : (next : ℕ) → (vs : List A) × (length vs ≡ rank) × RowHere g Fits (drop from s) vs (drop next s) × (new ≡ sets old 0 vs)
-        → TakesLine g Fits letter s at rank old new (L.At from next)
+        → TakesLine g Fits letter s at rank old new (Some (from, next))
     line_there next w =
         let line : LineAt g Fits letter s at rank from next w.0 = record { count = w.1; begins = q; row = w.2 } in
         record {
           there = λ f n e. (
-              let p1 : from ≡ f = cc in
-              let p2 : next ≡ n = cc in
+              let p : (from, next) ≡ (f, n) = cc in
+              let p1 : from ≡ f = ap (λ (x : ℕ × ℕ). x.0) p in
+              let p2 : next ≡ n = ap (λ (x : ℕ × ℕ). x.1) p in
               (w.0, subst (λ (i : ℕ). LineAt g Fits letter s at rank f i w.0) p2 (subst (λ (i : ℕ). LineAt g Fits letter s at rank i next w.0) p1 line), w.3));
           bad = λ e. clash (cc);
         }
@@ -130,23 +129,23 @@ with_part vs l strides f q =
     }
 
 module _ (s : List ℕ) (at size rank : ℕ) (shape shape' : List ℕ) (bytes bytes' : List ℤ) where
-  abbrev Lines : Said → Type 0
+  abbrev Lines : Option Said → Type 0
   Lines r = TakesLines s at size rank shape shape' bytes bytes' r
 
-  no_lines : ((es : List ℕ) (strides : Option (List ℤ)) → LinesHere rank (drop at s) es strides → ⊥) → Lines Unformed
+  no_lines : ((es : List ℕ) (strides : Option (List ℤ)) → LinesHere rank (drop at s) es strides → ⊥) → Lines None
   no_lines never = record { packed = λ z n from e. clash (cc); given = λ z n from e. clash (cc); unformed = λ e. never }
 
-  pub lines_bad : {r : Line} → TakesLine digits_of FitU 83 s at rank shape shape' r → r ≡ L.Bad → Lines Unformed
+  pub lines_bad : {r : Option (ℕ × ℕ)} → TakesLine digits_of FitU 83 s at rank shape shape' r → r ≡ None → Lines None
   lines_bad t e =
       no_lines (λ es strides h.
       t.bad e es (over es field ++ (10 ∷ strides_part strides)) (strides_part strides) h.axes (h.form ∙ shape_text es (strides_part strides)) (record { fits = h.shape_fits; form = refl }))
 
   -- the S line is there
-  module _ {r : Line} (t : TakesLine digits_of FitU 83 s at rank shape shape' r) (from next : ℕ) (e : r ≡ L.At from next) where
-    pub lines_packed : length s ≤ next → Lines (Packed size rank from)
+  module _ {r : Option (ℕ × ℕ)} (t : TakesLine digits_of FitU 83 s at rank shape shape' r) (from next : ℕ) (e : r ≡ Some (from, next)) where
+    pub lines_packed : length s ≤ next → Lines (Some (Packed size rank from))
     lines_packed h =
         let w = t.there from next e in
-        let here = with_part w.0 w.1 none tt (ended s next h) in
+        let here = with_part w.0 w.1 None tt (ended s next h) in
         let row : RowHere digits_of FitU (drop from s) w.0 [] = subst (λ (u : List ℕ). RowHere digits_of FitU (drop from s) w.0 u) (ended s next h) w.1.row in
         record {
           packed = λ z n f g. (
@@ -160,19 +159,19 @@ module _ (s : List ℕ) (at size rank : ℕ) (shape shape' : List ℕ) (bytes by
 
     -- nothing can be behind it but a T line
     only_strides : next < length s → ((ts : List ℤ) → length ts ≡ rank → drop next s ≡ 84 ∷ (over ts signed_field ++ (10 ∷ []))
-        → RowHere signed_of FitI (over ts signed_field ++ (10 ∷ [])) ts [] → ⊥) → Lines Unformed
+        → RowHere signed_of FitI (over ts signed_field ++ (10 ∷ [])) ts [] → ⊥) → Lines None
     only_strides h nothing = no_lines (λ es strides l. go strides l.strides_fit (same_shape (t.there from next e).0 (t.there from next e).1 es strides l))
       where
         go : (strides : Option (List ℤ)) → StridesFit rank strides → drop next s ≡ strides_part strides → ⊥
-        go none f q = begun s next h q
-        go (some ts) f q = nothing ts f.0 q (record { fits = f.1; form = refl })
+        go None f q = begun s next h q
+        go (Some ts) f q = nothing ts f.0 q (record { fits = f.1; form = refl })
 
-    module _ (h : next < length s) {r₂ : Line} (u : TakesLine signed_of FitI 84 s next rank bytes bytes' r₂) where
-      pub lines_strides : r₂ ≡ L.Bad → Lines Unformed
+    module _ (h : next < length s) {r₂ : Option (ℕ × ℕ)} (u : TakesLine signed_of FitI 84 s next rank bytes bytes' r₂) where
+      pub lines_strides : r₂ ≡ None → Lines None
       lines_strides b = only_strides h (λ ts l q row. u.bad b ts _ [] l q row)
 
-      module _ (row end : ℕ) (a : r₂ ≡ L.At row end) where
-        pub lines_more : end < length s → Lines Unformed
+      module _ (row end : ℕ) (a : r₂ ≡ Some (row, end)) where
+        pub lines_more : end < length s → Lines None
         lines_more b =
             only_strides h (λ ts l q w.
             let v = u.there row end a in
@@ -180,13 +179,13 @@ module _ (s : List ℕ) (at size rank : ℕ) (shape shape' : List ℕ) (bytes by
             (row_once signed_of signed_once v.0 ts (drop end s) []
             (ap tail (ap (λ (x : List ℕ). 84 ∷ x) (sym v.1.row.form) ∙ sym v.1.begins ∙ q))).1)
 
-        pub lines_given : length s ≤ end → Lines (Given size rank row)
+        pub lines_given : length s ≤ end → Lines (Some (Given size rank row))
         lines_given b =
             let w = t.there from next e in
             let v = u.there row end a in
             let stand : RowHere signed_of FitI (drop row s) v.0 [] = subst (λ (x : List ℕ). RowHere signed_of FitI (drop row s) v.0 x) (ended s end b) v.1.row in
-            let part : drop next s ≡ strides_part (some v.0) = v.1.begins ∙ ap (λ (x : List ℕ). 84 ∷ x) stand.form in
-            let here = with_part w.0 w.1 (some v.0) (v.1.count, v.1.row.fits) part in
+            let part : drop next s ≡ strides_part (Some v.0) = v.1.begins ∙ ap (λ (x : List ℕ). 84 ∷ x) stand.form in
+            let here = with_part w.0 w.1 (Some v.0) (v.1.count, v.1.row.fits) part in
             record {
               packed = λ z n f g. clash (cc);
               given = λ z n f g. (
@@ -227,25 +226,27 @@ module _ {s : List ℕ} {size rank : ℕ} (at : ℕ) (w : HeadHere s size rank (
       }
 
 module _ (s shape shape' : List ℕ) (bytes bytes' : List ℤ) where
-  no_text : NotInForm s → ReadsDescription s shape shape' bytes bytes' Unformed
+  no_text : NotInForm s → ReadsDescription s shape shape' bytes bytes' None
   no_text never = record { packed = λ z n from e. clash (cc); given = λ z n from e. clash (cc); unformed = λ e. never }
 
-  pub text_long : 16384 < length s → ReadsDescription s shape shape' bytes bytes' Unformed
+  pub text_long : 16384 < length s → ReadsDescription s shape shape' bytes bytes' None
   text_long h = no_text (λ d f. let l = f.short in omega (arith, h, l))
 
-  pub text_head : {r : Counts} → ReadsHead s r → r ≡ N.Bad → ReadsDescription s shape shape' bytes bytes' Unformed
+  pub text_head : {r : Option Head} → ReadsHead s r → r ≡ None → ReadsDescription s shape shape' bytes bytes' None
   text_head h e = no_text (λ d f. h.bad e d.size d.rank _ (head_of d f))
 
-  pub text_lines : (short : length s ≤ 16384) {c : Counts} (h : ReadsHead s c) (size rank at : ℕ) (e : c ≡ N.Told size rank at) {r : Said}
-      → TakesLines s at size rank shape shape' bytes bytes' r → ReadsDescription s shape shape' bytes bytes' r
-  text_lines short h size rank at e t =
-      let hd = h.told size rank at e in
+  pub text_lines : (short : length s ≤ 16384) {c : Option Head} (h : ReadsHead s c) (n : Head) (e : c ≡ Some n) {r : Option Said}
+      → TakesLines s n.next n.size n.rank shape shape' bytes bytes' r → ReadsDescription s shape shape' bytes bytes' r
+  text_lines short h n e t =
+      let hd = h.told n e in
+      let size = n.size in
+      let at = n.next in
       record {
-        packed = λ z n from g.
-            let w = t.packed z n from g in
-            (w.0, subst (λ (i : ℕ). InForm s (saying i n w.0 none)) w.1 (subst (λ (i : ℕ). InForm s (saying size i w.0 none)) w.2 (formed at hd short w.0 none w.3)), w.4, w.5);
-        given = λ z n from g.
-            let w = t.given z n from g in
-            (w.0, w.1, subst (λ (i : ℕ). InForm s (saying i n w.0 (some w.1))) w.2 (subst (λ (i : ℕ). InForm s (saying size i w.0 (some w.1))) w.3 (formed at hd short w.0 (some w.1) w.4)), w.5, w.6, w.7);
+        packed = λ z m from g.
+            let w = t.packed z m from g in
+            (w.0, subst (λ (i : ℕ). InForm s (saying i m w.0 None)) w.1 (subst (λ (i : ℕ). InForm s (saying size i w.0 None)) w.2 (formed at hd short w.0 None w.3)), w.4, w.5);
+        given = λ z m from g.
+            let w = t.given z m from g in
+            (w.0, w.1, subst (λ (i : ℕ). InForm s (saying i m w.0 (Some w.1))) w.2 (subst (λ (i : ℕ). InForm s (saying size i w.0 (Some w.1))) w.3 (formed at hd short w.0 (Some w.1) w.4)), w.5, w.6, w.7);
         unformed = λ g d f. t.unformed g d.shape d.strides (lines_of at hd d f);
       }

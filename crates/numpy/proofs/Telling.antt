@@ -16,13 +16,14 @@ use Rattle.strided.specs.Base.{padded}
 use Rattle.strided.specs.Layout.{total}
 use Rattle.strided.specs.Refusals.{row1, row3, refused_by}
 use Rattle.strided.specs.Text as T
-use Rattle.strided.specs.declared.Answer.TheVariants.{Served}
+use Rattle.strided.specs.declared.Refusal.{Refusal}
+use Rattle.std.specs.Prelude.{Result, Ok, Err}
 use Rattle.strided.specs.declared.Refusal.TheVariants.{ByteStrides, Rank, StrideCount, Form}
 use Rattle.laws.specs.Base.Filling.{padded_is}
 use Rattle.laws.specs.Base.Tests.{or_none}
 use Rattle.reading.specs.Laid.{take-laid}
 use Rattle.numpy.specs.Descriptions.{Description, InForm, NotInForm}
-use Rattle.numpy.specs.Numpy.{reversed, any_of, afters, packed, byte_stride, extents_of, strides_of, too_far, row19, back_row19, refusing, telling, described, FromNumpy, to_numpy}
+use Rattle.numpy.specs.Numpy.{reversed, any_of, afters, packed, byte_stride, extents_of, strides_of, too_far, row19, back_row19, telling, described, FromNumpy, to_numpy}
 use Rattle.numpy.specs.Once.{in_form_once}
 use Rattle.numpy.specs.Readers.{spelled}
 use Rattle.numpy.specs.Reversing.{length-reversed, get_d_reversed, any_at}
@@ -42,22 +43,22 @@ take-padded z xs n e h = ap (take n) (padded_is 64 z xs (omega (arith, e, h))) �
 -- ---- from NumPy
 
 module _ (d : Description) where
-  pub told_19 : (row19 d).applies ≡ true → refusing ByteStrides ≡ described d
+  pub told_19 : (row19 d).applies ≡ true → Err ByteStrides ≡ described d
   unfolding described
   told_19 e = rw e
 
-  pub told_1 : (row19 d).applies ≡ false → (row1 d.rank).applies ≡ true → refusing Rank ≡ described d
+  pub told_1 : (row19 d).applies ≡ false → (row1 d.rank).applies ≡ true → Err Rank ≡ described d
   unfolding described
   told_1 e f = rw (e, f)
 
-  told : (row19 d).applies ≡ false → (row1 d.rank).applies ≡ false → telling d ≡ described d
+  told : (row19 d).applies ≡ false → (row1 d.rank).applies ≡ false → Ok (telling d) ≡ described d
   unfolding described
   told e f = rw (e, f)
 
   -- out of its arrays
   pub told-all : (row19 d).applies ≡ false → (row1 d.rank).applies ≡ false → {E : List ℕ} {S : List ℤ} → E ≡ padded 64 0 (extents_of d) → S ≡ padded 64 (pos 0) (strides_of d)
-      → record { answer = Served; size = d.size; rank = d.rank; extents = E; strides = S } ≡ described d
-  told-all e f x y = (λ i. record { answer = Served; size = d.size; rank = d.rank; extents = x i; strides = y i }) ∙ told e f
+      → Ok (record { size = d.size; rank = d.rank; extents = E; strides = S }) ≡ described d
+  told-all e f x y = (λ i. Ok (record { size = d.size; rank = d.rank; extents = x i; strides = y i })) ∙ told e f
 
 -- row 19 lets through: a size, and its bytes
 pub some_size : (size : ℕ) (b : Bool) → (eqb size 0 || b) ≡ false → (0 < size) × (b ≡ false)
@@ -116,7 +117,7 @@ module _ (size : ℕ) (es : List ℕ) (ss : List ℤ) (room : List ℕ) where
 
 -- ---- a text and what it says
 
-pub said-from : {text : List ℕ} (d : Description) → InForm text d → {r : Described} → r ≡ described d → FromNumpy text r
+pub said-from : {text : List ℕ} (d : Description) → InForm text d → {r : Result Described Refusal} → r ≡ described d → FromNumpy text r
 said-from d f e =
     record {
       formed = λ g h. e ∙ ap described (in_form_once d g f h);
@@ -124,5 +125,5 @@ said-from d f e =
       either = inl (d, f);
     }
 
-pub unsaid_from : {text : List ℕ} → NotInForm text → {r : Described} → r ≡ refusing Form → FromNumpy text r
+pub unsaid_from : {text : List ℕ} → NotInForm text → {r : Result Described Refusal} → r ≡ Err Form → FromNumpy text r
 unsaid_from n e = record { formed = λ d f. absurd (n d f); unformed = λ h. e; either = inr n }

@@ -1,10 +1,9 @@
 -- EACH WAY IS UNDONE BY THE OTHER: "For a description with its T line, each way followed by the other returns it." From a text to numbers and
 -- back only 14 can refuse, and the text is the one it was; from numbers to a text and back nothing refuses, and the numbers are those.
 -- Assumes nothing.
-use Rattle.std.specs.Prelude.{◌≡◌, refl, List, [], ◌∷◌, ◌++◌, map, ℕ, ◌*◌, ◌^◌, ◌≤◌, ◌<◌, ltb, eqb, ℤ, pos}
+use Rattle.std.specs.Prelude.{◌≡◌, refl, List, [], ◌∷◌, ◌++◌, map, ℕ, ◌*◌, ◌^◌, ◌≤◌, ◌<◌, ltb, eqb, ℤ, pos, None, Some, Result, Ok}
 use Rattle.std.proofs.Common.{sym, ap, ap₂, ◌∙◌, arith, length-append}
 use Rattle.std.proofs.Math.Bool.{false, not}
-use Rattle.std.proofs.Math.Option.{none, some}
 use Rattle.std.proofs.Math.Nat.{mul-one}
 use Rattle.std.proofs.Math.ListN.{length, length-map}
 use Rattle.std.specs.Int.Signed.{mag}
@@ -13,7 +12,7 @@ use Rattle.strided.specs.Base.{over, padded}
 use Rattle.strided.specs.Layout.{in_i64}
 use Rattle.strided.specs.Refusals.{refused_by}
 use Rattle.strided.specs.Text.{field, signed_field, Each, FitU, FitI, filling, row14, listing_or}
-use Rattle.strided.specs.declared.Answer.TheVariants.{Served}
+use Rattle.strided.specs.declared.Refusal.{Refusal}
 use Rattle.laws.specs.Base.Refusals.{NoneApplies, none_applies}
 use Rattle.laws.specs.Base.Tests.{or_none}
 use Rattle.laws.specs.Refusals.Rows.{none_refuses, rows_pass}
@@ -59,19 +58,19 @@ module _ (size : ℕ) where
 
 -- ---- the way back, where only 14 could refuse and does not
 
-pub goes_back : (size : ℕ) (es : List ℕ) (ss : List ℤ) (room : List ℕ) → refused_by (number_rows size es ss) ≡ none → length (text_of size es ss) ≤ length room
+pub goes_back : (size : ℕ) (es : List ℕ) (ss : List ℤ) (room : List ℕ) → refused_by (number_rows size es ss) ≡ None → length (text_of size es ss) ≤ length room
     → to_numpy size es ss room ≡ filling (text_of size es ss) room
 unfolding to_numpy
 goes_back size es ss room n h =
     let t : List ℕ = text_of size es ss in
-    let q : refused_by (row14 t (length room) ∷ []) ≡ none = rw (le-ltb (length room) (length t) h) in
+    let q : refused_by (row14 t (length room) ∷ []) ≡ None = rw (le-ltb (length room) (length t) h) in
     ap (λ o. listing_or o t room) (rows_pass (number_rows size es ss) (row14 t (length room) ∷ []) n ∙ q)
 
 -- ---- text, numbers, text
 
-module _ (text : List ℕ) (size rank : ℕ) (es : List ℕ) (ts : List ℤ) (f : InForm text (saying size rank es (some ts))) (n : refused_by (from_rows (saying size rank es (some ts))) ≡ none) where
+module _ (text : List ℕ) (size rank : ℕ) (es : List ℕ) (ts : List ℤ) (f : InForm text (saying size rank es (Some ts))) (n : refused_by (from_rows (saying size rank es (Some ts))) ≡ None) where
   abbrev d : Description
-  d = saying size rank es (some ts)
+  d = saying size rank es (Some ts)
 
   -- rows 19 and 1 do not apply
   let_through : (eqb size 0 ≡ false) × (any_of (no_multiple size) ts ≡ false) × (rank ≤ 64)
@@ -86,12 +85,12 @@ module _ (text : List ℕ) (size rank : ℕ) (es : List ℕ) (ts : List ℤ) (f 
       ap reversed (sym (reversed-map (byte_stride size) (map (element_stride size) ts))) ∙ reversed_twice (map (byte_stride size) (map (element_stride size) ts)) ∙ bytes-rows size ts let_through.1
 
   pub same_description : description_of size (extents_of d) (strides_of d) ≡ d
-  same_description = λ i. record { size = size; rank = (length-reversed es ∙ f.axes) i; shape = reversed_twice es i; strides = some (strides_back i) }
+  same_description = λ i. record { size = size; rank = (length-reversed es ∙ f.axes) i; shape = reversed_twice es i; strides = Some (strides_back i) }
 
   pub same_text : text_of size (extents_of d) (strides_of d) ≡ text
   same_text = ap written same_description ∙ sym f.form
 
-  pub not-refused : refused_by (number_rows size (extents_of d) (strides_of d)) ≡ none
+  pub not-refused : refused_by (number_rows size (extents_of d) (strides_of d)) ≡ None
   unfolding NoneApplies
   not-refused =
       let p = let_through in
@@ -125,7 +124,7 @@ signed_fields_most (t ∷ ts) f =
     let b = signed_fields_most ts f.1 in
     omega (arith, l, a, b)
 
-module _ (size : ℕ) (es : List ℕ) (ss : List ℤ) (fs : FitU size) (fe : Each FitU es) (n : refused_by (number_rows size es ss) ≡ none) where
+module _ (size : ℕ) (es : List ℕ) (ss : List ℤ) (fs : FitU size) (fe : Each FitU es) (n : refused_by (number_rows size es ss) ≡ None) where
   let_back : (eqb size 0 ≡ false) × (any_of (stride_out size) ss ≡ false) × (length es ≤ 64) × (length ss ≡ length es)
   unfolding NoneApplies
   let_back =
@@ -174,7 +173,7 @@ module _ (size : ℕ) (es : List ℕ) (ss : List ℤ) (fs : FitU size) (fe : Eac
         strides_fit = (bytes_count, ts-fit);
       }
 
-  pub not-refused-back : refused_by (from_rows (description_of size es ss)) ≡ none
+  pub not-refused-back : refused_by (from_rows (description_of size es ss)) ≡ None
   unfolding NoneApplies
   not-refused-back =
       let p = let_back in
@@ -188,10 +187,10 @@ module _ (size : ℕ) (es : List ℕ) (ss : List ℤ) (fs : FitU size) (fe : Eac
       ∙ elements_rows size some_bytes ss
 
   -- THE NUMBERS AGAIN
-  pub numbers_again : (r : Described) → FromNumpy (text_of size es ss) r
-      → r ≡ record { answer = Served; size = size; rank = length es; extents = padded 64 0 es; strides = padded 64 (pos 0) ss }
+  pub numbers_again : (r : Result Described Refusal) → FromNumpy (text_of size es ss) r
+      → r ≡ Ok (record { size = size; rank = length es; extents = padded 64 0 es; strides = padded 64 (pos 0) ss })
   unfolding described
   numbers_again r g =
       g.formed (description_of size es ss) text_formed
       ∙ rw not-refused-back
-      (λ i. record { answer = Served; size = size; rank = length es; extents = padded 64 0 (reversed_twice es i); strides = padded 64 (pos 0) (same_strides i) })
+      (λ i. Ok (record { size = size; rank = length es; extents = padded 64 0 (reversed_twice es i); strides = padded 64 (pos 0) (same_strides i) }))

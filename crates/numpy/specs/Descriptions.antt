@@ -1,8 +1,7 @@
 -- ASK 5, THE TEXT: "the lines N,size,rank then S,shape then T,byte strides". "Lines and numbers are formed as in the walklist text." A text is
 -- in the form if it is the rendering of what it says, with its T line or without.
 -- Assumes nothing.
-use Rattle.std.specs.Prelude.{◌≡◌, List, [], ◌++◌, ℕ, ◌≤◌, ℤ, length}
-use Rattle.std.proofs.Math.Option.{Option, none, some}
+use Rattle.std.specs.Prelude.{◌≡◌, List, [], ◌++◌, ℕ, ◌≤◌, ℤ, length, Option, None, Some}
 use Rattle.strided.specs.Base.{over}
 use Rattle.strided.specs.Text.{field, signed_field, line_of, Each, FitU, FitI}
 
@@ -27,16 +26,16 @@ strides_line ts = line_of 84 (over ts signed_field)
 
 -- "An absent T line": nothing stands there
 abbrev pub strides_part : Option (List ℤ) → List ℕ
-strides_part none = []
-strides_part (some ts) = strides_line ts
+strides_part None = []
+strides_part (Some ts) = strides_line ts
 
 abbrev pub written : Description → List ℕ
 written d = head_line d.size d.rank ++ (shape_line d.shape ++ strides_part d.strides)
 
 -- as many byte strides as N tells, each within 64-bit signed
 abbrev pub StridesFit : ℕ → Option (List ℤ) → Type 0
-StridesFit rank none = Unit {0}
-StridesFit rank (some ts) = (length ts ≡ rank) × Each FitI ts
+StridesFit rank None = Unit {0}
+StridesFit rank (Some ts) = (length ts ≡ rank) × Each FitI ts
 
 -- THE FORM: the text says d
 pub record InForm (text : List ℕ) (d : Description) : Type 0 where

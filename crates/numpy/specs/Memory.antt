@@ -1,7 +1,8 @@
 -- What the C functions answer and leave in lent memory: a description as numbers and arrays, as strided's Memory has other values.
 -- Assumes nothing.
-use Rattle.std.specs.Prelude.{List, [], ◌∷◌, ℕ, ℤ}
+use Rattle.std.specs.Prelude.{List, [], ◌∷◌, ℕ, ℤ, Result}
 use Rattle.strided.specs.Memory.{Handed}
+use Rattle.strided.specs.declared.Refusal.{Refusal}
 use Rattle.numpy.specs.Numpy.{FromNumpy}
 use Rattle.numpy.specs.declared.Described.{Described}
 
@@ -19,6 +20,6 @@ described_memory d = described_at (d.size ∷ []) (d.rank ∷ []) d.extents d.st
 
 -- the function answers r, and lent memory that held `old` holds `new`: there is what the text says, which the text fixes
 pub record FromNumpyMemory (text : List ℕ) (old new : DescribedMemory) (r : ℤ) : Type 0 where
-  pub says : Described
+  pub says : Result Described Refusal
   pub from : FromNumpy text says
-  pub handed : Handed says.answer (described_memory says) old new r
+  pub handed : Handed described_memory says old new r

@@ -1,14 +1,13 @@
 -- ASK 5, BOTH WAYS: "give our extents and element strides with the axes reversed. It shall also go back." "An absent T line means packed: an
 -- axis's byte stride is the size times the extents after it. Going back always writes T."
 -- Assumes nothing.
-use Rattle.std.specs.Prelude.{◌≡◌, ◌⊎◌, Bool, false, ◌||◌, not, List, [], ◌∷◌, ◌++◌, map, ℕ, ◌*◌, ◌%◌, eqb, ℤ, pos, nat_abs, ◌*ℤ◌, length}
-use Rattle.std.proofs.Math.Option.{Option, none, some}
+use Rattle.std.specs.Prelude.{◌≡◌, ◌⊎◌, Bool, ◌||◌, not, List, [], ◌∷◌, ◌++◌, map, ℕ, ◌*◌, ◌%◌, eqb, ℤ, pos, nat_abs, ◌*ℤ◌, length, Option, None, Some, Result, Err}
 use Rattle.std.specs.Int.Signed.{quot_z}
+use Rattle.std.specs.List.{list_any}
 use Rattle.strided.specs.Base.{padded}
 use Rattle.strided.specs.Layout.{total, in_i64}
-use Rattle.strided.specs.Refusals.{Row, refused_by, row1, row3}
+use Rattle.strided.specs.Refusals.{Row, refused_by, served_unless, row1, row3}
 use Rattle.strided.specs.Text.{Listing, listing_or, row14}
-use Rattle.strided.specs.declared.Answer.TheVariants.{Served, Refused}
 use Rattle.strided.specs.declared.Refusal.{Refusal}
 use Rattle.strided.specs.declared.Refusal.TheVariants.{ByteStrides, Form}
 use Rattle.numpy.specs.Descriptions.{Description, written, InForm, NotInForm}
@@ -22,8 +21,7 @@ reversed [] = []
 reversed (x ∷ xs) = reversed xs ++ (x ∷ [])
 
 abbrev pub any_of : {A : Type 0} → (A → Bool) → List A → Bool
-any_of t [] = false
-any_of t (x ∷ xs) = t x || any_of t xs
+any_of t xs = list_any t xs
 
 -- ---- byte strides
 
@@ -37,8 +35,8 @@ abbrev pub packed : ℕ → List ℕ → List ℕ
 packed size es = map (λ (n : ℕ). size * n) (afters es)
 
 abbrev pub bytes_or : ℕ → List ℕ → Option (List ℤ) → List ℤ
-bytes_or size es none = map pos (packed size es)
-bytes_or size es (some ts) = ts
+bytes_or size es None = map pos (packed size es)
+bytes_or size es (Some ts) = ts
 
 abbrev pub byte_strides : Description → List ℤ
 byte_strides d = bytes_or d.size d.shape d.strides
@@ -63,8 +61,8 @@ abbrev pub too_far : ℕ → Bool
 too_far n = not (in_i64 (pos n))
 
 abbrev pub bytes_wrong : ℕ → List ℕ → Option (List ℤ) → Bool
-bytes_wrong size es none = any_of too_far (packed size es)
-bytes_wrong size es (some ts) = any_of (no_multiple size) ts
+bytes_wrong size es None = any_of too_far (packed size es)
+bytes_wrong size es (Some ts) = any_of (no_multiple size) ts
 
 -- "19: size 0, .."
 abbrev pub row19 : Description → Row
@@ -74,27 +72,18 @@ row19 d = record { applies = eqb d.size 0 || bytes_wrong d.size d.shape d.stride
 abbrev pub from_rows : Description → List Row
 from_rows d = row19 d ∷ row1 d.rank ∷ []
 
--- a refusal has zeros beside it
-abbrev pub refusing : Refusal → Described
-refusing r = record { answer = Refused r; size = 0; rank = 0; extents = padded 64 0 []; strides = padded 64 (pos 0) [] }
-
 abbrev pub telling : Description → Described
-telling d =
-    record { answer = Served; size = d.size; rank = d.rank; extents = padded 64 0 (extents_of d); strides = padded 64 (pos 0) (strides_of d) }
+telling d = record { size = d.size; rank = d.rank; extents = padded 64 0 (extents_of d); strides = padded 64 (pos 0) (strides_of d) }
 
-abbrev pub described_or : Option Refusal → Description → Described
-described_or none d = telling d
-described_or (some r) d = refusing r
-
-unfoldable pub described : Description → Described
-described d = described_or (refused_by (from_rows d)) d
+unfoldable pub described : Description → Result Described Refusal
+described d = served_unless (refused_by (from_rows d)) (telling d)
 
 -- THE WAY FROM NUMPY: a text gives this
-pub record FromNumpy (text : List ℕ) (r : Described) : Type 0 where
+pub record FromNumpy (text : List ℕ) (r : Result Described Refusal) : Type 0 where
   -- a text in the form: what it says
   pub formed : (d : Description) → InForm text d → r ≡ described d
   -- 12, "text not in the form"
-  pub unformed : NotInForm text → r ≡ refusing Form
+  pub unformed : NotInForm text → r ≡ Err Form
   -- one of the two is the case, so the two lines above fix r
   pub either : ((d : Description) × InForm text d) ⊎ NotInForm text
 
@@ -106,7 +95,7 @@ byte_stride size z = z *ℤ pos size
 -- "Going back always writes T."
 abbrev pub description_of : ℕ → List ℕ → List ℤ → Description
 description_of size es ss =
-    record { size = size; rank = length es; shape = reversed es; strides = some (reversed (map (byte_stride size) ss)) }
+    record { size = size; rank = length es; shape = reversed es; strides = Some (reversed (map (byte_stride size) ss)) }
 
 abbrev pub text_of : ℕ → List ℕ → List ℤ → List ℕ
 text_of size es ss = written (description_of size es ss)

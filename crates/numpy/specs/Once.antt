@@ -1,11 +1,11 @@
 -- A DESCRIPTION SAYS ONE THING AT MOST: the lines are told from the bytes in one way alone, and so is whether there is a T line.
 -- Assumes nothing.
-use Rattle.std.specs.Prelude.{◌≡◌, refl, List, [], ◌∷◌, ◌++◌, ℕ, ℤ}
+use Rattle.std.specs.Prelude.{◌≡◌, refl, List, [], ◌∷◌, ◌++◌, ℕ, ℤ, Option, None, Some, Result}
 use Rattle.std.proofs.Common.{sym, ap, ◌∙◌, ⊎_elim, append_assoc, arith}
-use Rattle.std.proofs.Math.Option.{Option, none, some}
 use Rattle.strided.specs.Base.{over}
 use Rattle.strided.specs.Digits.{digits_of, signed_of}
 use Rattle.strided.specs.Text.{field, line_of}
+use Rattle.strided.specs.declared.Refusal.{Refusal}
 use Rattle.laws.specs.Text.Numbers.{head, tail, digits_once, signed_once}
 use Rattle.laws.specs.Text.Once.{cell_once, row_once}
 use Rattle.numpy.specs.Descriptions.{Description, head_line, shape_line, strides_part, written, InForm}
@@ -26,10 +26,10 @@ shape_text es x = line_text 83 (over es field) x
 -- ---- told in one way
 
 pub strides_once : (a b : Option (List ℤ)) → strides_part a ≡ strides_part b → a ≡ b
-strides_once none none e = refl
-strides_once none (some ts) e = let z : ◌≡◌ {A = ℕ} 0 84 = ap head e in absurd (omega arith)
-strides_once (some ts) none e = let z : ◌≡◌ {A = ℕ} 84 0 = ap head e in absurd (omega arith)
-strides_once (some ts) (some us) e = ap some (row_once signed_of signed_once ts us [] [] (ap tail e)).0
+strides_once None None e = refl
+strides_once None (Some ts) e = let z : ◌≡◌ {A = ℕ} 0 84 = ap head e in absurd (omega arith)
+strides_once (Some ts) None e = let z : ◌≡◌ {A = ℕ} 84 0 = ap head e in absurd (omega arith)
+strides_once (Some ts) (Some us) e = ap Some (row_once signed_of signed_once ts us [] [] (ap tail e)).0
 
 pub shape_once : (es fs x y : List ℕ) → shape_line es ++ x ≡ shape_line fs ++ y → (es ≡ fs) × (x ≡ y)
 shape_once es fs x y e = row_once digits_of digits_once es fs x y (ap tail (sym (shape_text es x) ∙ e ∙ shape_text fs y))
@@ -52,5 +52,5 @@ pub in_form_once : {text : List ℕ} (d e : Description) → InForm text d → I
 in_form_once d e f g = written_once d e (sym f.form ∙ g.form)
 
 -- so it is answered in one way
-pub from_once : {text : List ℕ} {q r : Described} → FromNumpy text q → FromNumpy text r → q ≡ r
+pub from_once : {text : List ℕ} {q r : Result Described Refusal} → FromNumpy text q → FromNumpy text r → q ≡ r
 from_once f g = ⊎_elim (λ w. f.formed w.0 w.1 ∙ sym (g.formed w.0 w.1)) (λ n. f.unformed n ∙ sym (g.unformed n)) f.either

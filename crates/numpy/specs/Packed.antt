@@ -1,9 +1,8 @@
 -- PACKED IS C ORDER: the last axis runs quickest, and the cells lie one behind the other, the size of an element apart. In our order the element
 -- strides are 1 on axis 0, and on each axis the product of the extents before it.
 -- Assumes nothing.
-use Rattle.std.specs.Prelude.{◌≡◌, refl, false, not, List, [], ◌∷◌, map, ℕ, ◌+◌, ◌*◌, ◌/◌, ◌%◌, ◌<◌, eqb, pos}
+use Rattle.std.specs.Prelude.{◌≡◌, refl, false, not, List, [], ◌∷◌, map, ℕ, ◌+◌, ◌*◌, ◌/◌, ◌%◌, ◌<◌, eqb, pos, None, Some}
 use Rattle.std.proofs.Common.{sym, ap, ◌∙◌, mul_comm, mul_assoc, zero-mul, div-add-mod', mod-lt, arith, eq-eqb}
-use Rattle.std.proofs.Math.Option.{none, some}
 use Rattle.std.proofs.Math.Nat.{mul-mod_right, one-le-mul}
 use Rattle.strided.specs.Layout.{total, NoZero}
 use Rattle.strided.specs.Refusals.{refused_by}
@@ -40,7 +39,7 @@ packed-row size (e ∷ es) z n h =
     omega (arith, r, a, d)
 
 -- in elements and our order
-pub packed_strides : (size rank : ℕ) (es : List ℕ) → 0 < size → strides_of (saying size rank es none) ≡ map pos (firsts 1 (extents_of (saying size rank es none)))
+pub packed_strides : (size rank : ℕ) (es : List ℕ) → 0 < size → strides_of (saying size rank es None) ≡ map pos (firsts 1 (extents_of (saying size rank es None)))
 packed_strides size rank es p = ap reversed (packed_elements size p (afters es)) ∙ reversed-map pos (afters es) ∙ ap (map pos) (reversed-afters es)
 
 -- ABSENT MEANS THOSE: a description without T says what it says with its packed strides
@@ -48,10 +47,10 @@ none_odd : (size : ℕ) (ns : List ℕ) → any_of (no_multiple size) (map pos (
 none_odd size [] = refl
 none_odd size (n ∷ ns) = rw (ap not (eq-eqb (size * n % size) 0 (mul-mod_right size n))) (none_odd size ns)
 
-pub packed-given : (size rank : ℕ) (es : List ℕ) → refused_by (from_rows (saying size rank es none)) ≡ none
-    → described (saying size rank es none) ≡ described (saying size rank es (some (map pos (packed size es))))
+pub packed-given : (size rank : ℕ) (es : List ℕ) → refused_by (from_rows (saying size rank es None)) ≡ None
+    → described (saying size rank es None) ≡ described (saying size rank es (Some (map pos (packed size es))))
 unfolding described NoneApplies
 packed-given size rank es h =
-    let a = none_applies (from_rows (saying size rank es none)) h in
+    let a = none_applies (from_rows (saying size rank es None)) h in
     let p = or_none (eqb size 0) (any_of too_far (packed size es)) a.0 in
     rw (p.0, p.1, none_odd size (afters es), a.1.0)

@@ -1,21 +1,19 @@
 -- What the inner functions answer: the readers of the lines and of the whole text, row 19 on numbers that stand in a text, and the two kinds of
 -- description in our numbers.
 -- Assumes nothing.
-use Rattle.std.specs.Prelude.{◌≡◌, Bool, ◌||◌, List, [], ◌∷◌, ◌++◌, ℕ, ◌^◌, ◌≤◌, min, max, eqb, ℤ, length, take, drop}
-use Rattle.std.proofs.Math.Option.{Option, none, some}
+use Rattle.std.specs.Prelude.{◌≡◌, Bool, ◌||◌, List, [], ◌∷◌, ◌++◌, ℕ, ◌^◌, ◌≤◌, min, max, eqb, ℤ, length, take, drop, Option, Some, None, Result}
+use Rattle.std.specs.List.{FoldsTo}
 use Rattle.std.proofs.lemmas.List.Edits.{sets}
 use Rattle.strided.specs.Digits.{digits_of, signed_of}
 use Rattle.strided.specs.Text.{Each, FitU, FitI}
+use Rattle.strided.specs.declared.Refusal.{Refusal}
 use Rattle.reading.specs.Rows.{RowHere}
-use Rattle.reading.specs.declared.head.Counts.{Counts}
-use Rattle.reading.specs.declared.head.Counts.TheVariants as N
 use Rattle.numpy.specs.Descriptions.{Description, head_line, shape_line, strides_part, written, StridesFit, InForm, NotInForm}
 use Rattle.numpy.specs.Numpy.{any_of, packed, no_multiple, too_far, described}
 use Rattle.numpy.specs.declared.Described.{Described}
-use Rattle.numpy.specs.declared.lines.Line.{Line}
-use Rattle.numpy.specs.declared.lines.Line.TheVariants as L
+use Rattle.numpy.specs.declared.lines.Head.{Head}
 use Rattle.numpy.specs.declared.lines.Said.{Said}
-use Rattle.numpy.specs.declared.lines.Said.TheVariants.{Packed, Given, Unformed}
+use Rattle.numpy.specs.declared.lines.Said.TheVariants.{Packed, Given}
 
 -- a description out of its parts; with as many axes as the shape has
 abbrev pub saying : ℕ → ℕ → List ℕ → Option (List ℤ) → Description
@@ -26,7 +24,7 @@ said size es strides = saying size (length es) es strides
 
 -- the text of numbers in NumPy's order and units, with its T line
 unfoldable pub spelled : ℕ → List ℕ → List ℤ → List ℕ
-spelled size es ts = written (said size es (some ts))
+spelled size es ts = written (said size es (Some ts))
 
 -- ---- the N line
 
@@ -35,9 +33,9 @@ pub record HeadHere (t : List ℕ) (size rank : ℕ) (rest : List ℕ) : Type 0 
   pub rank_fits : FitU rank
   pub form : t ≡ head_line size rank ++ rest
 
-pub record ReadsHead (s : List ℕ) (r : Counts) : Type 0 where
-  pub told : (size rank next : ℕ) → r ≡ N.Told size rank next → HeadHere s size rank (drop next s)
-  pub bad : r ≡ N.Bad → (size rank : ℕ) (rest : List ℕ) → HeadHere s size rank rest → ⊥
+pub record ReadsHead (s : List ℕ) (r : Option Head) : Type 0 where
+  pub told : (h : Head) → r ≡ Some h → HeadHere s h.size h.rank (drop h.next s)
+  pub bad : r ≡ None → (size rank : ℕ) (rest : List ℕ) → HeadHere s size rank rest → ⊥
 
 -- ---- a line of numbers behind a letter: where they stand, and what is laid into an array from place 0 on
 
@@ -47,15 +45,9 @@ module _ {A : Type 0} (g : A → List ℕ) (Fits : A → Type 0) (letter : ℕ) 
     pub begins : drop at s ≡ letter ∷ drop from s
     pub row : RowHere g Fits (drop from s) vs (drop next s)
 
-  pub record TakesLine (s : List ℕ) (at rank : ℕ) (old new : List A) (r : Line) : Type 0 where
-    pub there : (from next : ℕ) → r ≡ L.At from next → (vs : List A) × LineAt s at rank from next vs × (new ≡ sets old 0 vs)
-    pub bad : r ≡ L.Bad → (vs : List A) (t rest : List ℕ) → length vs ≡ rank → drop at s ≡ letter ∷ t → RowHere g Fits t vs rest → ⊥
-
-abbrev pub TakesShape : List ℕ → ℕ → ℕ → List ℕ → List ℕ → Line → Type 0
-TakesShape s at rank old new r = TakesLine digits_of FitU 83 s at rank old new r
-
-abbrev pub TakesStrides : List ℕ → ℕ → ℕ → List ℤ → List ℤ → Line → Type 0
-TakesStrides s at rank old new r = TakesLine signed_of FitI 84 s at rank old new r
+  pub record TakesLine (s : List ℕ) (at rank : ℕ) (old new : List A) (r : Option (ℕ × ℕ)) : Type 0 where
+    pub there : (from next : ℕ) → r ≡ Some (from, next) → (vs : List A) × LineAt s at rank from next vs × (new ≡ sets old 0 vs)
+    pub bad : r ≡ None → (vs : List A) (t rest : List ℕ) → length vs ≡ rank → drop at s ≡ letter ∷ t → RowHere g Fits t vs rest → ⊥
 
 -- ---- the lines behind N, and nothing behind them
 
@@ -72,23 +64,23 @@ Shape s from es = RowHere digits_of FitU (drop from s) es []
 abbrev pub Strides : List ℕ → ℕ → List ℤ → Type 0
 Strides s from ts = RowHere signed_of FitI (drop from s) ts []
 
-pub record TakesLines (s : List ℕ) (at size rank : ℕ) (shape shape' : List ℕ) (bytes bytes' : List ℤ) (r : Said) : Type 0 where
-  pub packed : (z n from : ℕ) → r ≡ Packed z n from
-      → (es : List ℕ) × (size ≡ z) × (rank ≡ n) × LinesHere rank (drop at s) es none × Shape s from es × (shape' ≡ sets shape 0 es)
-  pub given : (z n from : ℕ) → r ≡ Given z n from
-      → (es : List ℕ) × (ts : List ℤ) × (size ≡ z) × (rank ≡ n) × LinesHere rank (drop at s) es (some ts) × Strides s from ts
+pub record TakesLines (s : List ℕ) (at size rank : ℕ) (shape shape' : List ℕ) (bytes bytes' : List ℤ) (r : Option Said) : Type 0 where
+  pub packed : (z n from : ℕ) → r ≡ Some (Packed z n from)
+      → (es : List ℕ) × (size ≡ z) × (rank ≡ n) × LinesHere rank (drop at s) es None × Shape s from es × (shape' ≡ sets shape 0 es)
+  pub given : (z n from : ℕ) → r ≡ Some (Given z n from)
+      → (es : List ℕ) × (ts : List ℤ) × (size ≡ z) × (rank ≡ n) × LinesHere rank (drop at s) es (Some ts) × Strides s from ts
       × (shape' ≡ sets shape 0 es) × (bytes' ≡ sets bytes 0 ts)
-  pub unformed : r ≡ Unformed → (es : List ℕ) (strides : Option (List ℤ)) → LinesHere rank (drop at s) es strides → ⊥
+  pub unformed : r ≡ None → (es : List ℕ) (strides : Option (List ℤ)) → LinesHere rank (drop at s) es strides → ⊥
 
 -- ---- the whole text
 
-pub record ReadsDescription (s shape shape' : List ℕ) (bytes bytes' : List ℤ) (r : Said) : Type 0 where
-  pub packed : (size rank from : ℕ) → r ≡ Packed size rank from
-      → (es : List ℕ) × InForm s (saying size rank es none) × Shape s from es × (shape' ≡ sets shape 0 es)
-  pub given : (size rank from : ℕ) → r ≡ Given size rank from
-      → (es : List ℕ) × (ts : List ℤ) × InForm s (saying size rank es (some ts)) × Strides s from ts
+pub record ReadsDescription (s shape shape' : List ℕ) (bytes bytes' : List ℤ) (r : Option Said) : Type 0 where
+  pub packed : (size rank from : ℕ) → r ≡ Some (Packed size rank from)
+      → (es : List ℕ) × InForm s (saying size rank es None) × Shape s from es × (shape' ≡ sets shape 0 es)
+  pub given : (size rank from : ℕ) → r ≡ Some (Given size rank from)
+      → (es : List ℕ) × (ts : List ℤ) × InForm s (saying size rank es (Some ts)) × Strides s from ts
       × (shape' ≡ sets shape 0 es) × (bytes' ≡ sets bytes 0 ts)
-  pub unformed : r ≡ Unformed → NotInForm s
+  pub unformed : r ≡ None → NotInForm s
 
 -- ---- row 19 on numbers that stand in a text
 
@@ -98,6 +90,11 @@ OfShape s at count P = (vs rest : List ℕ) → length vs ≡ count → RowHere 
 
 abbrev pub OfStrides : List ℕ → ℕ → ℕ → (List ℤ → Type 0) → Type 0
 OfStrides s at count P = (vs : List ℤ) (rest : List ℕ) → length vs ≡ count → RowHere signed_of FitI (drop at s) vs rest → P vs
+
+-- r is what answers that R tells of, one number after the other, make of `first`
+module _ {A B : Type 0} (g : B → List ℕ) (Fits : B → Type 0) (R : A → B → A → Type 0) where
+  abbrev pub Folds : List ℕ → ℕ → ℕ → A → A → Type 0
+  Folds s at count first r = (vs : List B) (rest : List ℕ) → length vs ≡ count → RowHere g Fits (drop at s) vs rest → FoldsTo R first vs r
 
 -- the greatest of some numbers, 0 of none
 abbrev pub most_of : List ℕ → ℕ
@@ -135,10 +132,10 @@ pub record StridesAt (s : List ℕ) (at rank : ℕ) (bytes : List ℤ) : Type 0 
   pub row : Strides s at ts
   pub laid : rank ≤ 64 → take rank bytes ≡ ts
 
-abbrev pub FromPacked : List ℕ → ℕ → ℕ → ℕ → List ℕ → Described → Type 0
-FromPacked s at size rank shape r = OfShape s at rank (λ es. (rank ≤ 64 → take rank shape ≡ es) → r ≡ described (saying size rank es none))
+abbrev pub FromPacked : List ℕ → ℕ → ℕ → ℕ → List ℕ → Result Described Refusal → Type 0
+FromPacked s at size rank shape r = OfShape s at rank (λ es. (rank ≤ 64 → take rank shape ≡ es) → r ≡ described (saying size rank es None))
 
-abbrev pub FromGiven : List ℕ → ℕ → ℕ → ℕ → List ℕ → List ℤ → Described → Type 0
+abbrev pub FromGiven : List ℕ → ℕ → ℕ → ℕ → List ℕ → List ℤ → Result Described Refusal → Type 0
 FromGiven s at size rank shape bytes r =
     OfStrides s at rank (λ ts. (es : List ℕ) → length es ≡ rank → (rank ≤ 64 → take rank shape ≡ es) → (rank ≤ 64 → take rank bytes ≡ ts)
-    → r ≡ described (saying size rank es (some ts)))
+    → r ≡ described (saying size rank es (Some ts)))

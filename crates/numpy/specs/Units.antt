@@ -4,6 +4,8 @@ use Rattle.std.specs.Prelude.{◌≡◌, refl, false, not, List, [], ◌∷◌, 
 use Rattle.std.proofs.Common.{sym, ap, ap₂, ◌∙◌, mul_comm, mul_assoc, one-mul, mul-one, mul-div_cancel, div-add-mod', arith, eqb-true, eq-eqb}
 use Rattle.std.proofs.Math.Nat.{mul-div_cancel_left, mul-mod_left}
 use Rattle.std.proofs.lemmas.Bool.{not-false}
+use Rattle.std.specs.List.{AllZip}
+use Rattle.strided.specs.Base.{padded}
 use Rattle.strided.specs.Layout.{total}
 use Rattle.laws.specs.Base.Integers.{nat_abs_product}
 use Rattle.numpy.specs.Numpy.{reversed, afters, element_stride, byte_stride, no_multiple}
@@ -79,3 +81,11 @@ packed_elements size h (n ∷ ns) = ap₂ (λ (z : ℤ) (l : List ℤ). z ∷ l)
 -- all products of leading extents, but for the last extent, are within 64-bit signed
 abbrev pub Near : List ℕ → Type 0
 Near es = (i : ℕ) → i < length es → total (take i es) < 2 ^ 63
+
+-- ---- an array that calls fill
+
+-- the array holds what calls answer, R telling of each number and its answer, from the last number to the first, and zeros behind
+pub record Turns {A : Type 0} (R : A → A → Type 0) (z : A) (xs out : List A) : Type 0 where
+  pub results : List A
+  pub each : AllZip R (reversed xs) results
+  pub laid : out ≡ padded 64 z results

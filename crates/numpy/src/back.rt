@@ -2,7 +2,7 @@
 ghost use Rattle.std.specs.Prelude.{◌≡◌, [], ◌∷◌, ◌≤◌, length};
 ghost use Rattle.strided.specs.Refusals.{refused_by};
 ghost use Rattle.strided.specs.Text.{listing_or, filling, row14};
-ghost use Rattle.numpy.specs.Numpy.{back_row19, any_of, stride_out};
+ghost use Rattle.numpy.specs.Numpy.{back_row19};
 ghost use Rattle.numpy.specs.Readers.{spelled};
 
 use super::units::stride_out;
@@ -10,28 +10,11 @@ use layout::negated;
 use strided::Refusal;
 use writing::line::{numbers_len, put_line, signed_len};
 
-// Whether some stride in bytes leaves 64-bit signed.
-fn some_out(size: u64, strides: &[i64]) -> bool
-    ensures { result ≡ any_of (stride_out size) strides.now }
-{
-    let mut i: usize = 0;
-    while i < strides.len() {
-        if stride_out(size, strides[i]) {
-            return true;
-        }
-        i += 1;
-    }
-    false
-}
-
-// Row 19 on the way back.
+// Row 19 on the way back: whether there is no size, or some stride in bytes leaves 64-bit signed.
 pub fn strides_out(size: u64, strides: &[i64]) -> bool
     ensures { result ≡ (back_row19 size strides.now).applies }
 {
-    if size == 0 {
-        return true;
-    }
-    some_out(size, strides)
+    size == 0 || strides.iter().any(|&z| stride_out(size, z))
 }
 
 // How long the text is.

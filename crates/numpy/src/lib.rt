@@ -3,14 +3,14 @@
 #![tactic(auto)]
 
 ghost use Rattle.std.specs.Prelude.{◌≡◌, length};
-ghost use Rattle.numpy.specs.Numpy.{FromNumpy, refusing, to_numpy};
+ghost use Rattle.numpy.specs.Numpy.{FromNumpy, to_numpy};
 ghost use Rattle.numpy.specs.Readers.{ShapeAt, StridesAt, FromPacked, FromGiven};
 
 use back::{list, strides_out};
 use layout::{negated, rank_over, strides_wrong};
 use lines::{Said, read_description};
 use rows::{given_wrong, packed_wrong};
-use strided::{Answer, Refusal};
+use strided::Refusal;
 use units::{byte_strides, element_strides, packed_strides, reversed};
 
 pub mod back;
@@ -21,46 +21,37 @@ pub mod units;
 // What a description says: the size of an element in bytes, and extents and element strides in our order. Places behind the rank are 0.
 #[derive(Clone, Copy)]
 pub struct Described {
-    pub answer: Answer,
     pub size: u64,
     pub rank: usize,
     pub extents: [u64; 64],
     pub strides: [i64; 64],
 }
 
-// A refusal, and zeros beside it.
-fn refused(refusal: Refusal) -> Described
-    ensures { result ≡ refusing refusal }
-{
-    Described {
-        answer: Answer::Refused(refusal),
-        size: 0,
-        rank: 0,
-        extents: [0u64; 64],
-        strides: [0i64; 64],
-    }
-}
-
 // A description without T, whose shape stands in the text from `at` on and, as far as there are places, in `shape`.
-fn from_packed<'a>(text: &'a [u8], at: usize, size: u64, rank: usize, shape: &'a [u64]) -> Described
+fn from_packed<'a>(
+    text: &'a [u8],
+    at: usize,
+    size: u64,
+    rank: usize,
+    shape: &'a [u64],
+) -> Result<Described, Refusal>
     requires { (length shape.now ≡ 64) × (ShapeAt text.now at rank shape.now) }
     ensures { FromPacked text.now at size rank shape.now result }
 {
     if packed_wrong(text, at, rank, size) {
-        return refused(Refusal::ByteStrides);
+        return Err(Refusal::ByteStrides);
     }
     if rank_over(rank) {
-        return refused(Refusal::Rank);
+        return Err(Refusal::Rank);
     }
     let extents = reversed(&shape[..rank]);
     let strides = packed_strides(&extents[..rank]);
-    Described {
-        answer: Answer::Served,
+    Ok(Described {
         size,
         rank,
         extents,
         strides,
-    }
+    })
 }
 
 // A description with T, whose byte strides stand in the text from `at` on and, as far as there are places, in `bytes`.
@@ -71,37 +62,38 @@ fn from_given<'a>(
     rank: usize,
     shape: &'a [u64],
     bytes: &'a [i64],
-) -> Described
+) -> Result<Described, Refusal>
     requires { (length shape.now ≡ 64) × (length bytes.now ≡ 64) × (StridesAt text.now at rank bytes.now) }
     ensures { FromGiven text.now at size rank shape.now bytes.now result }
 {
     if given_wrong(text, at, rank, size) {
-        return refused(Refusal::ByteStrides);
+        return Err(Refusal::ByteStrides);
     }
     if rank_over(rank) {
-        return refused(Refusal::Rank);
+        return Err(Refusal::Rank);
     }
     let extents = reversed(&shape[..rank]);
     let strides = element_strides(size, &bytes[..rank]);
-    Described {
-        answer: Answer::Served,
+    Ok(Described {
         size,
         rank,
         extents,
         strides,
-    }
+    })
 }
 
 // FROM NUMPY: rows 12, 19 and 1, then the numbers.
-pub fn from_numpy(text: &[u8]) -> Described
+pub fn from_numpy(text: &[u8]) -> Result<Described, Refusal>
     ensures { FromNumpy text.now result }
 {
     let mut shape = [0u64; 64];
     let mut bytes = [0i64; 64];
-    match read_description(text, &mut shape, &mut bytes) {
+    let Some(said) = read_description(text, &mut shape, &mut bytes) else {
+        return Err(Refusal::Form);
+    };
+    match said {
         Said::Packed(size, rank, at) => from_packed(text, at, size, rank, &shape),
         Said::Given(size, rank, at) => from_given(text, at, size, rank, &shape, &bytes),
-        Said::Unformed => refused(Refusal::Form),
     }
 }
 

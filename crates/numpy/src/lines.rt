@@ -1,16 +1,18 @@
 // The lines N, S and T. Shape and byte strides are laid into lent arrays as far as these have places; all of them are read for the form.
-ghost use Rattle.numpy.specs.Readers.{ReadsHead, TakesShape, TakesStrides, TakesLines, ReadsDescription};
+ghost use Rattle.numpy.specs.Readers.{ReadsHead, TakesLine, TakesLines, ReadsDescription};
 
 use reading::MAX_TEXT;
-use reading::byte::{Place, behind};
-use reading::head::{Counts, read_counts};
-use reading::row::{read_row, read_signed_row};
+use reading::byte::behind;
+use reading::head::read_counts;
+use reading::number::Number;
+use reading::row::read_row;
 
-// The place of a line's numbers, and the place behind the line.
+// What the N line says, and the place behind it.
 #[derive(Clone, Copy)]
-pub enum Line {
-    At(usize, usize),
-    Bad,
+pub struct Head {
+    pub size: u64,
+    pub rank: usize,
+    pub next: usize,
 }
 
 // What a text says: size, rank, and where the shape stands, or the byte strides if there are some.
@@ -18,49 +20,35 @@ pub enum Line {
 pub enum Said {
     Packed(u64, usize, usize),
     Given(u64, usize, usize),
-    Unformed,
 }
 
 // "N,size,rank"
-fn read_head(s: &[u8]) -> Counts
+fn read_head(s: &[u8]) -> Option<Head>
     ensures { ReadsHead s.now result }
 {
-    match behind(s, 0, 78) {
-        Place::To(from) => match read_counts(s, from) {
-            Counts::Told(size, rank, p) => match behind(s, p, 10) {
-                Place::To(next) => Counts::Told(size, rank, next),
-                Place::Bad => Counts::Bad,
-            },
-            Counts::Bad => Counts::Bad,
-        },
-        Place::Bad => Counts::Bad,
-    }
+    let from = behind(s, 0, b'N')?;
+    let counts = read_counts(s, from)?;
+    let next = behind(s, counts.next, b'\n')?;
+    Some(Head {
+        size: counts.rank as u64,
+        rank: counts.operands,
+        next,
+    })
 }
 
-// "S,shape"
-fn read_shape(s: &[u8], at: usize, rank: usize, shape: &mut [u64]) -> Line
-    ensures { TakesShape s.now at rank shape.old shape.new result }
+// A line of `rank` numbers behind a letter, "S,shape" or "T,byte strides": the place of its numbers, and the place behind the line.
+fn read_line<T: Number>(
+    s: &[u8],
+    at: usize,
+    letter: u8,
+    rank: usize,
+    out: &mut [T],
+) -> Option<(usize, usize)>
+    ensures { TakesLine T.text T.fits letter s.now at rank out.old out.new result }
 {
-    match behind(s, at, 83) {
-        Place::To(from) => match read_row(s, from, rank, shape) {
-            Place::To(next) => Line::At(from, next),
-            Place::Bad => Line::Bad,
-        },
-        Place::Bad => Line::Bad,
-    }
-}
-
-// "T,byte strides"
-fn read_strides(s: &[u8], at: usize, rank: usize, bytes: &mut [i64]) -> Line
-    ensures { TakesStrides s.now at rank bytes.old bytes.new result }
-{
-    match behind(s, at, 84) {
-        Place::To(from) => match read_signed_row(s, from, rank, 0, bytes) {
-            Place::To(next) => Line::At(from, next),
-            Place::Bad => Line::Bad,
-        },
-        Place::Bad => Line::Bad,
-    }
+    let from = behind(s, at, letter)?;
+    let next = read_row(s, from, rank, out)?;
+    Some((from, next))
 }
 
 // The lines behind N, to the text's end.
@@ -71,37 +59,27 @@ fn read_lines(
     rank: usize,
     shape: &mut [u64],
     bytes: &mut [i64],
-) -> Said
+) -> Option<Said>
     ensures { TakesLines s.now at size rank shape.old shape.new bytes.old bytes.new result }
 {
-    match read_shape(s, at, rank, shape) {
-        Line::At(from, next) => {
-            if s.len() <= next {
-                return Said::Packed(size, rank, from);
-            }
-            match read_strides(s, next, rank, bytes) {
-                Line::At(row, end) => {
-                    if s.len() <= end {
-                        return Said::Given(size, rank, row);
-                    }
-                    Said::Unformed
-                }
-                Line::Bad => Said::Unformed,
-            }
-        }
-        Line::Bad => Said::Unformed,
+    let (from, next) = read_line(s, at, b'S', rank, shape)?;
+    if s.len() <= next {
+        return Some(Said::Packed(size, rank, from));
     }
+    let (row, end) = read_line(s, next, b'T', rank, bytes)?;
+    if s.len() <= end {
+        return Some(Said::Given(size, rank, row));
+    }
+    None
 }
 
-// THE TEXT: what it says, or that it is not in the form.
-pub fn read_description(s: &[u8], shape: &mut [u64], bytes: &mut [i64]) -> Said
+// THE TEXT: what it says, if it is in the form.
+pub fn read_description(s: &[u8], shape: &mut [u64], bytes: &mut [i64]) -> Option<Said>
     ensures { ReadsDescription s.now shape.old shape.new bytes.old bytes.new result }
 {
     if MAX_TEXT < s.len() {
-        return Said::Unformed;
+        return None;
     }
-    match read_head(s) {
-        Counts::Told(size, rank, at) => read_lines(s, at, size as u64, rank, shape, bytes),
-        Counts::Bad => Said::Unformed,
-    }
+    let head = read_head(s)?;
+    read_lines(s, head.next, head.size, head.rank, shape, bytes)
 }

@@ -1,15 +1,32 @@
 // Row 19 on the numbers of a text, whatever the rank. They are read where they stand: a text can have thousands, and none needs a place.
-ghost use Rattle.std.specs.Prelude.{◌≡◌, ◌||◌, ◌<◌, max};
-ghost use Rattle.numpy.specs.Readers.{PackedWrong, GivenWrong, Peaks, SomeNoMultiple};
+ghost use Rattle.std.specs.Prelude.{◌<◌};
+ghost use Rattle.numpy.specs.Readers.{Folds, PackedWrong, GivenWrong, Peaks, SomeNoMultiple};
 
 use super::units::no_multiple;
 use layout::sizes::mul_cap;
-use reading::number::{Number, Signed, field, signed_field};
+use reading::number::{Number, field};
 
-fn most(a: u64, b: u64) -> u64
-    ensures { result ≡ max a b }
+// What f makes of the `count` numbers that stand at `at`, one after the other. Where there are not so many it is told of those that are.
+fn fold_row<T: Number, A: Copy, F: Fn(A, T) -> A>(
+    s: &[u8],
+    at: usize,
+    count: usize,
+    first: A,
+    f: F,
+) -> A
+    requires { F.IsAlwaysCallable f }
+    ensures { Folds T.text T.fits (λ a v b. F.post f a v b) s.now at count first result }
 {
-    if a < b { b } else { a }
+    let mut a = first;
+    let mut p = at;
+    for _ in 0..count {
+        let Some(read) = field::<T>(s, p) else {
+            return a;
+        };
+        a = f(a, read.0);
+        p = read.1;
+    }
+    a
 }
 
 // The greatest packed byte stride of the shape that stands at `at`, below 2^63; from there on it may be told less, but not below 2^63.
@@ -17,42 +34,16 @@ fn most(a: u64, b: u64) -> u64
 fn peak(s: &[u8], at: usize, count: usize, size: u64) -> u64
     ensures { Peaks s.now at count size result }
 {
-    let mut greatest: u64 = 0;
-    let mut p = at;
-    let mut i: usize = 0;
-    while i < count {
-        match field(s, p) {
-            Number::Value(e, next) => {
-                let grown = mul_cap(greatest, e, 9223372036854775808);
-                greatest = most(grown, size);
-                p = next;
-            }
-            Number::Bad => {
-                return greatest;
-            }
-        }
-        i += 1;
-    }
-    greatest
+    fold_row(s, at, count, 0, |greatest: u64, e: u64| {
+        mul_cap(greatest, e, 1 << 63).max(size)
+    })
 }
 
 // Row 19 of a packed description.
 pub fn packed_wrong(s: &[u8], at: usize, count: usize, size: u64) -> bool
     ensures { PackedWrong s.now at count size result }
 {
-    if size == 0 {
-        return true;
-    }
-    9223372036854775807 < peak(s, at, count, size)
-}
-
-fn either(a: bool, b: bool) -> bool
-    ensures { result ≡ (a || b) }
-{
-    if a {
-        return true;
-    }
-    b
+    size == 0 || peak(s, at, count, size) > i64::MAX as u64
 }
 
 // Whether some byte stride that stands at `at` is no multiple of the size.
@@ -60,30 +51,14 @@ fn some_no_multiple(s: &[u8], at: usize, count: usize, size: u64) -> bool
     requires { 0 < size }
     ensures { SomeNoMultiple s.now at count size result }
 {
-    let mut wrong = false;
-    let mut p = at;
-    let mut i: usize = 0;
-    while i < count {
-        match signed_field(s, p) {
-            Signed::Value(b, next) => {
-                wrong = either(wrong, no_multiple(size, b));
-                p = next;
-            }
-            Signed::Bad => {
-                return wrong;
-            }
-        }
-        i += 1;
-    }
-    wrong
+    fold_row(s, at, count, false, |wrong: bool, b: i64| {
+        wrong | no_multiple(size, b)
+    })
 }
 
 // Row 19 of a description with T.
 pub fn given_wrong(s: &[u8], at: usize, count: usize, size: u64) -> bool
     ensures { GivenWrong s.now at count size result }
 {
-    if size == 0 {
-        return true;
-    }
-    some_no_multiple(s, at, count, size)
+    size == 0 || some_no_multiple(s, at, count, size)
 }

@@ -2,9 +2,9 @@
 ghost use Rattle.std.specs.Prelude.{◌≡◌, false, map, ◌≤◌, ◌<◌, pos, length};
 ghost use Rattle.strided.specs.Base.{padded};
 ghost use Rattle.numpy.specs.Numpy.{reversed, any_of, no_multiple, element_stride, stride_out, byte_stride};
-ghost use Rattle.numpy.specs.Units.{firsts, Near};
+ghost use Rattle.std.specs.List.{All};
+ghost use Rattle.numpy.specs.Units.{firsts, Near, Turns};
 
-use layout::magnitude;
 use layout::sizes::mul_cap;
 use reading::number::{negative, positive};
 
@@ -13,7 +13,7 @@ pub fn no_multiple(size: u64, bytes: i64) -> bool
     requires { 0 < size }
     ensures { result ≡ no_multiple size bytes }
 {
-    magnitude(bytes) % size != 0
+    bytes.unsigned_abs() % size != 0
 }
 
 // A byte stride in elements.
@@ -21,7 +21,7 @@ fn element_stride(size: u64, bytes: i64) -> i64
     requires { (0 < size) × (no_multiple size bytes ≡ false) }
     ensures { result ≡ element_stride size bytes }
 {
-    let count = magnitude(bytes) / size;
+    let count = bytes.unsigned_abs() / size;
     if bytes < 0 {
         return negative(count);
     }
@@ -32,11 +32,11 @@ fn element_stride(size: u64, bytes: i64) -> i64
 pub fn stride_out(size: u64, stride: i64) -> bool
     ensures { result ≡ stride_out size stride }
 {
-    let bytes = mul_cap(magnitude(stride), size, 9223372036854775809);
+    let bytes = mul_cap(stride.unsigned_abs(), size, (1 << 63) + 1);
     if stride < 0 {
-        return 9223372036854775808 < bytes;
+        return bytes > 1 << 63;
     }
-    9223372036854775807 < bytes
+    bytes >= 1 << 63
 }
 
 // An element stride in bytes.
@@ -44,11 +44,26 @@ fn byte_stride(size: u64, stride: i64) -> i64
     requires { (0 < size) × (stride_out size stride ≡ false) }
     ensures { result ≡ byte_stride size stride }
 {
-    let bytes = magnitude(stride) * size;
+    let bytes = stride.unsigned_abs() * size;
     if stride < 0 {
         return negative(bytes);
     }
     positive(bytes)
+}
+
+// What f makes of the numbers, from the last to the first, with zeros behind.
+fn turned<T: Copy, F: Fn(T) -> T>(numbers: &[T], zero: T, f: F) -> [T; 64]
+    requires len { length numbers.now ≤ 64 }
+    requires callable { All (F.pre f) numbers.now }
+    ensures { Turns (F.post f) zero numbers.now result }
+{
+    let n = numbers.len();
+    let mut out = [zero; 64];
+    for i in 0..n {
+        let j = n - 1 - i;
+        out[i] = f(numbers[j]);
+    }
+    out
 }
 
 // The numbers from the last to the first, zeros behind them.
@@ -56,15 +71,7 @@ pub fn reversed(numbers: &[u64]) -> [u64; 64]
     requires { length numbers.now ≤ 64 }
     ensures { result ≡ padded 64 0 (reversed numbers.now) }
 {
-    let n = numbers.len();
-    let mut out = [0u64; 64];
-    let mut i: usize = 0;
-    while i < n {
-        let j = n - 1 - i;
-        out[i] = numbers[j];
-        i += 1;
-    }
-    out
+    turned(numbers, 0, |e| e)
 }
 
 // Byte strides in elements, with the axes reversed.
@@ -72,15 +79,7 @@ pub fn element_strides(size: u64, bytes: &[i64]) -> [i64; 64]
     requires { (length bytes.now ≤ 64) × (0 < size) × (any_of (no_multiple size) bytes.now ≡ false) }
     ensures { result ≡ padded 64 (pos 0) (reversed (map (element_stride size) bytes.now)) }
 {
-    let n = bytes.len();
-    let mut out = [0i64; 64];
-    let mut i: usize = 0;
-    while i < n {
-        let j = n - 1 - i;
-        out[i] = element_stride(size, bytes[j]);
-        i += 1;
-    }
-    out
+    turned(bytes, 0, |b| element_stride(size, b))
 }
 
 // Element strides in bytes, with the axes reversed.
@@ -88,15 +87,7 @@ pub fn byte_strides(size: u64, strides: &[i64]) -> [i64; 64]
     requires { (length strides.now ≤ 64) × (0 < size) × (any_of (stride_out size) strides.now ≡ false) }
     ensures { result ≡ padded 64 (pos 0) (reversed (map (byte_stride size) strides.now)) }
 {
-    let n = strides.len();
-    let mut out = [0i64; 64];
-    let mut i: usize = 0;
-    while i < n {
-        let j = n - 1 - i;
-        out[i] = byte_stride(size, strides[j]);
-        i += 1;
-    }
-    out
+    turned(strides, 0, |z| byte_stride(size, z))
 }
 
 // The element strides of a packed array in our order: 1 on axis 0, and on each axis the product of the extents before it.
@@ -107,11 +98,9 @@ pub fn packed_strides(extents: &[u64]) -> [i64; 64]
     let n = extents.len();
     let mut out = [0i64; 64];
     let mut step: u64 = 1;
-    let mut i: usize = 0;
-    while i < n {
+    for i in 0..n {
         out[i] = positive(step);
-        step = mul_cap(step, extents[i], 9223372036854775808);
-        i += 1;
+        step = mul_cap(step, extents[i], 1 << 63);
     }
     out
 }

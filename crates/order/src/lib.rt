@@ -41,10 +41,8 @@ pub fn as_given_into(rank: usize, out: &mut [usize; 64])
     requires out_value { out.old ≡ replicate 64 0 }
     ensures { out.new ≡ padded 64 0 (run 0 rank) }
 {
-    let mut i: usize = 0;
-    while i < rank {
+    for i in 0..rank {
         out[i] = i;
-        i += 1;
     }
 }
 
@@ -65,7 +63,7 @@ pub fn fusing_order_into(
 {
     if total_at_most(extents, SMALL_TENSOR_THRESHOLD) {
         as_given_into(extents.len(), out);
-        return;
+    } else {
+        compute_order_into(extents, strides, operands, purpose, weights, out);
     }
-    compute_order_into(extents, strides, operands, purpose, weights, out);
 }

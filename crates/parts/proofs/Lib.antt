@@ -1,4 +1,3 @@
 -- Laws that belong to no one function.
 pub mod Laws
 pub mod Fusing
-pub mod Lending

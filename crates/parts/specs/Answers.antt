@@ -1,7 +1,6 @@
 -- What a C function of a part answers: the refusal's number or 0, and the lent memory.
 -- Assumes nothing.
-use Rattle.std.specs.Prelude.{◌≡◌, List, ℕ, ℤ, length}
-use Rattle.std.proofs.Math.Option.{Option, none, some}
+use Rattle.std.specs.Prelude.{◌≡◌, List, ℕ, ℤ, length, Option, None, Some}
 use Rattle.strided.specs.Fuse.{plan_axes}
 use Rattle.strided.specs.Costs.{costs}
 use Rattle.strided.specs.Plan.{stride_table}
@@ -15,13 +14,13 @@ counts_refused es sizes ss u = refused_by (count_rows es sizes ss u)
 
 -- the refusal's number, or 0
 abbrev pub told : Option Refusal → ℕ
-told none = 0
-told (some r) = number r
+told None = 0
+told (Some r) = number r
 
 -- lent memory that held `old`: the part, or on a refusal what it held
 abbrev pub kept : {A : Type 0} → Option Refusal → A → A → A
-kept none part old = part
-kept (some r) part old = old
+kept None part old = part
+kept (Some r) part old = old
 
 pub record Part {A : Type 0} (refused : Option Refusal) (part old new : A) (r : ℕ) : Type 0 where
   pub answer : r ≡ told refused

@@ -25,7 +25,7 @@ use importance::compute_importance_into;
 use kernel::axes_into;
 use layout::{check_counts, check_layout, lead, number, purpose_of};
 use order::compute_order_into;
-use strided::{Answer, Purpose};
+use strided::Purpose;
 
 pub mod plans;
 pub mod steps;
@@ -43,8 +43,8 @@ pub extern "C" fn parts_check<'a>(
 {
     let checked = check_layout(extents, sizes, strides, purpose_of(kind, chosen));
     match checked {
-        Answer::Refused(refusal) => number(refusal),
-        Answer::Served => 0,
+        Err(refusal) => number(refusal),
+        Ok(()) => 0,
     }
 }
 
@@ -64,8 +64,8 @@ pub extern "C" fn parts_ranks<'a>(
 {
     let checked = check_counts(extents, sizes, strides, purpose_of(kind, chosen));
     match checked {
-        Answer::Refused(refusal) => number(refusal),
-        Answer::Served => {
+        Err(refusal) => number(refusal),
+        Ok(()) => {
             *ranks = [[0u8; 64]; 8];
             rank_table_into(strides, extents.len(), sizes.len(), ranks);
             0
@@ -90,8 +90,8 @@ pub extern "C" fn parts_weights<'a>(
     let purpose = purpose_of(kind, chosen);
     let checked = check_counts(extents, sizes, strides, purpose);
     match checked {
-        Answer::Refused(refusal) => number(refusal),
-        Answer::Served => {
+        Err(refusal) => number(refusal),
+        Ok(()) => {
             *importance = [0u64; 64];
             compute_importance_into(extents, strides, sizes.len(), lead(purpose), importance);
             0
@@ -116,8 +116,8 @@ pub extern "C" fn parts_order<'a>(
     let purpose = purpose_of(kind, chosen);
     let checked = check_counts(extents, sizes, strides, purpose);
     match checked {
-        Answer::Refused(refusal) => number(refusal),
-        Answer::Served => {
+        Err(refusal) => number(refusal),
+        Ok(()) => {
             let mut weights = [0u64; 64];
             *order = [0usize; 64];
             compute_order_into(extents, strides, sizes.len(), purpose, &mut weights, order);
@@ -157,8 +157,8 @@ pub extern "C" fn parts_fused<'a>(
     let purpose = purpose_of(kind, chosen);
     let checked = check_counts(extents, sizes, strides, purpose);
     match checked {
-        Answer::Refused(refusal) => number(refusal),
-        Answer::Served => {
+        Err(refusal) => number(refusal),
+        Ok(()) => {
             let mut order = [0usize; 64];
             *fused = [0u64; 64];
             map_into(extents, strides, sizes.len(), purpose, &mut order, fused);
@@ -192,8 +192,8 @@ pub extern "C" fn parts_axes<'a>(
     let purpose = purpose_of(kind, chosen);
     let checked = check_counts(extents, sizes, strides, purpose);
     match checked {
-        Answer::Refused(refusal) => number(refusal),
-        Answer::Served => {
+        Err(refusal) => number(refusal),
+        Ok(()) => {
             *kept = [0u64; 64];
             *table = [0i64; 512];
             let rank = axes_into(extents, strides, sizes.len(), purpose, kept, table);
@@ -220,10 +220,9 @@ pub extern "C" fn parts_costs<'a>(
     let purpose = purpose_of(kind, chosen);
     let checked = check_counts(extents, sizes, strides, purpose);
     match checked {
-        Answer::Refused(refusal) => number(refusal),
-        Answer::Served => {
-            let found = costs_of(extents, strides, sizes.len(), purpose);
-            *costs = found;
+        Err(refusal) => number(refusal),
+        Ok(()) => {
+            *costs = costs_of(extents, strides, sizes.len(), purpose);
             0
         }
     }

@@ -1,13 +1,13 @@
 // Planning by the public entry that returns a plan by value. The plan, 5 KB, is then copied into the lent arrays.
 ghost use Rattle.strided.specs.Machine.{machine_of};
 ghost use Rattle.strided.specs.Refusals.{planning_refused};
-ghost use Rattle.strided.specs.Plan.{planned};
+ghost use Rattle.strided.specs.Plan.{the_plan};
 ghost use Rattle.strided.specs.Memory.{plan_at, plan_memory, purpose_of};
 ghost use Rattle.parts.specs.Answers.{Part};
 
 use kernel::plan;
 use layout::{number, purpose_of};
-use strided::{Answer, Machine};
+use strided::Machine;
 
 // The plan of a layout, refused by rows 1 to 6 and 24.
 #[unsafe(no_mangle)]
@@ -30,7 +30,7 @@ pub extern "C" fn parts_plan<'a>(
     ensures { let m = machine_of line cache way live in
         let u = purpose_of kind chosen in
         Part (planning_refused m extents.now sizes.now strides.now u)
-        (plan_memory (planned m extents.now sizes.now strides.now u).plan)
+        (plan_memory (the_plan m extents.now sizes.now strides.now u))
         (plan_at rank.old operands.old plan_extents.old blocks.old plan_strides.old)
         (plan_at rank.new operands.new plan_extents.new blocks.new plan_strides.new)
         result }
@@ -42,18 +42,14 @@ pub extern "C" fn parts_plan<'a>(
         live,
     };
     let planned = plan(extents, sizes, strides, purpose_of(kind, chosen), machine);
-    let answer = planned.answer;
-    match answer {
-        Answer::Refused(refusal) => number(refusal),
-        Answer::Served => {
-            let made = planned.plan;
-            let axes = made.rank;
-            let count = made.operands;
+    match planned {
+        Err(refusal) => number(refusal),
+        Ok(made) => {
             let e = made.extents;
             let b = made.blocks;
             let s = made.strides;
-            *rank = [axes];
-            *operands = [count];
+            *rank = [made.rank];
+            *operands = [made.operands];
             *plan_extents = e;
             *blocks = b;
             *plan_strides = s;

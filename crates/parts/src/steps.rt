@@ -2,12 +2,12 @@
 // each call, since they take it by value. They answer 1 for a block and 0 for the end, or a refusal's number negated, and then every lent
 // byte is as it was.
 ghost use Rattle.std.specs.Prelude.{◌≡◌};
-ghost use Rattle.strided.specs.Step.{stepped, left};
+ghost use Rattle.strided.specs.Step.{stepped};
 ghost use Rattle.strided.specs.Memory.{plan_of, walk_at, walk_in, step_at, Steps};
 ghost use Rattle.parts.specs.States.{with_state};
 
 use layout::negated;
-use strided::{Outcome, Plan, Stepped, Walk};
+use strided::{Outcome, Stepped, Walk};
 use walk::memory::{flag, plan_of};
 use walk::{step, step_lent};
 
@@ -15,13 +15,10 @@ use walk::{step, step_lent};
 fn walk_of<'a>(ended: &'a [u64; 1], counters: &'a [u64; 64], offsets: &'a [i64; 8]) -> Walk
     ensures { result ≡ walk_in (walk_at ended.now counters.now offsets.now) }
 {
-    let over = ended[0] != 0;
-    let c = *counters;
-    let o = *offsets;
     Walk {
-        ended: over,
-        counters: c,
-        offsets: o,
+        ended: ended[0] != 0,
+        counters: *counters,
+        offsets: *offsets,
     }
 }
 
@@ -42,24 +39,21 @@ fn hand_out(
         let new = step_at w' block_counters.new length.new block_offsets.new block_strides.new in
         Steps stepped old new result }
 {
-    let answer = stepped.answer;
-    match answer {
+    match stepped.answer {
         Outcome::Rejected(refusal) => negated(refusal),
         Outcome::Ended => 0,
         Outcome::Block => {
             let next = stepped.walk;
-            let e = flag(next.ended);
             let nc = next.counters;
             let no = next.offsets;
             let bc = stepped.counters;
-            let bl = stepped.length;
             let bo = stepped.offsets;
             let bs = stepped.strides;
-            *ended = [e];
+            *ended = [flag(next.ended)];
             *counters = nc;
             *offsets = no;
             *block_counters = bc;
-            *length = [bl];
+            *length = [stepped.length];
             *block_offsets = bo;
             *block_strides = bs;
             1
@@ -104,42 +98,11 @@ pub extern "C" fn parts_step<'a>(
     )
 }
 
-// What a lent step returns, and the state that it leaves.
-#[derive(Clone, Copy)]
-struct Moved {
-    stepped: Stepped,
-    walk: Walk,
-}
-
-// A lent step of a state that is held here.
-fn step_held(plan: Plan, walk: Walk) -> Moved
-    ensures { result ≡ record { stepped = stepped plan walk; walk = left (stepped plan walk) walk } }
-{
-    let mut state = walk;
-    let stepped = step_lent(plan, &mut state);
-    Moved {
-        stepped: stepped,
-        walk: state,
-    }
-}
-
 // What was returned, with the state that was left in place of its own.
 fn with_state(stepped: Stepped, walk: Walk) -> Stepped
     ensures { result ≡ with_state stepped walk }
 {
-    let answer = stepped.answer;
-    let counters = stepped.counters;
-    let length = stepped.length;
-    let offsets = stepped.offsets;
-    let strides = stepped.strides;
-    Stepped {
-        answer: answer,
-        counters: counters,
-        length: length,
-        offsets: offsets,
-        strides: strides,
-        walk: walk,
-    }
+    Stepped { walk, ..stepped }
 }
 
 // A lent step.
@@ -167,10 +130,10 @@ pub extern "C" fn parts_step_lent<'a>(
 {
     let plan = plan_of(rank, operands, extents, blocks, strides);
     let walk = walk_of(ended, counters, offsets);
-    let moved = step_held(plan, walk);
-    let next = moved.walk;
+    let mut state = walk;
+    let stepped = step_lent(plan, &mut state);
     hand_out(
-        with_state(moved.stepped, next),
+        with_state(stepped, state),
         ended,
         counters,
         offsets,

@@ -16,19 +16,18 @@ use Rattle.laws.specs.Text.Numbers.{is_digit, goes_on, Digits, none, more, value
 use Rattle.reading.specs.Here.{Here}
 use Rattle.reading.specs.Numbers.{Reads, More, ReadsMore}
 use Rattle.reading.proofs.Bytes.{DigitAt}
-use Rattle.reading.proofs.Answers.{clash, is_value, is_bad}
-use Rattle.reading.specs.declared.number.Number.{Number}
-use Rattle.reading.specs.declared.number.Number.TheVariants.{Value, Bad}
+use Rattle.reading.proofs.Answers.{clash, same_found, is_value, is_bad}
+use Rattle.std.specs.Prelude.{Option, Some, None}
 
 -- ---- behind digits that say a
 
 -- the two answers of the reader
 module _ {a : ℕ} {s : List ℕ} {at : ℕ} where
-  pub more_value : (v next : ℕ) → More a (drop at s) v (drop next s) → ReadsMore a s at (Value v next)
+  pub more_value : (v next : ℕ) → More a (drop at s) v (drop next s) → ReadsMore a s at (Some (v, next))
   more_value v next h =
-      record { value = λ w n e. (let p : v ≡ w = cc in let q : next ≡ n = cc in rw (p, q) at h); bad = λ e. clash (cc) }
+      record { value = λ w n e. same_found (λ x p. More a (drop at s) x (drop p s)) e h; bad = λ e. clash (cc) }
 
-  pub more_bad : ((v : ℕ) (rest : List ℕ) → More a (drop at s) v rest → ⊥) → ReadsMore a s at Bad
+  pub more_bad : ((v : ℕ) (rest : List ℕ) → More a (drop at s) v rest → ⊥) → ReadsMore a s at None
   more_bad h = record { value = λ w n e. clash (cc); bad = λ e. h }
 
 -- no digit follows: a is the number
@@ -63,6 +62,17 @@ module _ (a b : ℕ) {t u : List ℕ} (e : t ≡ b ∷ u) (d : is_digit b ≡ tr
 -- digits that say too much already
 pub more_over : (a : ℕ) {t : List ℕ} {v : ℕ} {rest : List ℕ} → 2 ^ 64 ≤ a → More a t v rest → ⊥
 more_over a h m = let g = value_grows a m.digits in omega arith
+
+-- the loop: behind the digits read so far, which say n, stands what stood behind those that say `first` at the start
+module _ {first : ℕ} (at : ℕ) {s : List ℕ} {n i b : ℕ} (l : (v : ℕ) (rest : List ℕ) → More n (drop i s) v rest ↔ More first (drop at s) v rest) (d : DigitAt s i b) where
+  pub reading_turn : (v : ℕ) (rest : List ℕ) → More (n * 10 + (b - 48)) (drop (i + 1) s) v rest ↔ More first (drop at s) v rest
+  reading_turn v rest =
+      let t = more_turn n b d.rest d.is v rest in
+      ((λ m. (l v rest).0 (t.0 m)), (λ m. t.1 ((l v rest).1 m)))
+
+  -- with this digit they say too much
+  pub reading_over : 2 ^ 64 ≤ n * 10 + (b - 48) → ReadsMore first s at None
+  reading_over h = more_bad (λ v rest m. more_over _ h ((reading_turn v rest).1 m))
 
 -- ---- a number from its first byte
 
@@ -131,21 +141,21 @@ module _ (b : ℕ) {t u : List ℕ} (e : t ≡ b ∷ u) (above : 48 < b) (v : �
 -- ---- the reader of a number, by its first digit
 
 module _ {s : List ℕ} {at b : ℕ} (d : DigitAt s at b) where
-  pub first_reads : {r : Number} → 48 < b → ReadsMore (b - 48) s (at + 1) r → Reads digits_of s at r
+  pub first_reads : {r : Option (ℕ × ℕ)} → 48 < b → ReadsMore (b - 48) s (at + 1) r → Reads digits_of s at r
   first_reads h m =
       record {
         value = λ v next q. first-here b d.rest h v (drop next s) d.is (m.value v next q);
         bad = λ q v rest g. m.bad q v rest (first_more b d.rest h v rest g);
       }
 
-  pub one_reads : goes_on (drop (at + 1) s) ≡ false → Reads digits_of s at (Value (b - 48) (at + 1))
-  one_reads g = is_value (b - 48) (at + 1) (digit_alone b d.rest d.is g)
+  pub one_reads : goes_on (drop (at + 1) s) ≡ false → Reads digits_of s at (Some (b - 48, at + 1))
+  one_reads g = is_value digits_of FitU (b - 48) (at + 1) (digit_alone b d.rest d.is g)
 
-  pub zero_bad : b ≤ 48 → goes_on (drop (at + 1) s) ≡ true → Reads digits_of s at Bad
+  pub zero_bad : b ≤ 48 → goes_on (drop (at + 1) s) ≡ true → Reads digits_of s at None
   zero_bad h g =
       let low = d.low in
       let e : b ≡ 48 = omega arith in
-      is_bad (zero_more (d.rest ∙ ap (λ (x : ℕ). x ∷ drop (at + 1) s) e) g)
+      is_bad digits_of FitU (zero_more (d.rest ∙ ap (λ (x : ℕ). x ∷ drop (at + 1) s) e) g)
 
-pub none_bad : (s : List ℕ) (at : ℕ) → goes_on (drop at s) ≡ false → Reads digits_of s at Bad
-none_bad s at g = is_bad (number_none (drop at s) g)
+pub none_bad : (s : List ℕ) (at : ℕ) → goes_on (drop at s) ≡ false → Reads digits_of s at None
+none_bad s at g = is_bad digits_of FitU (number_none (drop at s) g)

@@ -20,17 +20,15 @@ use Rattle.reading.specs.Here.{Here, Nowhere}
 use Rattle.reading.specs.Rows.{RowHere, TakesRow}
 use Rattle.reading.specs.Laid.{sets_append}
 use Rattle.reading.specs.Lines.{ExtentsHere, TakesExtents, size_text, OperandHere, TakesOperand, OperandsHere, TakesOperands, sizes_in, strides_in, LinesHere, Arrays, arrays, laid, TakesLines}
-use Rattle.reading.specs.declared.byte.Place.{Place}
-use Rattle.reading.specs.declared.byte.Place.TheVariants.{To, Bad}
-use Rattle.reading.specs.declared.number.Number.TheVariants as U
+use Rattle.std.specs.Prelude.{Option, Some, None}
 use Rattle.reading.proofs.Bytes.{none_at}
-use Rattle.reading.proofs.Answers.{clash, here_once, field_once}
+use Rattle.reading.proofs.Answers.{clash, same_found, here_once, field_once}
 use Rattle.reading.proofs.Rows.{row_long}
 
 -- ---- the E line
 
 module _ {s : List ℕ} {at rank : ℕ} {old new : List ℕ} where
-  pub extents_reads : (from : ℕ) {r : Place} → drop at s ≡ 69 ∷ drop from s → TakesRow digits_of FitU s from rank 0 old new r → TakesExtents s at rank old new r
+  pub extents_reads : (from : ℕ) {r : Option ℕ} → drop at s ≡ 69 ∷ drop from s → TakesRow digits_of FitU s from rank 0 old new r → TakesExtents s at rank old new r
   extents_reads from e t =
       record {
         to = λ next q. (
@@ -40,7 +38,7 @@ module _ {s : List ℕ} {at rank : ℕ} {old new : List ℕ} where
             t.bad q es rest h.count (record { fits = h.fits; form = ap tail (sym e ∙ h.form ∙ extents_text es rest) });
       }
 
-  pub extents_none : ((rest : List ℕ) → drop at s ≡ 69 ∷ rest → ⊥) → TakesExtents s at rank old new Bad
+  pub extents_none : ((rest : List ℕ) → drop at s ≡ 69 ∷ rest → ⊥) → TakesExtents s at rank old new None
   extents_none none =
       record {
         to = λ next q. clash (cc);
@@ -80,28 +78,28 @@ operand_long o {rest} h =
     omega arith
 
 module _ {s : List ℕ} {at rank from : ℕ} {old new : List ℤ} where
-  no_operand : ((o : OperandLine) (rest : List ℕ) → OperandHere rank (drop at s) o rest → ⊥) → TakesOperand s at rank from old new U.Bad
+  no_operand : ((o : OperandLine) (rest : List ℕ) → OperandHere rank (drop at s) o rest → ⊥) → TakesOperand s at rank from old new None
   no_operand none = record { value = λ size next q. clash (cc); bad = λ q. none }
 
-  pub operand_none : Nowhere size_text FitU (drop at s) → TakesOperand s at rank from old new U.Bad
+  pub operand_none : Nowhere size_text FitU (drop at s) → TakesOperand s at rank from old new None
   operand_none none = no_operand (λ o rest h. none o.size (over o.strides signed_field ++ (10 ∷ rest)) (size_of h))
 
   module _ (p : ℕ) {v : ℕ} (h : Here size_text FitU (drop at s) v (drop p s)) where
     pub operand_open : ((ts : List ℤ) (rest : List ℕ) → length ts ≡ rank → RowHere signed_of FitI (drop p s) ts rest → ⊥)
-        → TakesOperand s at rank from old new U.Bad
+        → TakesOperand s at rank from old new None
     operand_open none =
         no_operand (λ o rest g.
         none o.strides rest g.fits.count
         (record { fits = g.fits.strides_fit; form = (here_once size_text size_once h (size_of g)).1 }))
 
     pub operand_told : (next : ℕ) → (ts : List ℤ) × (length ts ≡ rank) × RowHere signed_of FitI (drop p s) ts (drop next s) × (new ≡ sets old from ts)
-        → TakesOperand s at rank from old new (U.Value v next)
+        → TakesOperand s at rank from old new (Some (v, next))
     operand_told next w =
         record {
           value = λ size n e. (
-              let a : v ≡ size = cc in
-              let b : next ≡ n = cc in
-              (record { size = v; strides = w.0 }, a, rw b at (line_of h w.2 w.1), w.3));
+              same_found
+              (λ (x y : ℕ). (o : OperandLine) × (o.size ≡ x) × OperandHere rank (drop at s) o (drop y s) × (new ≡ sets old from o.strides)) e
+              (record { size = v; strides = w.0 }, refl, line_of h w.2 w.1, w.3));
           bad = λ e. clash (cc);
         }
 
@@ -112,7 +110,7 @@ first_line : {rank n : ℕ} {t : List ℕ} {o : OperandLine} {ls : List OperandL
 first_line {o = o} {ls = ls} {rest = rest} h = record { fits = h.fits.0; form = h.form ∙ append_assoc (operand_line o) (over ls operand_line) rest }
 
 module _ {s : List ℕ} {at rank k from : ℕ} {sizes sizes' : List ℕ} {strides strides' : List ℤ} where
-  line_turn : {n c : ℕ} (nx : ℕ) {r : Place} (o : OperandLine) → n ≡ suc c → OperandHere rank (drop at s) o (drop nx s)
+  line_turn : {n c : ℕ} (nx : ℕ) {r : Option ℕ} (o : OperandLine) → n ≡ suc c → OperandHere rank (drop at s) o (drop nx s)
       → TakesOperands s nx rank c (k + 1) (from + rank) (set sizes k o.size) sizes' (sets strides from o.strides) strides' r
       → TakesOperands s at rank n k from sizes sizes' strides strides' r
   line_turn {n} {c} nx {r} o q h t =
@@ -132,7 +130,7 @@ module _ {s : List ℕ} {at rank k from : ℕ} {sizes sizes' : List ℕ} {stride
         bad = λ e ls rest g. none e ls rest g;
       }
     where
-      none : r ≡ Bad → (ls : List OperandLine) (rest : List ℕ) → OperandsHere rank n (drop at s) ls rest → ⊥
+      none : r ≡ None → (ls : List OperandLine) (rest : List ℕ) → OperandsHere rank n (drop at s) ls rest → ⊥
       none e [] rest g = omega arith
       none e (w ∷ ws) rest g =
           let f = first_line g in
@@ -140,7 +138,7 @@ module _ {s : List ℕ} {at rank k from : ℕ} {sizes sizes' : List ℕ} {stride
           t.bad e ws rest (record { count = omega arith; fits = g.fits.1; form = o-w.1 })
 
   no_line : {n c : ℕ} → n ≡ suc c → ((o : OperandLine) (rest : List ℕ) → OperandHere rank (drop at s) o rest → ⊥)
-      → TakesOperands s at rank n k from sizes sizes' strides strides' Bad
+      → TakesOperands s at rank n k from sizes sizes' strides strides' None
   no_line {n} {c} q none = record { to = λ next e. clash (cc); bad = λ e ls rest g. go ls rest g }
     where
       go : (ls : List OperandLine) (rest : List ℕ) → OperandsHere rank n (drop at s) ls rest → ⊥
@@ -148,7 +146,7 @@ module _ {s : List ℕ} {at rank k from : ℕ} {sizes sizes' : List ℕ} {stride
       go (w ∷ ws) rest g = none w (over ws operand_line ++ rest) (first_line g)
 
 lines_end : {s : List ℕ} {at rank k from n : ℕ} {sizes : List ℕ} {strides : List ℤ} → n ≡ 0
-    → TakesOperands s at rank n k from sizes sizes strides strides (To at)
+    → TakesOperands s at rank n k from sizes sizes strides strides (Some at)
 lines_end {s} {at} q =
     record {
       to = λ next e. (let a : at ≡ next = cc in ([], record { count = sym q; fits = tt; form = ap (λ (x : ℕ). drop x s) a }, refl, refl));
@@ -161,7 +159,7 @@ pub record Lining (s : List ℕ) (at rank count : ℕ) (sizes₀ sizes : List �
   pub short : from + length (drop p s) ≤ length s
   pub same-sizes : length sizes ≡ length sizes₀
   pub same_strides : length strides ≡ length strides₀
-  pub left : (sizes' : List ℕ) (strides' : List ℤ) (r : Place) → TakesOperands s p rank (count - k) k from sizes sizes' strides strides' r
+  pub left : (sizes' : List ℕ) (strides' : List ℤ) (r : Option ℕ) → TakesOperands s p rank (count - k) k from sizes sizes' strides strides' r
       → TakesOperands s at rank count 0 0 sizes₀ sizes' strides₀ strides' r
 
 pub lining_start : (s : List ℕ) (at rank count : ℕ) (sizes : List ℕ) (strides : List ℤ) → Lining s at rank count sizes sizes strides strides at 0 0
@@ -197,11 +195,11 @@ module _ {s : List ℕ} {at rank count : ℕ} {sizes₀ sizes : List ℕ} {strid
 
   -- no line stands there
   pub lining_bad : {new : List ℤ} → k < count → ((o : OperandLine) (rest : List ℕ) → OperandHere rank (drop p s) o rest → ⊥)
-      → TakesOperands s at rank count 0 0 sizes₀ sizes strides₀ new Bad
-  lining_bad {new} h none = let q : count - k ≡ suc (count - (k + 1)) = omega arith in d.left sizes new Bad (no_line q none)
+      → TakesOperands s at rank count 0 0 sizes₀ sizes strides₀ new None
+  lining_bad {new} h none = let q : count - k ≡ suc (count - (k + 1)) = omega arith in d.left sizes new None (no_line q none)
 
-  pub lining_end : count ≤ k → TakesOperands s at rank count 0 0 sizes₀ sizes strides₀ strides (To p)
-  lining_end h = let q : count - k ≡ 0 = omega arith in d.left sizes strides (To p) (lines_end q)
+  pub lining_end : count ≤ k → TakesOperands s at rank count 0 0 sizes₀ sizes strides₀ strides (Some p)
+  lining_end h = let q : count - k ≡ 0 = omega arith in d.left sizes strides (Some p) (lines_end q)
 
 -- ---- all lines, and nothing behind them
 
@@ -216,23 +214,23 @@ module _ {s : List ℕ} {at rank operands : ℕ} {old new : Arrays} where
   no_lines : ((es : List ℕ) (ls : List OperandLine) → LinesHere rank operands (drop at s) es ls → ⊥) → TakesLines s at rank operands old new false
   no_lines none = record { yes = λ e. absurd (false≢true e); no = λ e. none }
 
-module _ {s : List ℕ} {at rank : ℕ} {es es' : List ℕ} {a : Place} (f : TakesExtents s at rank es es' a) where
-  pub lines_none : {operands : ℕ} {old new : Arrays} → a ≡ Bad → TakesLines s at rank operands old new false
+module _ {s : List ℕ} {at rank : ℕ} {es es' : List ℕ} {a : Option ℕ} (f : TakesExtents s at rank es es' a) where
+  pub lines_none : {operands : ℕ} {old new : Arrays} → a ≡ None → TakesLines s at rank operands old new false
   lines_none e = no_lines (λ xs ls h. f.bad e xs (over ls operand_line) (extents_of_lem h))
 
   -- the operands' lines stand behind the E line
-  behind_extents : (p : ℕ) → a ≡ To p → {operands : ℕ} (xs : List ℕ) (ls : List OperandLine) → LinesHere rank operands (drop at s) xs ls
+  behind_extents : (p : ℕ) → a ≡ Some p → {operands : ℕ} (xs : List ℕ) (ls : List OperandLine) → LinesHere rank operands (drop at s) xs ls
       → drop p s ≡ over ls operand_line
   behind_extents p e xs ls h = let w = f.to p e in extents-rest w.0 xs w.1 (extents_of_lem h)
 
-  module _ (p : ℕ) (e : a ≡ To p) {operands : ℕ} {sizes sizes' : List ℕ} {strides strides' : List ℤ} {b : Place}
+  module _ (p : ℕ) (e : a ≡ Some p) {operands : ℕ} {sizes sizes' : List ℕ} {strides strides' : List ℤ} {b : Option ℕ}
       (g : TakesOperands s p rank operands 0 0 sizes sizes' strides strides' b) where
-    pub lines_open : {old new : Arrays} → b ≡ Bad → TakesLines s at rank operands old new false
+    pub lines_open : {old new : Arrays} → b ≡ None → TakesLines s at rank operands old new false
     lines_open q =
         no_lines (λ xs ls h.
         g.bad q ls [] (record { count = h.operand_lines; fits = h.rows; form = behind_extents p e xs ls h ∙ sym (append-nil (over ls operand_line)) }))
 
-    pub lines_told : (end : ℕ) → b ≡ To end → TakesLines s at rank operands (arrays es sizes strides) (arrays es' sizes' strides') (leb (length s) end)
+    pub lines_told : (end : ℕ) → b ≡ Some end → TakesLines s at rank operands (arrays es sizes strides) (arrays es' sizes' strides') (leb (length s) end)
     lines_told end q = record { yes = λ t. all (leb-true (length s) end t); no = λ t xs ls h. more (leb-false (length s) end t) xs ls h }
       where
         all : length s ≤ end → (xs : List ℕ) × (ls : List OperandLine) × LinesHere rank operands (drop at s) xs ls × (arrays es' sizes' strides' ≡ laid (arrays es sizes strides) xs ls)

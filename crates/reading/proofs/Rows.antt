@@ -15,8 +15,7 @@ use Rattle.reading.specs.Here.{Here, Nowhere}
 use Rattle.reading.specs.Bytes.{Behind}
 use Rattle.reading.specs.Rows.{RowHere, TakesRow}
 use Rattle.reading.proofs.Answers.{clash}
-use Rattle.reading.specs.declared.byte.Place.{Place}
-use Rattle.reading.specs.declared.byte.Place.TheVariants.{Bad}
+use Rattle.std.specs.Prelude.{Option, None}
 
 module _ {A : Type 0} (g : A → List ℕ) (Fits : A → Type 0) where
   -- ---- the row by its first field
@@ -42,7 +41,7 @@ module _ {A : Type 0} (g : A → List ℕ) (Fits : A → Type 0) where
       let f : length t ≡ length (celled g v) + length (over vs (celled g) ++ (10 ∷ rest)) = ap length (first_field h).form ∙ length-append (celled g v) _ in
       omega arith
 
-  module _ (once : Once g) {s : List ℕ} {at from : ℕ} {old new : List A} {r : Place} where
+  module _ (once : Once g) {s : List ℕ} {at from : ℕ} {old new : List A} {r : Option ℕ} where
     -- ---- one step of the reader
 
     turn : {nx k n : ℕ} {v : A} → n ≡ suc k → Here (celled g) Fits (drop at s) v (drop nx s) → TakesRow g Fits s nx k (from + 1) (set old from v) new r
@@ -54,7 +53,7 @@ module _ {A : Type 0} (g : A → List ℕ) (Fits : A → Type 0) where
           bad = λ e vs rest l. none e vs rest (l ∙ q);
         }
       where
-        none : r ≡ Bad → (vs : List A) (rest : List ℕ) → length vs ≡ suc k → RowHere g Fits (drop at s) vs rest → ⊥
+        none : r ≡ None → (vs : List A) (rest : List ℕ) → length vs ≡ suc k → RowHere g Fits (drop at s) vs rest → ⊥
         none e [] rest l row = omega arith
         none e (w ∷ ws) rest l row =
             let f = first_field row in
@@ -63,7 +62,7 @@ module _ {A : Type 0} (g : A → List ℕ) (Fits : A → Type 0) where
             t.bad e ws rest m (rw o.1 (other_fields row))
 
   no_field : {s : List ℕ} {at from : ℕ} {old new : List A} {k n : ℕ} → n ≡ suc k → Nowhere (celled g) Fits (drop at s)
-      → TakesRow g Fits s at n from old new Bad
+      → TakesRow g Fits s at n from old new None
   no_field {s} {at} {k = k} q none =
       record { to = λ next e. clash (cc); bad = λ e vs rest l row. go vs rest (l ∙ q) row }
     where
@@ -71,14 +70,14 @@ module _ {A : Type 0} (g : A → List ℕ) (Fits : A → Type 0) where
       go [] rest l row = omega arith
       go (w ∷ ws) rest l row = none w (over ws (celled g) ++ (10 ∷ rest)) (first_field row)
 
-  line_end : {s : List ℕ} {at from : ℕ} {old : List A} {n : ℕ} {r : Place} → n ≡ 0 → Behind 10 s at r → TakesRow g Fits s at n from old old r
+  line_end : {s : List ℕ} {at from : ℕ} {old : List A} {n : ℕ} {r : Option ℕ} → n ≡ 0 → Behind 10 s at r → TakesRow g Fits s at n from old old r
   line_end {s} {at} {r = r} q b =
       record {
         to = λ next e. ([], sym q, record { fits = tt; form = b.to next e }, refl);
         bad = λ e vs rest l row. go e vs rest (l ∙ q) row;
       }
     where
-      go : r ≡ Bad → (vs : List A) (rest : List ℕ) → length vs ≡ 0 → RowHere g Fits (drop at s) vs rest → ⊥
+      go : r ≡ None → (vs : List A) (rest : List ℕ) → length vs ≡ 0 → RowHere g Fits (drop at s) vs rest → ⊥
       go e [] rest l row = b.bad e rest row.form
       go e (w ∷ ws) rest l row = omega arith
 
@@ -88,7 +87,7 @@ module _ {A : Type 0} (g : A → List ℕ) (Fits : A → Type 0) where
     pub within : i ≤ count
     pub same : length out ≡ length old
     pub short : i + length (drop p s) ≤ length (drop at s)
-    pub left : (new : List A) (r : Place) → TakesRow g Fits s p (count - i) (from + i) out new r → TakesRow g Fits s at count from old new r
+    pub left : (new : List A) (r : Option ℕ) → TakesRow g Fits s p (count - i) (from + i) out new r → TakesRow g Fits s at count from old new r
 
   pub rowing_start : (s : List ℕ) (at count from : ℕ) (old : List A) → Rowing s at count from old old at 0
   rowing_start s at count from old =
@@ -115,8 +114,8 @@ module _ {A : Type 0} (g : A → List ℕ) (Fits : A → Type 0) where
               d.left new r (turn once q f (rw a at t));
         }
 
-    pub rowing_bad : i < count → Nowhere (celled g) Fits (drop p s) → TakesRow g Fits s at count from old out Bad
-    rowing_bad h none = let q : count - i ≡ suc (count - (i + 1)) = omega arith in d.left out Bad (no_field q none)
+    pub rowing_bad : i < count → Nowhere (celled g) Fits (drop p s) → TakesRow g Fits s at count from old out None
+    rowing_bad h none = let q : count - i ≡ suc (count - (i + 1)) = omega arith in d.left out None (no_field q none)
 
-    pub rowing_end : {r : Place} → count ≤ i → Behind 10 s p r → TakesRow g Fits s at count from old out r
+    pub rowing_end : {r : Option ℕ} → count ≤ i → Behind 10 s p r → TakesRow g Fits s at count from old out r
     rowing_end {r} h b = let q : count - i ≡ 0 = omega arith in d.left out r (line_end q b)

@@ -4,7 +4,7 @@ use mathlib.Core.Path.{◌≡◌, sym, ap, ◌∙◌}
 use mathlib.Core.List.{List, ◌∷◌, ◌++◌}
 use Prim.Native.Nat.{ℕ, zero, suc, ◌^◌, ◌<◌}
 use native.Mathlib.Omega.{arith}
-use lib.IntN.{pos, negsuc, ◌-ℤ◌, +ℤ_idr}
+use lib.IntN.{ℤ, pos, negsuc, ◌-ℤ◌, +ℤ_idr}
 use lib.ListN.{drop}
 use mir.Syntax.{w64}
 use mir.Val.{SFits, to_z, of_z}
@@ -14,9 +14,8 @@ use Rattle.strided.specs.Text.{FitU, FitI}
 use Rattle.laws.specs.Text.Numbers.{tail, digits_no_sign, digits_once}
 use Rattle.reading.specs.Here.{Here, Nowhere}
 use Rattle.reading.specs.Numbers.{ReadsSigned, Minus, Plus}
-use Rattle.reading.proofs.Answers.{is_signed, is_bad_signed, here_once}
-use Rattle.reading.specs.declared.number.Signed.{Signed}
-use Rattle.reading.specs.declared.number.Signed.TheVariants as S
+use Rattle.reading.proofs.Answers.{is_value, is_bad, here_once}
+use Rattle.std.specs.Prelude.{Option, Some, None}
 
 -- ---- -1 - m at 64 bits, as a local has it
 
@@ -45,15 +44,15 @@ module _ {t u : List ℕ} (e : t ≡ 45 ∷ u) where
       none k rest h.fits (record { fits = let f : k < 2 ^ 63 = h.fits in omega arith; form = ap tail (sym e ∙ h.form); stops = h.stops })
 
 module _ {s : List ℕ} {at : ℕ} where
-  pub minus_reads : (from n next : ℕ) (r : Signed) → drop at s ≡ 45 ∷ drop from s → Here digits_of FitU (drop from s) n (drop next s) → Minus n next r
+  pub minus_reads : (from n next : ℕ) (r : Option (ℤ × ℕ)) → drop at s ≡ 45 ∷ drop from s → Here digits_of FitU (drop from s) n (drop next s) → Minus n next r
       → ReadsSigned signed_of s at r
-  minus_reads from n next (S.Value z p) e h m =
+  minus_reads from n next (Some (z, p)) e h m =
       let b = below e (rw m.1 at h) m.2 in
-      is_signed z p (rw (m.3, m.4) b)
-  minus_reads from n next S.Bad e h m = is_bad_signed (below_none e (λ k rest low g. m k (here_once digits_of digits_once h g).0 low))
+      is_value signed_of FitI z p (rw (m.3, m.4) b)
+  minus_reads from n next None e h m = is_bad signed_of FitI (below_none e (λ k rest low g. m k (here_once digits_of digits_once h g).0 low))
 
-  pub minus_none : (from : ℕ) → drop at s ≡ 45 ∷ drop from s → Nowhere digits_of FitU (drop from s) → ReadsSigned signed_of s at S.Bad
-  minus_none from e none = is_bad_signed (below_none e (λ k rest low h. none (suc k) rest h))
+  pub minus_none : (from : ℕ) → drop at s ≡ 45 ∷ drop from s → Nowhere digits_of FitU (drop from s) → ReadsSigned signed_of s at None
+  minus_none from e none = is_bad signed_of FitI (below_none e (λ k rest low h. none (suc k) rest h))
 
 -- ---- a size alone
 
@@ -64,13 +63,13 @@ above_none t no_sign none (pos n) rest h =
 above_none t no_sign none (negsuc k) rest h = no_sign (digits_of (suc k) ++ rest) h.form
 
 module _ {s : List ℕ} {at : ℕ} where
-  pub plus_reads : (n next : ℕ) (r : Signed) → ((rest : List ℕ) → drop at s ≡ 45 ∷ rest → ⊥) → Here digits_of FitU (drop at s) n (drop next s)
+  pub plus_reads : (n next : ℕ) (r : Option (ℤ × ℕ)) → ((rest : List ℕ) → drop at s ≡ 45 ∷ rest → ⊥) → Here digits_of FitU (drop at s) n (drop next s)
       → Plus n next r → ReadsSigned signed_of s at r
-  plus_reads n next (S.Value z p) no_sign h m =
+  plus_reads n next (Some (z, p)) no_sign h m =
       let b : Here signed_of FitI (drop at s) (pos n) (drop next s) = record { fits = m.0; form = h.form; stops = h.stops } in
-      is_signed z p (rw (m.1, m.2) b)
-  plus_reads n next S.Bad no_sign h m =
-      is_bad_signed (above_none (drop at s) no_sign (λ k rest low g. (let e : n ≡ k = (here_once digits_of digits_once h g).0 in m (omega arith))))
+      is_value signed_of FitI z p (rw (m.1, m.2) b)
+  plus_reads n next None no_sign h m =
+      is_bad signed_of FitI (above_none (drop at s) no_sign (λ k rest low g. (let e : n ≡ k = (here_once digits_of digits_once h g).0 in m (omega arith))))
 
-  pub plus_none : ((rest : List ℕ) → drop at s ≡ 45 ∷ rest → ⊥) → Nowhere digits_of FitU (drop at s) → ReadsSigned signed_of s at S.Bad
-  plus_none no_sign none = is_bad_signed (above_none (drop at s) no_sign (λ n rest low h. none n rest h))
+  pub plus_none : ((rest : List ℕ) → drop at s ≡ 45 ∷ rest → ⊥) → Nowhere digits_of FitU (drop at s) → ReadsSigned signed_of s at None
+  plus_none no_sign none = is_bad signed_of FitI (above_none (drop at s) no_sign (λ n rest low h. none n rest h))

@@ -14,24 +14,26 @@ use Rattle.reading.specs.Heads.{HeadHere}
 use Rattle.reading.specs.Lines.{Arrays, TakesLines}
 use Rattle.reading.specs.Texts.{ReadsText}
 use Rattle.reading.proofs.Answers.{clash}
-use Rattle.reading.specs.declared.Said.TheVariants.{Layout, Unformed}
+use Rattle.std.specs.Prelude.{Ok, Err}
+use Rattle.reading.specs.declared.Said.{Said}
+use Rattle.reading.specs.declared.Unformed.{Unformed}
 
 -- the L line that a text in the form begins with
 head_of : {text : List ℕ} (p : Parsed) → InForm text p → HeadHere text p.purpose p.rank p.operands (extents_line p.extents ++ over p.lines operand_line)
 head_of p f = record { rank_fits = f.rank_fits; operands_fit = f.operands_fit; chosen_fits = f.chosen_fits; form = f.form }
 
-module _ {text : List ℕ} {old new : Arrays} where
-  not_formed : NotInForm text → ReadsText text old new Unformed
-  not_formed none = record { layout = λ u r n e. clash (cc); unformed = λ e. none }
+module _ {text : List ℕ} {old new : Arrays} {x : Unformed} where
+  not_formed : NotInForm text → ReadsText text old new (Err x)
+  not_formed none = record { layout = λ l e. clash (cc); unformed = λ y e. none }
 
-  pub text_long : 16384 < length text → ReadsText text old new Unformed
+  pub text_long : 16384 < length text → ReadsText text old new (Err x)
   text_long h = not_formed (λ p f. omega arith)
 
-  pub text_none : ((u : Purpose) (r n : ℕ) (rest : List ℕ) → HeadHere text u r n rest → ⊥) → ReadsText text old new Unformed
+  pub text_none : ((u : Purpose) (r n : ℕ) (rest : List ℕ) → HeadHere text u r n rest → ⊥) → ReadsText text old new (Err x)
   text_none none = not_formed (λ p f. none p.purpose p.rank p.operands _ (head_of p f))
 
   module _ (at : ℕ) {u : Purpose} {rank operands : ℕ} (h : HeadHere text u rank operands (drop at text)) {b : Bool} (t : TakesLines text at rank operands old new b) where
-    pub text_open : b ≡ false → ReadsText text old new Unformed
+    pub text_open : b ≡ false → ReadsText text old new (Err x)
     text_open e = not_formed none
       where
         none : NotInForm text
@@ -46,16 +48,14 @@ module _ {text : List ℕ} {old new : Arrays} where
               form = s.rests;
             })
 
-    pub text_told : length text ≤ 16384 → b ≡ true → ReadsText text old new (Layout u rank operands)
+    pub text_told : length text ≤ 16384 → b ≡ true → ReadsText text old new (Ok (record { purpose = u; rank = rank; operands = operands }))
     text_told short e =
-        let w = t.yes e in
-        let l = w.2 in
-        let p : Parsed = record { purpose = u; rank = rank; operands = operands; extents = w.0; lines = w.1 } in
+        let read = t.yes e in
+        let l = read.2 in
+        let p : Parsed = record { purpose = u; rank = rank; operands = operands; extents = read.0; lines = read.1 } in
         record {
-          layout = λ u' r n q. (
-              let a : u ≡ u' = cc in
-              let c : rank ≡ r = cc in
-              let d : operands ≡ n = cc in (
+          layout = λ w q. (
+              let said : record { purpose = u; rank = rank; operands = operands } ≡ w = cc in (
                 p,
                 record {
                   form =
@@ -70,11 +70,11 @@ module _ {text : List ℕ} {old new : Arrays} where
                         chosen_fits = h.chosen_fits;
                         extents_fit = l.extents_fit;
                       };
-                  purposes = a;
-                  ranks = c;
-                  counts = d;
-                  arrays = w.3;
+                  purposes = ap (λ (y : Said). y.purpose) said;
+                  ranks = ap (λ (y : Said). y.rank) said;
+                  counts = ap (λ (y : Said). y.operands) said;
+                  arrays = read.3;
                 },
               ));
-          unformed = λ q. clash (cc);
+          unformed = λ y q. clash (cc);
         }

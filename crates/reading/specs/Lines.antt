@@ -1,14 +1,10 @@
 -- What the readers of the lines behind L answer: the E line, the front of an O line, an O line, all O lines, all of these to the text's end.
 -- Numbers are laid into arrays from a place on (`sets`), as far as an array has places.
 -- Assumes nothing.
-use Rattle.std.specs.Prelude.{◌≡◌, Bool, true, false, List, ◌∷◌, ◌++◌, map, ℕ, ℤ, length, drop}
+use Rattle.std.specs.Prelude.{◌≡◌, Bool, true, false, List, ◌∷◌, ◌++◌, map, ℕ, ℤ, length, drop, Option, Some, None}
 use Rattle.std.proofs.lemmas.List.Edits.{sets}
 use Rattle.strided.specs.Base.{over}
 use Rattle.strided.specs.Text.{Each, FitU, LineFits, OperandLine, field, extents_line, operand_line}
-use Rattle.reading.specs.declared.byte.Place.{Place}
-use Rattle.reading.specs.declared.byte.Place.TheVariants.{To, Bad}
-use Rattle.reading.specs.declared.number.Number.{Number}
-use Rattle.reading.specs.declared.number.Number.TheVariants as U
 
 -- ---- the E line
 
@@ -17,9 +13,9 @@ pub record ExtentsHere (rank : ℕ) (t es rest : List ℕ) : Type 0 where
   pub fits : Each FitU es
   pub form : t ≡ extents_line es ++ rest
 
-pub record TakesExtents (s : List ℕ) (at rank : ℕ) (old new : List ℕ) (r : Place) : Type 0 where
-  pub to : (next : ℕ) → r ≡ To next → (es : List ℕ) × ExtentsHere rank (drop at s) es (drop next s) × (new ≡ sets old 0 es)
-  pub bad : r ≡ Bad → (es rest : List ℕ) → ExtentsHere rank (drop at s) es rest → ⊥
+pub record TakesExtents (s : List ℕ) (at rank : ℕ) (old new : List ℕ) (r : Option ℕ) : Type 0 where
+  pub to : (next : ℕ) → r ≡ Some next → (es : List ℕ) × ExtentsHere rank (drop at s) es (drop next s) × (new ≡ sets old 0 es)
+  pub bad : r ≡ None → (es rest : List ℕ) → ExtentsHere rank (drop at s) es rest → ⊥
 
 -- ---- an O line
 
@@ -30,10 +26,10 @@ pub record OperandHere (rank : ℕ) (t : List ℕ) (o : OperandLine) (rest : Lis
   pub fits : LineFits rank o
   pub form : t ≡ operand_line o ++ rest
 
-pub record TakesOperand (s : List ℕ) (at rank from : ℕ) (old new : List ℤ) (r : Number) : Type 0 where
-  pub value : (size next : ℕ) → r ≡ U.Value size next
+pub record TakesOperand (s : List ℕ) (at rank from : ℕ) (old new : List ℤ) (r : Option (ℕ × ℕ)) : Type 0 where
+  pub value : (size next : ℕ) → r ≡ Some (size, next)
       → (o : OperandLine) × (o.size ≡ size) × OperandHere rank (drop at s) o (drop next s) × (new ≡ sets old from o.strides)
-  pub bad : r ≡ U.Bad → (o : OperandLine) (rest : List ℕ) → OperandHere rank (drop at s) o rest → ⊥
+  pub bad : r ≡ None → (o : OperandLine) (rest : List ℕ) → OperandHere rank (drop at s) o rest → ⊥
 
 -- ---- `count` O lines: the sizes are laid from place k on, the strides from place `from` on
 
@@ -48,10 +44,10 @@ sizes_in ls = map (λ (o : OperandLine). o.size) ls
 abbrev pub strides_in : List OperandLine → List ℤ
 strides_in ls = over ls (λ (o : OperandLine). o.strides)
 
-pub record TakesOperands (s : List ℕ) (at rank count k from : ℕ) (sizes sizes' : List ℕ) (strides strides' : List ℤ) (r : Place) : Type 0 where
-  pub to : (next : ℕ) → r ≡ To next
+pub record TakesOperands (s : List ℕ) (at rank count k from : ℕ) (sizes sizes' : List ℕ) (strides strides' : List ℤ) (r : Option ℕ) : Type 0 where
+  pub to : (next : ℕ) → r ≡ Some next
       → (ls : List OperandLine) × OperandsHere rank count (drop at s) ls (drop next s) × (sizes' ≡ sets sizes k (sizes_in ls)) × (strides' ≡ sets strides from (strides_in ls))
-  pub bad : r ≡ Bad → (ls : List OperandLine) (rest : List ℕ) → OperandsHere rank count (drop at s) ls rest → ⊥
+  pub bad : r ≡ None → (ls : List OperandLine) (rest : List ℕ) → OperandsHere rank count (drop at s) ls rest → ⊥
 
 -- ---- all of them, and nothing behind
 

@@ -2,88 +2,68 @@
 ghost use Rattle.reading.specs.Bytes.{BehindAll};
 ghost use Rattle.reading.specs.Heads.{ReadsLast, ReadsChosen, ReadsCounts, ReadsTold, ReadsHead, letter_of};
 
-use super::byte::{Place, behind};
-use super::number::{Number, field};
+use super::byte::behind;
+use super::number::field;
 use strided::Purpose;
-
-// A purpose and the place behind the line.
-#[derive(Clone, Copy)]
-pub enum Chosen {
-    By(Purpose, usize),
-    Bad,
-}
 
 // Rank, operand count, and the place behind them.
 #[derive(Clone, Copy)]
-pub enum Counts {
-    Told(usize, usize, usize),
-    Bad,
+pub struct Counts {
+    pub rank: usize,
+    pub operands: usize,
+    pub next: usize,
 }
 
 // What the line tells, and the place behind it.
 #[derive(Clone, Copy)]
-pub enum Head {
-    Told(Purpose, usize, usize, usize),
-    Bad,
+pub struct Head {
+    pub purpose: Purpose,
+    pub rank: usize,
+    pub operands: usize,
+    pub next: usize,
 }
 
 // The place behind the bytes of a word.
-fn behind_all<'a>(s: &'a [u8], at: usize, word: &'a [u8]) -> Place
+fn behind_all<'a>(s: &'a [u8], at: usize, word: &'a [u8]) -> Option<usize>
     ensures { BehindAll word.now s.now at result }
 {
     let mut p = at;
-    let mut i: usize = 0;
-    while i < word.len() {
-        match behind(s, p, word[i]) {
-            Place::To(next) => {
-                p = next;
-            }
-            Place::Bad => {
-                return Place::Bad;
-            }
-        }
-        i += 1;
+    for &b in word {
+        p = behind(s, p, b)?;
     }
-    Place::To(p)
+    Some(p)
 }
 
 // The field of the chosen operand, and the line's end.
-fn read_last(s: &[u8], at: usize) -> Number
+fn read_last(s: &[u8], at: usize) -> Option<(u64, usize)>
     ensures { ReadsLast s.now at result }
 {
-    match field(s, at) {
-        Number::Value(k, p) => match behind(s, p, 10) {
-            Place::To(next) => Number::Value(k, next),
-            Place::Bad => Number::Bad,
-        },
-        Number::Bad => Number::Bad,
-    }
+    let (k, p) = field(s, at)?;
+    let next = behind(s, p, b'\n')?;
+    Some((k, next))
 }
 
 // The end of a line with P.
-fn read_pointwise(s: &[u8], at: usize) -> Chosen
+fn read_pointwise(s: &[u8], at: usize) -> Option<(Purpose, usize)>
     ensures { ReadsChosen 80 s.now at result }
 {
-    match behind_all(s, at, b",-\n") {
-        Place::To(next) => Chosen::By(Purpose::Pointwise, next),
-        Place::Bad => match read_last(s, at) {
-            Number::Value(k, next) => Chosen::By(Purpose::PointwiseInto(k), next),
-            Number::Bad => Chosen::Bad,
-        },
+    if let Some(next) = behind_all(s, at, b",-\n") {
+        return Some((Purpose::Pointwise, next));
     }
+    let (k, next) = read_last(s, at)?;
+    Some((Purpose::PointwiseInto(k), next))
 }
 
 // The end of a line with F.
-fn read_fold(s: &[u8], at: usize) -> Chosen
+fn read_fold(s: &[u8], at: usize) -> Option<(Purpose, usize)>
     ensures { ReadsChosen 70 s.now at result }
 {
-    match read_last(s, at) {
-        Number::Value(k, next) => Chosen::By(Purpose::Fold(k), next),
-        Number::Bad => Chosen::Bad,
-    }
+    let (k, next) = read_last(s, at)?;
+    Some((Purpose::Fold(k), next))
 }
 
-fn read_chosen(s: &[u8], at: usize, fold: bool) -> Chosen
+// Kept: a bool: it is the letter that was read, and the contract names it too.
+fn read_chosen(s: &[u8], at: usize, fold: bool) -> Option<(Purpose, usize)>
     ensures { ReadsChosen (letter_of fold) s.now at result }
 {
     if fold {
@@ -92,40 +72,39 @@ fn read_chosen(s: &[u8], at: usize, fold: bool) -> Chosen
     read_pointwise(s, at)
 }
 
-pub fn read_counts(s: &[u8], at: usize) -> Counts
+pub fn read_counts(s: &[u8], at: usize) -> Option<Counts>
     ensures { ReadsCounts s.now at result }
 {
-    match field(s, at) {
-        Number::Value(rank, p) => match field(s, p) {
-            Number::Value(operands, next) => Counts::Told(rank as usize, operands as usize, next),
-            Number::Bad => Counts::Bad,
-        },
-        Number::Bad => Counts::Bad,
-    }
+    let (rank, p) = field::<u64>(s, at)?;
+    let (operands, next) = field::<u64>(s, p)?;
+    Some(Counts {
+        rank: rank as usize,
+        operands: operands as usize,
+        next,
+    })
 }
 
 // What is behind the letter.
-fn read_told(s: &[u8], at: usize, fold: bool) -> Head
+fn read_told(s: &[u8], at: usize, fold: bool) -> Option<Head>
     ensures { ReadsTold (letter_of fold) s.now at result }
 {
-    match read_counts(s, at) {
-        Counts::Told(rank, operands, p) => match read_chosen(s, p, fold) {
-            Chosen::By(purpose, next) => Head::Told(purpose, rank, operands, next),
-            Chosen::Bad => Head::Bad,
-        },
-        Counts::Bad => Head::Bad,
-    }
+    let counts = read_counts(s, at)?;
+    let (purpose, next) = read_chosen(s, counts.next, fold)?;
+    Some(Head {
+        purpose,
+        rank: counts.rank,
+        operands: counts.operands,
+        next,
+    })
 }
 
 // The line that a text begins with.
-pub fn read_head(s: &[u8]) -> Head
+pub fn read_head(s: &[u8]) -> Option<Head>
     ensures { ReadsHead s.now result }
 {
-    match behind_all(s, 0, b"L,P") {
-        Place::To(at) => read_told(s, at, false),
-        Place::Bad => match behind_all(s, 0, b"L,F") {
-            Place::To(at) => read_told(s, at, true),
-            Place::Bad => Head::Bad,
-        },
+    if let Some(at) = behind_all(s, 0, b"L,P") {
+        return read_told(s, at, false);
     }
+    let at = behind_all(s, 0, b"L,F")?;
+    read_told(s, at, true)
 }

@@ -6,7 +6,7 @@
 ghost use Rattle.reading.specs.Lines.{arrays};
 ghost use Rattle.reading.specs.Texts.{ReadsText};
 
-use head::{Head, read_head};
+use head::read_head;
 use line::read_lines;
 use strided::Purpose;
 
@@ -19,31 +19,51 @@ pub mod row;
 // "at most 16,384 bytes".
 pub const MAX_TEXT: usize = 16384;
 
-// What a text says: the purpose, the rank and the number of operands of its layout; or that it is not in the form.
+// What a text says: the purpose, the rank and the number of operands of its layout.
 #[derive(Clone, Copy)]
-pub enum Said {
-    Layout(Purpose, usize, usize),
-    Unformed,
+pub struct Said {
+    pub purpose: Purpose,
+    pub rank: usize,
+    pub operands: usize,
 }
+
+// A text is not in the form.
+#[derive(Clone, Copy, Debug, PartialEq, Eq)]
+pub struct Unformed;
 
 // Reads a text. Extents, sizes and strides are laid into the arrays from place 0 on, the strides flat and dense: operand k's stride on axis
 // i at k * rank + i. Numbers that have no place there are read all the same.
-pub fn read_text(text: &[u8], extents: &mut [u64], sizes: &mut [u64], strides: &mut [i64]) -> Said
+pub fn read_text(
+    text: &[u8],
+    extents: &mut [u64],
+    sizes: &mut [u64],
+    strides: &mut [i64],
+) -> Result<Said, Unformed>
     ensures { ReadsText text.now
         (arrays extents.old sizes.old strides.old)
         (arrays extents.new sizes.new strides.new)
         result }
 {
     if MAX_TEXT < text.len() {
-        return Said::Unformed;
+        return Err(Unformed);
     }
-    match read_head(text) {
-        Head::Told(purpose, rank, operands, at) => {
-            if read_lines(text, at, rank, operands, extents, sizes, strides) {
-                return Said::Layout(purpose, rank, operands);
-            }
-            Said::Unformed
-        }
-        Head::Bad => Said::Unformed,
+    let Some(head) = read_head(text) else {
+        return Err(Unformed);
+    };
+    if read_lines(
+        text,
+        head.next,
+        head.rank,
+        head.operands,
+        extents,
+        sizes,
+        strides,
+    ) {
+        return Ok(Said {
+            purpose: head.purpose,
+            rank: head.rank,
+            operands: head.operands,
+        });
     }
+    Err(Unformed)
 }

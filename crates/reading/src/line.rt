@@ -3,42 +3,40 @@ ghost use Rattle.std.specs.Prelude.{◌+◌, ◌≤◌, length, drop};
 ghost use Rattle.reading.specs.Numbers.{Reads};
 ghost use Rattle.reading.specs.Lines.{size_text, TakesExtents, TakesOperand, TakesOperands, TakesLines, arrays};
 
-use super::byte::{Place, behind};
-use super::number::{Number, field};
-use super::row::{keep, read_row, read_signed_row};
+use super::byte::behind;
+use super::number::field;
+use super::row::{keep, read_row, read_row_from};
 
 // The E line of `rank` extents.
-fn read_extents(s: &[u8], at: usize, rank: usize, extents: &mut [u64]) -> Place
+fn read_extents(s: &[u8], at: usize, rank: usize, extents: &mut [u64]) -> Option<usize>
     ensures { TakesExtents s.now at rank extents.old extents.new result }
 {
-    match behind(s, at, 69) {
-        Place::To(from) => read_row(s, from, rank, extents),
-        Place::Bad => Place::Bad,
-    }
+    let from = behind(s, at, b'E')?;
+    read_row(s, from, rank, extents)
 }
 
 // The front of an O line: the operand's size.
-fn read_size(s: &[u8], at: usize) -> Number
+fn read_size(s: &[u8], at: usize) -> Option<(u64, usize)>
     ensures { Reads size_text s.now at result }
 {
-    match behind(s, at, 79) {
-        Place::To(from) => field(s, from),
-        Place::Bad => Number::Bad,
-    }
+    let from = behind(s, at, b'O')?;
+    field(s, from)
 }
 
 // An O line of `rank` strides, which are laid from place `from` on. Its size is answered.
-fn read_operand(s: &[u8], at: usize, rank: usize, from: usize, strides: &mut [i64]) -> Number
+fn read_operand(
+    s: &[u8],
+    at: usize,
+    rank: usize,
+    from: usize,
+    strides: &mut [i64],
+) -> Option<(u64, usize)>
     requires { from + length (drop at s.now) ≤ length s.now }
     ensures { TakesOperand s.now at rank from strides.old strides.new result }
 {
-    match read_size(s, at) {
-        Number::Value(size, p) => match read_signed_row(s, p, rank, from, strides) {
-            Place::To(next) => Number::Value(size, next),
-            Place::Bad => Number::Bad,
-        },
-        Number::Bad => Number::Bad,
-    }
+    let (size, p) = read_size(s, at)?;
+    let next = read_row_from(s, p, rank, from, strides)?;
+    Some((size, next))
 }
 
 // The O lines of all operands.
@@ -49,26 +47,18 @@ fn read_operands(
     operands: usize,
     sizes: &mut [u64],
     strides: &mut [i64],
-) -> Place
+) -> Option<usize>
     ensures { TakesOperands s.now at rank operands 0 0 sizes.old sizes.new strides.old strides.new result }
 {
     let mut p = at;
-    let mut k: usize = 0;
     let mut from: usize = 0;
-    while k < operands {
-        match read_operand(s, p, rank, from, strides) {
-            Number::Value(size, next) => {
-                keep(sizes, k, size);
-                p = next;
-            }
-            Number::Bad => {
-                return Place::Bad;
-            }
-        }
+    for k in 0..operands {
+        let (size, next) = read_operand(s, p, rank, from, strides)?;
+        keep(sizes, k, size);
+        p = next;
         from += rank;
-        k += 1;
     }
-    Place::To(p)
+    Some(p)
 }
 
 // Whether the lines are there, and nothing behind them.
@@ -86,11 +76,11 @@ pub fn read_lines(
         (arrays extents.new sizes.new strides.new)
         result }
 {
-    match read_extents(s, at, rank, extents) {
-        Place::To(p) => match read_operands(s, p, rank, operands, sizes, strides) {
-            Place::To(end) => s.len() <= end,
-            Place::Bad => false,
-        },
-        Place::Bad => false,
+    let Some(p) = read_extents(s, at, rank, extents) else {
+        return false;
+    };
+    match read_operands(s, p, rank, operands, sizes, strides) {
+        Some(end) => s.len() <= end,
+        None => false,
     }
 }

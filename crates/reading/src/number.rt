@@ -1,61 +1,46 @@
 // Numbers of the text: decimal, no leading zero, no "-0", within 64 bits. Each function answers the number that stands at a place, with the
 // place behind it, or that none does. "None" is exact: no number of its kind has the bytes there as its text.
-ghost use Rattle.std.specs.Prelude.{◌≡◌, ◌-◌, ◌<◌, ◌≤◌, ◌^◌, pos, negsuc};
+ghost use Rattle.std.specs.Prelude.{◌≡◌, ◌-◌, ◌<◌, ◌≤◌, ◌^◌, pos, negsuc, List, ℕ};
 ghost use Rattle.strided.specs.Digits.{digits_of, signed_of};
-ghost use Rattle.strided.specs.Text.{field as field_of, signed_field};
+ghost use Rattle.strided.specs.Text.{FitU, FitI};
+ghost use Rattle.laws.specs.Text.Numbers.{digits_once, signed_once};
+ghost use Rattle.laws.specs.Text.Once.{Once, celled};
+ghost use Rattle.reading.specs.Here.{Finds};
 ghost use Rattle.reading.specs.Numbers.{Reads, ReadsSigned, ReadsMore, Minus, Plus};
 
-use super::byte::{Place, behind, digit, wide};
-
-#[derive(Clone, Copy)]
-pub enum Number {
-    Value(u64, usize),
-    Bad,
-}
-
-#[derive(Clone, Copy)]
-pub enum Signed {
-    Value(i64, usize),
-    Bad,
-}
+use super::byte::{behind, digit};
 
 // Goes on behind digits that say `first`.
-fn read_more(s: &[u8], at: usize, first: u64) -> Number
+fn read_more(s: &[u8], at: usize, first: u64) -> Option<(u64, usize)>
     ensures { ReadsMore first s.now at result }
 {
     let mut n = first;
     let mut i = at;
     while digit(s, i) {
-        let d = wide(s[i]) - 48;
-        if n > 1844674407370955161 {
-            return Number::Bad;
-        }
-        if 18446744073709551615 - d < n * 10 {
-            return Number::Bad;
-        }
-        n = n * 10 + d;
+        let d = u64::from(s[i]) - 48;
+        n = n.checked_mul(10)?.checked_add(d)?;
         i += 1;
     }
-    Number::Value(n, i)
+    Some((n, i))
 }
 
 // The number at `at`. A `0` stands alone. Whether a second digit follows is tested first: a branch on the digit itself is badly predicted in
 // lists of indices 0 and 1.
-pub fn read_u64(s: &[u8], at: usize) -> Number
+pub fn read_u64(s: &[u8], at: usize) -> Option<(u64, usize)>
     ensures { Reads digits_of s.now at result }
 {
     if digit(s, at) {
-        let first = wide(s[at]) - 48;
+        let first = u64::from(s[at]) - 48;
         let next = at + 1;
         if digit(s, next) {
             if first == 0 {
-                return Number::Bad;
+                return None;
             }
             return read_more(s, next, first);
         }
-        return Number::Value(first, next);
+        return Some((first, next));
     }
-    Number::Bad
+    None
 }
 
 // The number below 0 of this size, and the one from 0 on.
@@ -75,60 +60,83 @@ pub fn positive(n: u64) -> i64
 }
 
 // A size behind the sign `-`: 1 to 2^63.
-fn minus(n: u64, next: usize) -> Signed
+fn minus(n: u64, next: usize) -> Option<(i64, usize)>
     ensures { Minus n next result }
 {
     if n == 0 {
-        return Signed::Bad;
+        return None;
     }
-    if n > 9223372036854775808 {
-        return Signed::Bad;
+    if n > 1 << 63 {
+        return None;
     }
-    Signed::Value(negative(n), next)
+    Some((negative(n), next))
 }
 
 // A size with no sign: below 2^63.
-fn plus(n: u64, next: usize) -> Signed
+fn plus(n: u64, next: usize) -> Option<(i64, usize)>
     ensures { Plus n next result }
 {
-    if n > 9223372036854775807 {
-        return Signed::Bad;
-    }
-    Signed::Value(positive(n), next)
+    let v = i64::try_from(n).ok()?;
+    Some((v, next))
 }
 
 // The number with a sign at `at`.
-pub fn read_i64(s: &[u8], at: usize) -> Signed
+pub fn read_i64(s: &[u8], at: usize) -> Option<(i64, usize)>
     ensures { ReadsSigned signed_of s.now at result }
 {
-    match behind(s, at, 45) {
-        Place::To(from) => match read_u64(s, from) {
-            Number::Value(n, next) => minus(n, next),
-            Number::Bad => Signed::Bad,
-        },
-        Place::Bad => match read_u64(s, at) {
-            Number::Value(n, next) => plus(n, next),
-            Number::Bad => Signed::Bad,
-        },
+    match behind(s, at, b'-') {
+        Some(from) => {
+            let (n, next) = read_u64(s, from)?;
+            minus(n, next)
+        }
+        None => {
+            let (n, next) = read_u64(s, at)?;
+            plus(n, next)
+        }
+    }
+}
+
+// A kind of number of the text. No text is that of two numbers.
+pub trait Number: Copy {
+    ghost text: { Self → List ℕ };
+
+    ghost fits: { Self → Type 0 };
+
+    // The number at `at`.
+    fn read(s: &[u8], at: usize) -> Option<(Self, usize)>
+        ensures { Finds text fits s.now at result };
+
+    ghost once: { Once text };
+}
+
+impl Number for u64 {
+    ghost text = { digits_of };
+
+    ghost fits = { FitU };
+
+    ghost once = { digits_once };
+
+    fn read(s: &[u8], at: usize) -> Option<(u64, usize)> {
+        read_u64(s, at)
+    }
+}
+
+impl Number for i64 {
+    ghost text = { signed_of };
+
+    ghost fits = { FitI };
+
+    ghost once = { signed_once };
+
+    fn read(s: &[u8], at: usize) -> Option<(i64, usize)> {
+        read_i64(s, at)
     }
 }
 
 // A comma and a number.
-pub fn field(s: &[u8], at: usize) -> Number
-    ensures { Reads field_of s.now at result }
+pub fn field<T: Number>(s: &[u8], at: usize) -> Option<(T, usize)>
+    ensures { Finds (celled T.text) T.fits s.now at result }
 {
-    match behind(s, at, 44) {
-        Place::To(from) => read_u64(s, from),
-        Place::Bad => Number::Bad,
-    }
-}
-
-// A comma and a number with a sign.
-pub fn signed_field(s: &[u8], at: usize) -> Signed
-    ensures { ReadsSigned signed_field s.now at result }
-{
-    match behind(s, at, 44) {
-        Place::To(from) => read_i64(s, from),
-        Place::Bad => Signed::Bad,
-    }
+    let from = behind(s, at, b',')?;
+    T::read(s, from)
 }

@@ -55,18 +55,12 @@ module _ (ns : List ℕ) (i seen : ℕ) where
   pub zero-next : i < length ns → (eqb seen 0 && blank (drop i ns)) ≡ blank ns → (eqb (bit_or seen (get_or ns i 0)) 0 && blank (drop (i + 1) ns)) ≡ blank ns
   zero-next l h = turned seen (get_or ns i 0) (blank (drop (i + 1) ns)) refl (ap blank (drop-cons ns i 0 l) ∙ ap (λ (j : ℕ). eqb (get_or ns i 0) 0 && blank (drop j ns)) (sym (add-one i))) h
 
-  pub zero-over : length ns ≤ i → (eqb seen 0 && blank (drop i ns)) ≡ blank ns → eqb seen 0 ≡ blank ns
-  zero-over l h = sym (and_true (eqb seen 0)) ∙ ap (λ (r : List ℕ). eqb seen 0 && blank r) (sym (drop_of_length-le ns l)) ∙ h
-
 module _ (ns : List ℤ) (i seen : ℕ) where
   pub zero_z_next : (x : ℕ) → i < length ns → eqb x 0 ≡ eqb (nat_abs (get_or ns i (pos 0))) 0 → (eqb seen 0 && blank_z (drop i ns)) ≡ blank_z ns
       → (eqb (bit_or seen x) 0 && blank_z (drop (i + 1) ns)) ≡ blank_z ns
   zero_z_next x l e h =
       turned seen x (blank_z (drop (i + 1) ns)) e
       (ap blank_z (drop-cons ns i (pos 0) l) ∙ ap (λ (j : ℕ). eqb (nat_abs (get_or ns i (pos 0))) 0 && blank_z (drop j ns)) (sym (add-one i))) h
-
-  pub zero_z_over : length ns ≤ i → (eqb seen 0 && blank_z (drop i ns)) ≡ blank_z ns → eqb seen 0 ≡ blank_z ns
-  zero_z_over l h = sym (and_true (eqb seen 0)) ∙ ap (λ (r : List ℤ). eqb seen 0 && blank_z r) (sym (drop_of_length-le ns l)) ∙ h
 
 module _ (xs bs : List ℕ) (i seen : ℕ) where
   pub same_next : i < length xs → i < length bs → (eqb seen 0 && same_nats (drop i xs) (drop i bs)) ≡ same_nats xs bs

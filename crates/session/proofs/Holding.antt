@@ -1,16 +1,16 @@
 -- Row 10's test, part by part: what each part decides, and that all of them decide whether the session is right. Assumes nothing.
 use mathlib.Core.Path.{◌≡◌, refl, sym, ap, ap₂, ◌∙◌, subst}
-use mathlib.Core.Bool.{Bool, true, false, ◌&&◌, ◌||◌, not, cond, false≢true}
+use mathlib.Core.Bool.{Bool, true, false, ◌&&◌, not, cond, false≢true}
 use mathlib.Core.List.{List, [], ◌∷◌, ◌++◌}
 use mathlib.Core.Logic.{⊎_elim}
-use mathlib.Core.Option.{Option, none}
-use Prim.Native.Nat.{ℕ, zero, suc, ◌+◌, ◌-◌, ◌*◌, ◌≤◌, ◌<◌}
+use Rattle.std.specs.Prelude.{Option, None, Some, Result, Err, is_ok}
+use Prim.Native.Nat.{ℕ, ◌+◌, ◌-◌, ◌*◌, ◌≤◌, ◌<◌}
 use native.Mathlib.Omega.{arith}
 use lib.Dec.{ltb, leb, eqb}
 use lib.IntN.{ℤ, pos}
 use lib.ListN.{length, get_or, take, drop, length-take, length-drop}
 use lib.Seq.{length-take-le, take_all, take-add}
-use borrow.Author.Tests.{eqb-true, eqb-false, eq-eqb, ne_eqb, le-leb, leb-true, leb-false, ltb-true}
+use borrow.Author.Tests.{eqb-true, eq-eqb, ltb-true}
 use native.Mathlib.Nat.{zero-mul}
 use Rattle.layout.specs.Laid.{row_at}
 use Rattle.strided.specs.Base.{padded, some_of}
@@ -26,16 +26,12 @@ use Rattle.laws.specs.Plan.Places.{blocks_length}
 use Rattle.kernel.proofs.Plans.{plannable}
 use Rattle.strided.specs.Refusals.{Row, refused_by, answered, planning_refused, row1, row2, row6}
 use Rattle.strided.specs.declared.Purpose.{Purpose}
-use Rattle.strided.specs.declared.Purpose.TheVariants.{PointwiseInto, Fold}
-use Rattle.strided.specs.declared.Answer.{Answer}
-use Rattle.strided.specs.declared.Answer.TheVariants.{Served, Refused}
 use Rattle.strided.specs.declared.Plan.{Plan}
 use Rattle.strided.specs.declared.Refusal.{Refusal}
 use Rattle.strided.specs.declared.Refusal.TheVariants.{State}
 use Rattle.laws.specs.Base.Arrays.{blank-ℕ, blank-ℤ, blank_behind, padded-take, length-padded, take_counted}
 use Rattle.laws.specs.Base.Rows.{length_over}
-use Rattle.laws.specs.Base.Tests.{and_both, both_and, or_cases}
-use Rattle.laws.specs.Refusals.Rows.{served_none}
+use Rattle.laws.specs.Base.Tests.{and_both, or_cases}
 use Rattle.laws.specs.Fuse.Arrays.{pick_rows}
 use Rattle.session.specs.declared.Numbers.{Numbers}
 use Rattle.session.specs.declared.Session.{Session}
@@ -79,65 +75,21 @@ decides_not f = record { yes = λ h. absurd (false≢true h); no = λ h. f }
 pub decides_yes : {P : Type 0} → P → Decides true P
 decides_yes p = record { yes = λ h. p; no = λ h. absurd (false≢true (sym h)) }
 
-pub or_right : (a b : Bool) → b ≡ true → (a || b) ≡ true
-or_right true b h = refl
-or_right false b h = h
-
 -- the test is another's
 pub decides_is : {a b : Bool} {P : Type 0} → a ≡ b → Decides b P → Decides a P
 decides_is e d = record { yes = λ h. d.yes (sym e ∙ h); no = λ h. d.no (sym e ∙ h) }
 
-pub decides_served : (a : Answer) (o : Option Refusal) {b : Bool} → a ≡ answered o → Decides b (a ≡ Served) → Decides b (o ≡ none)
-decides_served a o e d = decides_as d (λ h. served_none o (sym e ∙ h)) (λ h. e ∙ ap answered h)
+none_decides : (o : Option Refusal) → Decides (is_ok (answered o)) (o ≡ None)
+none_decides None = decides_yes refl
+none_decides (Some r) = decides_not (λ h. cc)
+
+pub decides_served : (a : Result (Unit {0}) Refusal) (o : Option Refusal) {b : Bool} → a ≡ answered o → b ≡ is_ok a → Decides b (o ≡ None)
+decides_served a o e d = decides_is (d ∙ ap is_ok e) (none_decides o)
 
 -- ---- the purpose
 
-eqb_turn : (a b : ℕ) → eqb a b ≡ eqb b a
-eqb_turn a b = go (eqb b a) refl
-  where
-    go : (x : Bool) → eqb b a ≡ x → eqb a b ≡ x
-    go true q = eq-eqb a b (sym (eqb-true b a q))
-    go false q = ne_eqb a b (λ e. eqb-false b a q (sym e))
-
 abbrev told_by : ℕ → ℕ → Purpose → Bool
 told_by p c u = eqb (kind_of u) p && eqb (lead u) c
-
-pub told_none : (p c : ℕ) → p ≡ 0 → eqb c 0 ≡ told_by p c (purpose_of p c)
-told_none p c e = eqb_turn c 0 ∙ sym (ap (λ (q : ℕ). told_by q c (purpose_of q c)) e)
-
-pub told_some : (p c : ℕ) → (p ≡ 0 → ⊥) → leb p 2 ≡ told_by p c (purpose_of p c)
-told_some p c n = go (eqb p 1) refl
-  where
-    and_true : (a : Bool) → (a && true) ≡ a
-    and_true true = refl
-    and_true false = refl
-
-    two : (x : Bool) → leb p 2 ≡ x → (p ≡ 1 → ⊥) → x ≡ eqb 2 p
-    two true h m = sym (eq-eqb 2 p (let q = leb-true p 2 h in let a : p ≡ 2 = pick p q n m in sym a))
-      where
-        pick : (p : ℕ) → p ≤ 2 → (p ≡ 0 → ⊥) → (p ≡ 1 → ⊥) → p ≡ 2
-        pick zero q n m = absurd (n refl)
-        pick (suc zero) q n m = absurd (m refl)
-        pick (suc (suc p)) q n m = omega (arith, q)
-    two false h m = sym (ne_eqb 2 p (λ e. let q = leb-false p 2 h in omega (arith, q, e)))
-
-    self : eqb c c ≡ true
-    self = eq-eqb c c refl
-
-    as_into : eqb p 1 ≡ true → purpose_of p c ≡ PointwiseInto c
-    as_into q = rw (ne_eqb p 0 n, q)
-
-    as_fold : eqb p 1 ≡ false → purpose_of p c ≡ Fold c
-    as_fold q = rw (ne_eqb p 0 n, q)
-
-    go : (x : Bool) → eqb p 1 ≡ x → leb p 2 ≡ told_by p c (purpose_of p c)
-    go true q =
-        let e = eqb-true p 1 q in
-        le-leb p 2 (omega (arith, e))
-        ∙ sym (ap (told_by p c) (as_into q) ∙ both_and (eqb 1 p) (eqb c c) (eq-eqb 1 p (sym e)) self)
-    go false q =
-        two (leb p 2) refl (eqb-false p 1 q)
-        ∙ sym (ap (told_by p c) (as_fold q) ∙ ap (λ (x : Bool). eqb 2 p && x) self ∙ and_true (eqb 2 p))
 
 -- ---- places behind the counts
 
@@ -178,10 +130,10 @@ module _ (n : Numbers) (E Z : List ℕ) (S : List ℤ) (e : length E ≡ 64) (z 
       (or_cases (eqb n.operands 0) (ltb 8 n.operands) h)
 
   -- the three tests of a layout whose counts are within the limits
-  module _ (axes : n.rank ≤ 64) (few : n.operands ≤ 8) {told neat plain : Bool} {u : Purpose} {answer : Answer}
+  module _ (axes : n.rank ≤ 64) (few : n.operands ≤ 8) {told neat plain : Bool} {u : Purpose} {answer : Result (Unit {0}) Refusal}
       (a : told ≡ told_by n.purpose n.chosen (purpose_of n.purpose n.chosen))
       (b : neat ≡ (blank (drop n.rank E) && (blank (drop n.operands Z) && blank_z (drop (n.rank * n.operands) S))))
-      (c : Decides plain (answer ≡ Served)) (p : u ≡ purpose_of n.purpose n.chosen)
+      (c : plain ≡ is_ok answer) (p : u ≡ purpose_of n.purpose n.chosen)
       (d : answer ≡ answered (planning_refused n.machine (take n.rank E) (take n.operands Z) (take (n.rank * n.operands) S) u)) where
     pub layout_decides : Decides (told && (neat && plain)) (LayoutRight n E Z S)
     layout_decides =
@@ -288,9 +240,6 @@ module _ (n : Numbers) (E Z : List ℕ) (S : List ℤ) (l : LayoutRight n E Z S)
 
   pub strides_long : length S ≡ 512
   strides_long = ap length l.strides ∙ length-padded (pos 0) 512 (take (n.rank * n.operands) S)
-
-  pub g-rank : length (take n.rank E) ≡ n.rank
-  g-rank = length-take-le n.rank E (let a = l.axes in let e = extents_long in omega (arith, a, e))
 
   pub g_operands : length (take n.operands Z) ≡ n.operands
   g_operands = length-take-le n.operands Z (let a = l.few in let e = sizes_long in omega (arith, a, e))
@@ -478,5 +427,5 @@ module _ (s : Session) {b : Bool} (d : Decides b (Right s)) (rs : List Row) wher
   pub past_10 : b ≡ true → answered (refused_by (row10 s ∷ rs)) ≡ answered (refused_by rs)
   past_10 h = let e : holds s ≡ true = right-holds s (d.yes h) in rw e
 
-  pub at_10 : b ≡ false → answered (refused_by (row10 s ∷ rs)) ≡ Refused State
+  pub at_10 : b ≡ false → answered (refused_by (row10 s ∷ rs)) ≡ Err State
   at_10 h = let e : holds s ≡ false = sym (decides_holds s _ d) ∙ h in rw e

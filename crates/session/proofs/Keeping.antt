@@ -1,5 +1,5 @@
 -- The order by the weights is that of fusing. Assumes nothing.
-use mathlib.Core.Path.{◌≡◌, ap, ◌∙◌, subst}
+use mathlib.Core.Path.{◌≡◌, ap, ◌∙◌}
 use mathlib.Core.Bool.{cond, ◌&&◌, ◌||◌}
 use mathlib.Core.List.{List}
 use Prim.Native.Nat.{ℕ, ◌≤◌}
@@ -14,7 +14,6 @@ use Rattle.strided.specs.Order.{follows, order_to, loop_order, fusing_order}
 use Rattle.strided.specs.declared.Purpose.{Purpose}
 use Rattle.laws.specs.Base.Filling.{read_padded}
 use Rattle.laws.specs.Order.Tries.{weights_long}
-use Rattle.session.specs.Made.{AxesIn}
 
 -- axes are compared by the array's weights as by the list's
 order_padded : (ws es : List ℕ) (n : ℕ) → length ws ≤ 64 → order_to (follows (padded 64 0 ws) es) n ≡ order_to (follows ws es) n
@@ -30,7 +29,3 @@ order_is es m ss u few less W is =
     let long : length ws ≤ 64 = omega (arith, weights_long es m ss (lead u) less, few) in
     ap (λ (o : List ℕ). padded 64 0 (cond (leb (total es) 1024) (run 0 (length es)) o))
     (ap (λ (w : List ℕ). order_to (follows w es) (length es)) is ∙ order_padded ws es (length es) long)
-
--- a purpose in other words
-pub axes_for : (es : List ℕ) (m : ℕ) (ss : List ℤ) {u v : Purpose} {rank : ℕ} {W E : List ℕ} {S : List ℤ} → u ≡ v → AxesIn es m ss u rank W E S → AxesIn es m ss v rank W E S
-axes_for es m ss {u} {v} {rank} {W} {E} {S} e a = subst (λ (x : Purpose). AxesIn es m ss x rank W E S) e a

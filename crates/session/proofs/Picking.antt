@@ -3,7 +3,6 @@ use mathlib.Core.Path.{◌≡◌, refl, sym, ap, ap₂, ◌∙◌}
 use mathlib.Core.Bool.{Bool, true, false, ◌&&◌}
 use mathlib.Core.List.{List, [], ◌∷◌, ◌++◌}
 use Prim.Native.Nat.{ℕ, zero, suc, ◌+◌, ◌-◌, ◌*◌, ◌≤◌, ◌<◌}
-use native.Mathlib.Nat.{mul_comm}
 use native.Mathlib.Omega.{arith}
 use borrow.Author.Tests.{ne_eqb}
 use lib.Dec.{eqb}
@@ -16,7 +15,7 @@ use Rattle.strided.specs.Fuse.{eq_z}
 use Rattle.strided.specs.Step.{blank_z}
 use Rattle.laws.specs.Base.Arrays.{length-padded, get_d_padded}
 use Rattle.laws.specs.Base.Filling.{drop_behind, padded_is}
-use Rattle.laws.specs.Base.Rows.{length_over, row_fits}
+use Rattle.laws.specs.Base.Rows.{length_over}
 use Rattle.laws.specs.Fuse.Arrays.{get_d_pick, pick_row, pick_rows}
 use Rattle.laws.specs.Order.Picked.{length-pick}
 use Rattle.session.specs.Session.{same_ints}
@@ -74,10 +73,6 @@ module _ (ss : List ℤ) (from : ℕ) (A : List ℕ) (count : ℕ) (long : lengt
       (q ∙ sym (same-blank (64 - count) (drop count row) (omega (arith, d, e)))
       ∙ ap (λ (l : List ℤ). same_ints l (drop count row)) (sym (drop_behind 64 count (pos 0) (pick (pos 0) (drop from ss) (take count A)) (omega (arith, counted)))))
       ∙ h
-
--- the strides of operand k are there
-pub row_inside : (k p m a n : ℕ) → k < m → m * p ≤ n → a < p → k * p + a < n
-row_inside k p m a n h room l = let f = row_fits k p m h in let e : m * p ≡ p * m = mul_comm m p in omega (arith, f, e, room, l)
 
 -- all rows
 module _ (ss : List ℤ) (p : ℕ) (o : List ℕ) (PS : List ℤ) (long : length PS ≡ 512) where

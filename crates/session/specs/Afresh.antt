@@ -1,19 +1,18 @@
 -- What begins, and what an accepted call hands out, is right: planning accepts the layout with one operand more or one less, and everything
 -- else is what that layout gives. Assumes nothing.
-use Rattle.std.specs.Prelude.{◌≡◌, refl, true, false, cond, ◌||◌, not, List, [], ◌∷◌, ◌++◌, ◌⊎◌, leb, eqb, ℤ, pos, take, drop}
-use Rattle.std.proofs.Common.{sym, ◌∙◌, subst, inl, inr, mul-le-mul, mul_comm, mul-suc, eq-or-lt_of_le, arith, length-append, length-drop, take_all, drop_at}
+use Rattle.std.specs.Prelude.{◌≡◌, refl, true, false, cond, List, [], ◌∷◌, ◌++◌, leb, eqb, ℤ, pos, take, drop, None}
+use Rattle.std.proofs.Common.{sym, ◌∙◌, subst, mul-le-mul, mul_comm, mul-suc, eq-or-lt_of_le, arith, length-append, length-drop, take_all, drop_at}
 use Rattle.std.proofs.Math.Path.{ap}
 use Rattle.std.proofs.Math.Bool.{Bool}
 use Rattle.std.proofs.Math.Logic.{⊎_elim}
-use Rattle.std.proofs.Math.Option.{none}
 use Prim.Native.Nat.{ℕ, suc, ◌+◌, ◌-◌, ◌*◌, ◌≤◌, ◌<◌}
 use Rattle.std.proofs.Math.Dec.{ltb}
 use Rattle.std.proofs.Math.ListN.{length}
 use Rattle.std.proofs.lemmas.List.{take-append-le, drop-append-le}
 use borrow.Author.Tests.{ltb-true, ltb-false, leb-false, lt-leb, eqb-true, eqb-false, not-false}
-use Rattle.strided.specs.Base.{run, over, some_of}
+use Rattle.strided.specs.Base.{some_of}
 use Rattle.strided.specs.Layout.{stride_row, chosen, lead, has_zero, reach, max_i}
-use Rattle.strided.specs.Refusals.{missing, layout_refused, planning_refused, refused_by, row6}
+use Rattle.strided.specs.Refusals.{missing, refused_by}
 use Rattle.strided.specs.Memory.{purpose_of}
 use Rattle.strided.specs.Machine.{Allowed}
 use Rattle.strided.specs.declared.Purpose.{Purpose}
@@ -37,13 +36,13 @@ module _ (g : Given) where
   abbrev pub Taken : Type 0
   Taken = Accepted g.extents g.sizes g.strides g.purpose
 
-  pub taken_of : refused_of g ≡ none → Taken
+  pub taken_of : refused_of g ≡ None → Taken
   taken_of h = accepted _ _ _ _ (planning_layout g.machine g.extents g.sizes g.strides g.purpose h)
 
-  pub allowed_of : refused_of g ≡ none → Allowed g.machine
+  pub allowed_of : refused_of g ≡ None → Allowed g.machine
   allowed_of h = planning_allowed g.machine g.extents g.sizes g.strides g.purpose h
 
-  pub taken_back : Allowed g.machine → Taken → refused_of g ≡ none
+  pub taken_back : Allowed g.machine → Taken → refused_of g ≡ None
   taken_back m a = planning_as g.machine g.extents g.sizes g.strides g.purpose m ∙ accepted_back _ _ _ _ a
 
 -- a table has 64 * 8 places
@@ -59,7 +58,7 @@ purpose_back (PointwiseInto k) = refl
 purpose_back (Fold k) = refl
 
 -- the layout is read back
-pub given_back : (g : Given) → refused_of g ≡ none → given_of (fresh_of g) ≡ g
+pub given_back : (g : Given) → refused_of g ≡ None → given_of (fresh_of g) ≡ g
 unfolding fresh_of
 given_back g h =
     let a = taken_of g h in
@@ -69,7 +68,7 @@ given_back g h =
     let u = purpose_back g.purpose in
     λ i. record { machine = g.machine; extents = e i; sizes = z i; strides = s i; purpose = u i }
 
-pub right-fresh : (g : Given) → refused_of g ≡ none → Right (fresh_of g)
+pub right-fresh : (g : Given) → refused_of g ≡ None → Right (fresh_of g)
 right-fresh g h =
     let b = given_back g h in
     record { accepted = ap refused_of b ∙ h; afresh = ap fresh_of (sym b) }
@@ -107,7 +106,7 @@ there_more m Pointwise h = refl
 there_more m (PointwiseInto k) h = missing_more m k h
 there_more m (Fold k) h = missing_more m k h
 
-module _ (g : Given) (z : ℕ) (ts : List ℤ) (h : refused_of g ≡ none) (room : length g.sizes < 8) (counted : length ts ≡ length g.extents)
+module _ (g : Given) (z : ℕ) (ts : List ℤ) (h : refused_of g ≡ None) (room : length g.sizes < 8) (counted : length ts ≡ length g.extents)
     (near : has_zero g.extents ≡ false → reach g.extents ts ≤ max_i) where
   abbrev n : ℕ
   n = length g.extents
@@ -142,7 +141,7 @@ module _ (g : Given) (z : ℕ) (ts : List ℤ) (h : refused_of g ≡ none) (room
         near = λ q k l. near-all q k (omega (arith, l, one_more_lem));
       }
 
-  pub join_accepted : refused_of (with_operand g z ts) ≡ none
+  pub join_accepted : refused_of (with_operand g z ts) ≡ None
   join_accepted = taken_back (with_operand g z ts) (allowed_of g h) join_taken
 
 -- ---- an operand leaves
@@ -189,7 +188,7 @@ module _ (ss : List ℤ) (rank m k : ℕ) (e : length ss ≡ rank * m) (h : k < 
   pub length_without : length (strides_without rank m k ss) ≡ rank * (m - 1)
   length_without = length_over rank (λ j. stride_row ss rank (old_place k j)) (m - 1) 0 rows_even ∙ mul_comm (m - 1) rank
 
-module _ (g : Given) (k : ℕ) (h : refused_of g ≡ none) (there : k < length g.sizes) (two : 1 < length g.sizes) where
+module _ (g : Given) (k : ℕ) (h : refused_of g ≡ None) (there : k < length g.sizes) (two : 1 < length g.sizes) where
   abbrev n' : ℕ
   n' = length g.extents
 
@@ -217,12 +216,12 @@ module _ (g : Given) (k : ℕ) (h : refused_of g ≡ none) (there : k < length g
             (a'.near q (old_place k j) (old-there m' k j there w));
       }
 
-  pub leave_accepted : refused_of (without_operand g k) ≡ none
+  pub leave_accepted : refused_of (without_operand g k) ≡ None
   leave_accepted = taken_back (without_operand g k) (allowed_of g h) leave_taken
 
 -- ---- what the rows let through
 
-module _ (s : Session) (ts : List ℤ) (h : refused_by (join_rows s ts) ≡ none) where
+module _ (s : Session) (ts : List ℤ) (h : refused_by (join_rows s ts) ≡ None) where
   rows : NoneApplies (join_rows s ts)
   rows = none_applies (join_rows s ts) h
 
@@ -251,7 +250,7 @@ module _ (s : Session) (ts : List ℤ) (h : refused_by (join_rows s ts) ≡ none
   pub joined-right : (z : ℕ) → Right (fresh_of (with_operand (given_of s) z ts))
   joined-right z = right-fresh _ (join_accepted (given_of s) z ts join_right.accepted join_room join_counted join_near)
 
-module _ (s : Session) (k : ℕ) (h : refused_by (leave_rows s k) ≡ none) where
+module _ (s : Session) (k : ℕ) (h : refused_by (leave_rows s k) ≡ None) where
   leaving_rows : NoneApplies (leave_rows s k)
   leaving_rows = none_applies (leave_rows s k) h
 

@@ -1,9 +1,9 @@
 -- Figures: the numbers of the rows in their order, and layouts that an operand joins or leaves, by computation on the definitions.
 -- Assumes nothing.
-use Rattle.std.specs.Prelude.{◌≡◌, refl, List, [], ◌∷◌, ℕ, ℤ, pos}
-use Rattle.std.proofs.Math.Option.{Option, none, some}
+use Rattle.std.specs.Prelude.{◌≡◌, refl, List, [], ◌∷◌, ℕ, ℤ, pos, Option, None, Some}
 use Rattle.strided.specs.Base.{some_of}
-use Rattle.strided.specs.Refusals.{refused_by, answered, planning_rows, planning_refused}
+use Rattle.strided.specs.Refusals.{refused_by, served_unless, answered, planning_rows, planning_refused}
+use Rattle.strided.specs.Memory.{whether}
 use Rattle.strided.specs.Rows.{numbers}
 use Rattle.strided.specs.declared.Machine.{Machine}
 use Rattle.strided.specs.declared.Purpose.{Purpose}
@@ -11,16 +11,15 @@ use Rattle.strided.specs.declared.Purpose.TheVariants.{Pointwise, PointwiseInto,
 use Rattle.strided.specs.declared.Refusal.{Refusal}
 use Rattle.strided.specs.declared.Refusal.TheVariants.{Ninth, Leaving, StrideCount, Reach}
 use Rattle.session.specs.declared.Session.{Session}
-use Rattle.session.specs.declared.Sessioned.{Sessioned}
-use Rattle.session.specs.Session.{Given, given, fresh_of, with_operand, without_operand, row21, new_rows, join_rows, leave_rows, sessioned_or, begun}
+use Rattle.session.specs.Session.{Given, given, fresh_of, with_operand, without_operand, row21, new_rows, join_rows, leave_rows, begun}
 
 -- the numbers of the rows, in the order in which they are asked, whatever the entry is called with. A beginning has those of planning
-answer_of : (o : Option Refusal) (t : Session) → (sessioned_or o t).answer ≡ answered o
-answer_of none t = refl
-answer_of (some r) t = refl
+answer_of : (o : Option Refusal) (t : Session) → whether (served_unless o t) ≡ answered o
+answer_of None t = refl
+answer_of (Some r) t = refl
 
 module _ (mc : Machine) (es sizes : List ℕ) (ss : List ℤ) (u : Purpose) where
-  pub begin_planning : (begun (given mc es sizes ss u)).answer ≡ answered (refused_by (planning_rows mc es sizes ss u))
+  pub begin_planning : whether (begun (given mc es sizes ss u)) ≡ answered (refused_by (planning_rows mc es sizes ss u))
   unfolding begun planning_refused
   begin_planning = answer_of (refused_by (planning_rows mc es sizes ss u)) (fresh_of (given mc es sizes ss u))
 
@@ -34,14 +33,14 @@ pub leave_rows_lem : (s : Session) (k : ℕ) → numbers (leave_rows s k) ≡ 10
 leave_rows_lem s k = refl
 
 -- 20 before 3 before 6
-pub new_right : (refused_by (new_rows 1 8 (2 ∷ []) []) ≡ some Ninth) × (refused_by (new_rows 1 7 (2 ∷ []) []) ≡ some StrideCount)
-    × (refused_by (new_rows 1 7 (2 ∷ []) (pos 9223372036854775808 ∷ [])) ≡ some Reach)
-    × (refused_by (new_rows 1 7 (2 ∷ []) (pos 9223372036854775807 ∷ [])) ≡ none)
+pub new_right : (refused_by (new_rows 1 8 (2 ∷ []) []) ≡ Some Ninth) × (refused_by (new_rows 1 7 (2 ∷ []) []) ≡ Some StrideCount)
+    × (refused_by (new_rows 1 7 (2 ∷ []) (pos 9223372036854775808 ∷ [])) ≡ Some Reach)
+    × (refused_by (new_rows 1 7 (2 ∷ []) (pos 9223372036854775807 ∷ [])) ≡ None)
 unfolding some_of
 new_right = (refl, refl, refl, refl)
 
 -- the only one left, one that is not there, and the last of two
-pub leaving_right : (refused_by (row21 1 0 ∷ []) ≡ some Leaving) × (refused_by (row21 2 2 ∷ []) ≡ some Leaving) × (refused_by (row21 2 1 ∷ []) ≡ none)
+pub leaving_right : (refused_by (row21 1 0 ∷ []) ≡ Some Leaving) × (refused_by (row21 2 2 ∷ []) ≡ Some Leaving) × (refused_by (row21 2 1 ∷ []) ≡ None)
 leaving_right = (refl, refl, refl)
 
 -- a layout of three operands on two axes

@@ -1,10 +1,9 @@
 -- A session in lent arrays: what its functions ask of arrays and tell of them, and what a call leaves in them. Assumes nothing.
-use Rattle.std.specs.Prelude.{◌≡◌, cond, List, [], map, ℕ, ◌+◌, ◌-◌, ◌*◌, ◌≤◌, ◌<◌, leb, ℤ, pos, length, get_or, take, replicate}
-use Rattle.std.proofs.Math.Option.{none}
+use Rattle.std.specs.Prelude.{◌≡◌, cond, List, [], map, ℕ, ◌+◌, ◌-◌, ◌*◌, ◌≤◌, ◌<◌, leb, ℤ, pos, length, get_or, take, replicate, None, Result}
 use Rattle.strided.specs.Base.{padded, over, run}
 use Rattle.strided.specs.Layout.{total, lead, extents as extents_of}
 use Rattle.strided.specs.Machine.{Allowed}
-use Rattle.strided.specs.Memory.{purpose_of, kept}
+use Rattle.strided.specs.Memory.{purpose_of, kept, whether}
 use Rattle.strided.specs.Ranks.{rank_table}
 use Rattle.strided.specs.Weights.{weights as weighed}
 use Rattle.strided.specs.Fuse.{plan_axes}
@@ -13,14 +12,13 @@ use Rattle.strided.specs.Plan.{stride_table, cut_blocks}
 use Rattle.strided.specs.declared.Machine.{Machine}
 use Rattle.strided.specs.declared.Purpose.{Purpose}
 use Rattle.strided.specs.declared.Plan.{Plan}
-use Rattle.strided.specs.declared.Answer.{Answer}
+use Rattle.strided.specs.declared.Refusal.{Refusal}
 use Rattle.laws.specs.Fuse.Arrays.{pick_rows}
 use Rattle.auxiliary.specs.Fitting.{Fitting}
 use Rattle.model.specs.Plannable.{Plannable}
 use Rattle.session.specs.declared.Numbers.{Numbers}
 use Rattle.session.specs.declared.Session.{Session}
-use Rattle.session.specs.declared.Sessioned.{Sessioned}
-use Rattle.session.specs.Session.{Given, given, refused_of, weights_of, costs_of, plan_of, kind_of, purpose_without, no_session}
+use Rattle.session.specs.Session.{Given, given, refused_of, weights_of, costs_of, plan_of, kind_of, purpose_without}
 
 -- ---- the table of ranks
 
@@ -62,7 +60,7 @@ pub record LayoutRight (n : Numbers) (E Z : List ℕ) (S : List ℤ) : Type 0 wh
   pub extents : E ≡ padded 64 0 (take n.rank E)
   pub sizes : Z ≡ padded 8 0 (take n.operands Z)
   pub strides : S ≡ padded 512 (pos 0) (take (n.rank * n.operands) S)
-  pub accepted : refused_of (given_in n E Z S) ≡ none
+  pub accepted : refused_of (given_in n E Z S) ≡ None
 
 -- its operands of sizes zs and strides ss stand in the arrays, with their ranks
 pub record Standing (rank : ℕ) (zs : List ℕ) (ss : List ℤ) (Z : List ℕ) (S : List ℤ) (R : List ℕ) (table : List (List ℕ)) : Type 0 where
@@ -214,7 +212,7 @@ session_at n E Z S R W C PE PB PS =
       plan = record { rank = n.plan_rank; operands = n.plan_operands; extents = PE; blocks = PB; strides = PS };
     }
 
--- the numbers of a session, and of none
+-- the numbers of a session
 abbrev pub numbers_of : Session → Numbers
 numbers_of s =
     record {
@@ -227,10 +225,7 @@ numbers_of s =
       plan_operands = s.plan.operands;
     }
 
-abbrev pub no_numbers : Numbers
-no_numbers = numbers_of no_session
-
 -- the call answers, and a session lent that was `old` is `new`: the one handed out, or on a refusal the old one
-pub record Lent (t : Sessioned) (old new : Session) (answer : Answer) : Type 0 where
-  pub answers : answer ≡ t.answer
-  pub leaves : new ≡ kept t.answer t.session old
+pub record Lent (t : Result Session Refusal) (old new : Session) (answer : Result (Unit {0}) Refusal) : Type 0 where
+  pub answers : answer ≡ whether t
+  pub leaves : new ≡ kept (λ s. s) t old

@@ -1,36 +1,34 @@
 -- ROW 10 IS EXACT: a session passes its test exactly if some beginning and some list of accepted calls lead to it. One way goes along the
 -- calls; the other begins with the very layout that the session has. So after any accepted calls each kept part equals what the present layout
 -- gives afresh. Assumes nothing.
-use Rattle.std.specs.Prelude.{◌≡◌, refl, Bool, true, false, not, List, [], ◌∷◌, ◌↔◌, ℕ, ℤ}
+use Rattle.std.specs.Prelude.{◌≡◌, refl, Bool, true, false, not, List, [], ◌∷◌, ◌↔◌, ℕ, Option, None, Some}
 use Rattle.std.proofs.Common.{sym, ap, ◌∙◌, subst, arith}
-use Rattle.std.proofs.lemmas.Bool.{false≢true, not-true, not-false}
-use Rattle.std.proofs.Math.Option.{Option, none, some}
-use Rattle.strided.specs.Refusals.{refused_by}
+use Rattle.std.proofs.lemmas.Bool.{false≢true, not-false}
+use Rattle.strided.specs.Refusals.{refused_by, served_unless}
 use Rattle.strided.specs.declared.Refusal.{Refusal}
 use Rattle.session.specs.declared.Session.{Session}
-use Rattle.session.specs.declared.Sessioned.{Sessioned}
-use Rattle.session.specs.Session.{Given, refused_of, ranks_of, weights_of, costs_of, plan_of, fresh_of, given_of, with_operand, without_operand, Right, holds, row10, join_rows, leave_rows, sessioned_or, begun, joined, left, Call, Joins, Leaves, handed, called, through, Reached}
+use Rattle.session.specs.Session.{Given, refused_of, ranks_of, weights_of, costs_of, plan_of, fresh_of, given_of, Right, holds, row10, join_rows, leave_rows, begun, joined, left, Call, Joins, Leaves, handed, called, through, Reached}
 use Rattle.session.specs.Same.{holds-right, right-holds}
 use Rattle.session.specs.Afresh.{right-fresh, joined-right, left-right}
 
 -- what is handed out is right if it is so where nothing refuses
-handed-right : (o : Option Refusal) (t : Session) → (o ≡ none → Right t) → (s : Session) → handed (sessioned_or o t) ≡ some s → Right s
-handed-right none t f s h = subst Right (let e : t ≡ s = cc h in e) (f refl)
-handed-right (some r) t f s h = let z : ◌≡◌ {A = ℕ} 0 1 = cc h in absurd (omega arith)
+handed-right : (o : Option Refusal) (t : Session) → (o ≡ None → Right t) → (s : Session) → handed (served_unless o t) ≡ Some s → Right s
+handed-right None t f s h = subst Right (let e : t ≡ s = cc h in e) (f refl)
+handed-right (Some r) t f s h = let z : ◌≡◌ {A = ℕ} 0 1 = cc h in absurd (omega arith)
 
-pub begun-right : (g : Given) (s : Session) → handed (begun g) ≡ some s → Right s
+pub begun-right : (g : Given) (s : Session) → handed (begun g) ≡ Some s → Right s
 unfolding begun
 begun-right g s h = handed-right (refused_of g) (fresh_of g) (right-fresh g) s h
 
-pub called-right : (c : Call) (s t : Session) → called c s ≡ some t → Right t
+pub called-right : (c : Call) (s t : Session) → called c s ≡ Some t → Right t
 unfolding joined left
 called-right (Joins z ts) s t h = handed-right (refused_by (join_rows s ts)) _ (λ q. joined-right s ts q z) t h
 called-right (Leaves k) s t h = handed-right (refused_by (leave_rows s k)) _ (left-right s k) t h
 
-through-right : (cs : List Call) (m : Option Session) → ((s : Session) → m ≡ some s → Right s) → (t : Session) → through cs m ≡ some t → Right t
+through-right : (cs : List Call) (m : Option Session) → ((s : Session) → m ≡ Some s → Right s) → (t : Session) → through cs m ≡ Some t → Right t
 through-right [] m f t h = f t h
-through-right (c ∷ cs) none f t h = let z : ◌≡◌ {A = ℕ} 0 1 = cc h in absurd (omega arith)
-through-right (c ∷ cs) (some s) f t h = through-right cs (called c s) (λ u q. called-right c s u q) t h
+through-right (c ∷ cs) None f t h = let z : ◌≡◌ {A = ℕ} 0 1 = cc h in absurd (omega arith)
+through-right (c ∷ cs) (Some s) f t h = through-right cs (called c s) (λ u q. called-right c s u q) t h
 
 -- ---- both ways
 
@@ -43,7 +41,7 @@ right_reached s r =
     record {
       beginning = given_of s;
       calls = [];
-      leads = ap (λ (o : Option Refusal). handed (sessioned_or o (fresh_of (given_of s)))) r.accepted ∙ ap some (sym r.afresh);
+      leads = ap (λ (o : Option Refusal). handed (served_unless o (fresh_of (given_of s)))) r.accepted ∙ ap Some (sym r.afresh);
     }
 
 pub row10-passes : (s : Session) → ((row10 s).applies ≡ false) ↔ Reached s

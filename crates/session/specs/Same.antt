@@ -1,9 +1,8 @@
 -- Row 10's test is its claim: two lists, plans and sessions pass the test exactly if they are the same. Assumes nothing.
-use Rattle.std.specs.Prelude.{◌≡◌, Bool, true, false, ◌&&◌, not, List, [], ◌∷◌, ℕ, eqb, ℤ, pos, negsuc}
+use Rattle.std.specs.Prelude.{◌≡◌, Bool, true, false, List, [], ◌∷◌, ℕ, eqb, ℤ, pos, negsuc, Option, None, Some}
 use Rattle.std.proofs.Math.Path.{refl}
-use Rattle.std.proofs.Common.{ap, ap₂, sym, subst, arith, eqb-true, eq-eqb}
+use Rattle.std.proofs.Common.{ap, ap₂, sym, subst, eqb-true, eq-eqb}
 use Rattle.std.proofs.lemmas.Bool.{false≢true}
-use Rattle.std.proofs.Math.Option.{Option, none, some}
 use Rattle.strided.specs.Fuse.{eq_z}
 use Rattle.strided.specs.Step.{is_none}
 use Rattle.strided.specs.declared.Refusal.{Refusal}
@@ -123,9 +122,9 @@ session_self s =
 
 -- ---- the test of row 10
 
-none_is : (o : Option Refusal) → is_none o ≡ true → o ≡ none
-none_is none h = refl
-none_is (some r) h = absurd (false≢true h)
+none_is : (o : Option Refusal) → is_none o ≡ true → o ≡ None
+none_is None h = refl
+none_is (Some r) h = absurd (false≢true h)
 
 module _ (s : Session) where
   pub holds-right : holds s ≡ true → Right s

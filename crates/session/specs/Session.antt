@@ -2,16 +2,15 @@
 -- the end, or drop one by number with the later ones moving up. It keeps the ranks and weights of the layout's axes, the costs of the plan's
 -- axes, and the plan." Everything that is kept is defined in crate strided; here it is put together.
 -- Assumes nothing.
-use Rattle.std.specs.Prelude.{◌≡◌, Bool, true, false, cond, ◌&&◌, ◌||◌, not, List, [], ◌∷◌, ◌++◌, map, ℕ, suc, ◌-◌, ◌*◌, ltb, leb, eqb, ℤ, pos, length, get_or, take, replicate}
-use Rattle.std.proofs.Math.Option.{Option, none, some}
+use Rattle.std.specs.Prelude.{◌≡◌, Bool, true, false, cond, ◌&&◌, ◌||◌, not, List, [], ◌∷◌, ◌++◌, map, ℕ, suc, ◌-◌, ◌*◌, ltb, leb, eqb, ℤ, pos, length, get_or, take, Option, None, Some, Result, Ok, Err}
 use Rattle.strided.specs.Base.{padded, over, run}
 use Rattle.strided.specs.Layout.{stride_row, lead}
 use Rattle.strided.specs.Ranks.{rank_table}
 use Rattle.strided.specs.Weights.{weights}
 use Rattle.strided.specs.Fuse.{eq_z, plan_axes}
 use Rattle.strided.specs.Costs.{costs}
-use Rattle.strided.specs.Plan.{stride_table, no_plan, plan_from}
-use Rattle.strided.specs.Refusals.{Row, refused_by, row3, row6, planning_refused}
+use Rattle.strided.specs.Plan.{stride_table, plan_from}
+use Rattle.strided.specs.Refusals.{Row, refused_by, served_unless, row3, row6, planning_refused}
 use Rattle.strided.specs.Step.{is_none}
 use Rattle.strided.specs.Memory.{purpose_of}
 use Rattle.strided.specs.declared.Machine.{Machine}
@@ -19,11 +18,8 @@ use Rattle.strided.specs.declared.Purpose.{Purpose}
 use Rattle.strided.specs.declared.Purpose.TheVariants.{Pointwise, PointwiseInto, Fold}
 use Rattle.strided.specs.declared.Refusal.{Refusal}
 use Rattle.strided.specs.declared.Refusal.TheVariants.{State, Ninth, Leaving}
-use Rattle.strided.specs.declared.Answer.{Answer}
-use Rattle.strided.specs.declared.Answer.TheVariants.{Served, Refused}
 use Rattle.strided.specs.declared.Plan.{Plan}
 use Rattle.session.specs.declared.Session.{Session}
-use Rattle.session.specs.declared.Sessioned.{Sessioned}
 
 -- what fixes a plan: "layout, purpose and record alone" (ask 13)
 pub record Given : Type 0 where
@@ -176,7 +172,7 @@ same_session s t =
 
 -- the claim: planning accepts the session's layout, and everything else in the session is what that layout gives
 pub record Right (s : Session) : Type 0 where
-  pub accepted : refused_of (given_of s) ≡ none
+  pub accepted : refused_of (given_of s) ≡ None
   pub afresh : s ≡ fresh_of (given_of s)
 
 -- and the test
@@ -208,41 +204,19 @@ join_rows s ts = row10 s ∷ new_rows s.rank s.operands (given_of s).extents ts
 abbrev pub leave_rows : Session → ℕ → List Row
 leave_rows s k = row10 s ∷ row21 s.operands k ∷ []
 
--- ---- the entries
-
--- "A refusal carries its number and nothing else."
-abbrev pub no_session : Session
-no_session =
-    record {
-      purpose = 0;
-      chosen = 0;
-      machine = record { line = 0; cache = 0; way = 0; live = 0 };
-      rank = 0;
-      operands = 0;
-      extents = replicate 64 0;
-      sizes = replicate 8 0;
-      strides = replicate 512 (pos 0);
-      ranks = replicate 512 0;
-      weights = replicate 64 0;
-      costs = replicate 64 0;
-      plan = no_plan;
-    }
-
-abbrev pub sessioned_or : Option Refusal → Session → Sessioned
-sessioned_or none s = record { answer = Served; session = s }
-sessioned_or (some r) s = record { answer = Refused r; session = no_session }
+-- ---- the entries. "A refusal carries its number and nothing else."
 
 -- A SESSION BEGINS: "with any layout that planning accepts"
-unfoldable pub begun : Given → Sessioned
-begun g = sessioned_or (refused_of g) (fresh_of g)
+unfoldable pub begun : Given → Result Session Refusal
+begun g = served_unless (refused_of g) (fresh_of g)
 
 -- AN OPERAND of size z and strides ts JOINS: "After any accepted calls each of these equals what the present layout would give afresh"
-unfoldable pub joined : Session → ℕ → List ℤ → Sessioned
-joined s z ts = sessioned_or (refused_by (join_rows s ts)) (fresh_of (with_operand (given_of s) z ts))
+unfoldable pub joined : Session → ℕ → List ℤ → Result Session Refusal
+joined s z ts = served_unless (refused_by (join_rows s ts)) (fresh_of (with_operand (given_of s) z ts))
 
 -- OPERAND k LEAVES. "a session keeps the one it began with" (ask 13), of the record, and so do both
-unfoldable pub left : Session → ℕ → Sessioned
-left s k = sessioned_or (refused_by (leave_rows s k)) (fresh_of (without_operand (given_of s) k))
+unfoldable pub left : Session → ℕ → Result Session Refusal
+left s k = served_unless (refused_by (leave_rows s k)) (fresh_of (without_operand (given_of s) k))
 
 -- ---- the sessions that beginnings and accepted calls lead to
 
@@ -251,12 +225,9 @@ pub data Call : Type 0 where
   Leaves : ℕ → Call
 
 -- the session that an accepted call hands out
-abbrev pub handed_by : Answer → Session → Option Session
-handed_by Served s = some s
-handed_by (Refused r) s = none
-
-abbrev pub handed : Sessioned → Option Session
-handed r = handed_by r.answer r.session
+abbrev pub handed : Result Session Refusal → Option Session
+handed (Ok s) = Some s
+handed (Err r) = None
 
 abbrev pub called : Call → Session → Option Session
 called (Joins z ts) s = handed (joined s z ts)
@@ -265,11 +236,11 @@ called (Leaves k) s = handed (left s k)
 -- through a list of calls, each on the session that the one before it handed out
 abbrev pub through : List Call → Option Session → Option Session
 through [] m = m
-through (c ∷ cs) none = none
-through (c ∷ cs) (some s) = through cs (called c s)
+through (c ∷ cs) None = None
+through (c ∷ cs) (Some s) = through cs (called c s)
 
 -- some beginning and some list of accepted calls lead to the session
 pub record Reached (s : Session) : Type 0 where
   pub beginning : Given
   pub calls : List Call
-  pub leads : through calls (handed (begun beginning)) ≡ some s
+  pub leads : through calls (handed (begun beginning)) ≡ Some s

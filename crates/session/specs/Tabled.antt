@@ -1,7 +1,7 @@
 -- A table with the ranks of all axes of a layout, as a session keeps them; weights ask for those of the axes that move alone.
 -- Assumes nothing.
 use Rattle.std.specs.Prelude.{◌≡◌, refl, List, [], ◌∷◌, map, ℕ, zero, suc, ◌≤◌, ◌<◌, ℤ, pos, nat_abs, length, get_or, replicate}
-use Rattle.std.proofs.Common.{sym, ap, ◌∙◌, arith}
+use Rattle.std.proofs.Common.{ap, ◌∙◌, arith}
 use Rattle.strided.specs.Base.{padded, run}
 use Rattle.strided.specs.Layout.{stride_row}
 use Rattle.strided.specs.Ranks.{rank_of, ranks, rank_table}
@@ -10,7 +10,6 @@ use Rattle.laws.specs.Base.Filling.{fill_at, length-rows}
 use Rattle.laws.specs.Base.Rows.{length_strides}
 use Rattle.laws.specs.Order.Ranks.{ranks_places, table_rows}
 use Rattle.auxiliary.specs.Fitting.{Fitting}
-use Rattle.auxiliary.specs.Moving.{MovingTo}
 use Rattle.importance.specs.Tried.{Ranked}
 
 -- a layout within the limits, and a table with the ranks of its axes

@@ -1,8 +1,8 @@
 -- The table of ranks where an operand joins or leaves: an operand's ranks depend on its own strides alone, so those of the operands that stay
 -- are the numbers they were. Assumes nothing.
-use Rattle.std.specs.Prelude.{◌≡◌, refl, cond, ltb, ℤ, length, take, drop, replicate}
+use Rattle.std.specs.Prelude.{◌≡◌, refl, ℤ, length, take, drop}
 use Rattle.std.proofs.Math.Path.{sym, ap, ap₂}
-use Rattle.std.proofs.Common.{◌∙◌, mul-le-mul, length-drop}
+use Rattle.std.proofs.Common.{◌∙◌, length-drop}
 use mathlib.Core.List.{List, [], ◌∷◌, ◌++◌, map, map-append}
 use Prim.Native.Nat.{ℕ, zero, suc, ◌+◌, ◌-◌, ◌*◌, ◌≤◌, ◌<◌}
 use native.Mathlib.Omega.{arith}
@@ -11,9 +11,8 @@ use Rattle.std.proofs.lemmas.List.{take-append-le, drop-append-le}
 use Rattle.strided.specs.Base.{padded, over, run}
 use Rattle.strided.specs.Layout.{stride_row}
 use Rattle.strided.specs.Ranks.{ranks, rank_table}
-use Rattle.laws.specs.Base.Arrays.{length-padded}
 use Rattle.laws.specs.Base.Filling.{padded_is}
-use Rattle.laws.specs.Base.Lists.{run-append, get_d_run, over-map}
+use Rattle.laws.specs.Base.Lists.{run-append, get_d_run}
 use Rattle.laws.specs.Base.Rows.{row_fits, length_over, row-over}
 use Rattle.session.specs.Session.{old_place, strides_without}
 use Rattle.session.specs.Afresh.{row_stays, row_new, row_moves, old-there}

@@ -7,7 +7,6 @@ ghost use Rattle.strided.specs.Memory.{purpose_of};
 ghost use Rattle.strided.specs.Order.{pick};
 ghost use Rattle.strided.specs.Step.{blank, blank_z};
 ghost use Rattle.strided.specs.Refusals.{refused_by, answered};
-ghost use Rattle.strided.specs.declared.Answer.TheVariants.{Served};
 ghost use Rattle.laws.specs.Fuse.Arrays.{pick_rows};
 ghost use Rattle.session.specs.Session.{kind_of, same_nats, same_ints, Right, row21, new_rows};
 ghost use Rattle.session.specs.Same.{Decides};
@@ -19,16 +18,17 @@ use super::kept::{blocks_kept_into, stays_by_into, weights_kept};
 use auxiliary::rank_table_into;
 use fuse::compute_costs;
 use layout::{check_planning, operands_wrong, purpose_of, rank_over, reach_over, strides_wrong};
-use strided::{Answer, MAX_OPERANDS, Refusal};
+use strided::{MAX_OPERANDS, Refusal};
 
 // Whether two numbers are those of a purpose as it is handed out: 0, 1 or 2, and 0 where there is no chosen operand.
 fn purpose_told(purpose: u64, chosen: u64) -> bool
     ensures { result ≡ (eqb (kind_of (purpose_of purpose chosen)) purpose && eqb (lead_of (purpose_of purpose chosen)) chosen) }
 {
     if purpose == 0 {
-        return chosen == 0;
+        chosen == 0
+    } else {
+        purpose <= 2
     }
-    purpose <= 2
 }
 
 // Whether the places behind the counts are 0.
@@ -51,16 +51,6 @@ fn tidy<'a>(
     e & (z & s)
 }
 
-// Whether planning serves what it answers so.
-pub fn served(answer: Answer) -> bool
-    ensures { Decides result (answer ≡ Served) }
-{
-    match answer {
-        Answer::Served => true,
-        Answer::Refused(refusal) => false,
-    }
-}
-
 // Whether a session's layout is one that planning accepts, laid out as a session has it.
 fn layout_right<'a>(
     numbers: Numbers,
@@ -73,10 +63,7 @@ fn layout_right<'a>(
 {
     let rank = numbers.rank;
     let operands = numbers.operands;
-    if rank_over(rank) {
-        return false;
-    }
-    if operands_wrong(operands) {
+    if rank_over(rank) || operands_wrong(operands) {
         return false;
     }
     let told = purpose_told(numbers.purpose, numbers.chosen);
@@ -89,7 +76,7 @@ fn layout_right<'a>(
         purpose_of(numbers.purpose, numbers.chosen),
         numbers.machine,
     );
-    let plain = served(answer);
+    let plain = answer.is_ok();
     told & (neat & plain)
 }
 
@@ -111,11 +98,8 @@ fn row_right<'a>(row: &'a [u8; 64], ranks: &'a [u64]) -> bool
     ensures { result ≡ same_nats ranks.now row.now }
 {
     let mut differing: u64 = 0;
-    let mut i: usize = 0;
-    while i < 64 {
-        let rank = row[i];
-        differing = differing | (ranks[i] ^ rank as u64);
-        i += 1;
+    for i in 0..64 {
+        differing |= ranks[i] ^ u64::from(row[i]);
     }
     differing == 0
 }
@@ -127,12 +111,10 @@ fn ranks_right<'a>(table: &'a [[u8; 64]; 8], operands: usize, ranks: &'a [u64]) 
     ensures { Decides result (ranks.now ≡ ranks_in table.now operands) }
 {
     let mut alike = true;
-    let mut k: usize = 0;
-    while k < operands {
+    for k in 0..operands {
         let start = k * 64;
         let end = start + 64;
-        alike = alike & row_right(&table[k], &ranks[start..end]);
-        k += 1;
+        alike &= row_right(&table[k], &ranks[start..end]);
     }
     let behind = operands * 64;
     let rest = all_zero(&ranks[behind..]);
@@ -167,11 +149,9 @@ fn row_picked<'a>(
     ensures { result ≡ same_ints (padded 64 (pos 0) (pick (pos 0) (drop from strides.now) (take count axes.now))) row.now }
 {
     let mut differing: i64 = 0;
-    let mut i: usize = 0;
-    while i < count {
+    for i in 0..count {
         let axis = axes[i] as usize;
-        differing = differing | (strides[from + axis] ^ row[i]);
-        i += 1;
+        differing |= strides[from + axis] ^ row[i];
     }
     let rest = all_zero_signed(&row[count..]);
     (differing == 0) & rest
@@ -192,12 +172,10 @@ fn strides_right<'a>(
     ensures { result ≡ same_ints (padded 512 (pos 0) (pick_rows strides.now pitch (take count axes.now) operands)) plan_strides.now }
 {
     let mut alike = true;
-    let mut k: usize = 0;
-    while k < operands {
+    for k in 0..operands {
         let start = k * 64;
         let end = start + 64;
-        alike = alike & row_picked(strides, k * pitch, axes, count, &plan_strides[start..end]);
-        k += 1;
+        alike &= row_picked(strides, k * pitch, axes, count, &plan_strides[start..end]);
     }
     let behind = operands * 64;
     let rest = all_zero_signed(&plan_strides[behind..]);
@@ -276,28 +254,23 @@ fn kept_right<'a>(
     ensures { let g = given_in numbers extents.now sizes.now strides.now in
         Decides result (Keeps g numbers weights.now costs.now plan_extents.now blocks.now plan_strides.now) }
 {
-    if weights_right(numbers, extents, strides, table, weights) {
-        if axes_right(
+    weights_right(numbers, extents, strides, table, weights)
+        && (axes_right(
             numbers,
             extents,
             strides,
             weights,
             plan_extents,
             plan_strides,
-        ) {
-            return blocks_right(
-                numbers,
-                extents,
-                sizes,
-                plan_extents,
-                plan_strides,
-                costs,
-                blocks,
-            );
-        }
-        return false;
-    }
-    false
+        ) && blocks_right(
+            numbers,
+            extents,
+            sizes,
+            plan_extents,
+            plan_strides,
+            costs,
+            blocks,
+        ))
 }
 
 // Whether everything else in a session is what its layout gives, where that is right. The table of its ranks is left in `table`, which is lent
@@ -323,8 +296,8 @@ fn parts_right<'a>(
         → TableOf (take (numbers.rank * numbers.operands) strides.now) numbers.rank numbers.operands table.new }
 {
     table_into(numbers, strides, &mut *table);
-    if ranks_right(table, numbers.operands, ranks) {
-        return kept_right(
+    ranks_right(table, numbers.operands, ranks)
+        && kept_right(
             numbers,
             extents,
             sizes,
@@ -335,9 +308,7 @@ fn parts_right<'a>(
             plan_extents,
             blocks,
             plan_strides,
-        );
-    }
-    false
+        )
 }
 
 // Whether a session is one that beginnings and accepted calls lead to. If it is, the table of its ranks is left in `table`, which is lent as
@@ -361,8 +332,8 @@ pub fn holds<'a>(
     ensures table { result ≡ true
         → TableOf (take (numbers.rank * numbers.operands) strides.now) numbers.rank numbers.operands table.new }
 {
-    if layout_right(numbers, extents, sizes, strides) {
-        return parts_right(
+    layout_right(numbers, extents, sizes, strides)
+        && parts_right(
             numbers,
             extents,
             sizes,
@@ -374,30 +345,37 @@ pub fn holds<'a>(
             blocks,
             plan_strides,
             table,
-        );
-    }
-    false
+        )
 }
 
 // Rows 20, 3 and 6 of an operand that is to join a layout of these extents.
-fn check_new<'a>(rank: usize, operands: usize, extents: &'a [u64], joining: &'a [i64]) -> Answer
+fn check_new<'a>(
+    rank: usize,
+    operands: usize,
+    extents: &'a [u64],
+    joining: &'a [i64],
+) -> Result<(), Refusal>
     requires { (rank ≤ 64) × (length extents.now ≡ rank) }
     ensures { result ≡ answered (refused_by (new_rows rank operands extents.now joining.now)) }
 {
     if MAX_OPERANDS <= operands {
-        return Answer::Refused(Refusal::Ninth);
+        return Err(Refusal::Ninth);
     }
     if strides_wrong(rank, 1, joining) {
-        return Answer::Refused(Refusal::StrideCount);
+        return Err(Refusal::StrideCount);
     }
     if reach_over(extents, joining, rank, 1) {
-        return Answer::Refused(Refusal::Reach);
+        return Err(Refusal::Reach);
     }
-    Answer::Served
+    Ok(())
 }
 
 // The same of the layout in a session's arrays.
-pub fn check_joining<'a>(numbers: Numbers, extents: &'a [u64], joining: &'a [i64]) -> Answer
+pub fn check_joining<'a>(
+    numbers: Numbers,
+    extents: &'a [u64],
+    joining: &'a [i64],
+) -> Result<(), Refusal>
     requires { (numbers.rank ≤ 64) × (length extents.now ≡ 64) }
     ensures { result ≡ answered (refused_by (new_rows numbers.rank numbers.operands (take numbers.rank extents.now) joining.now)) }
 {
@@ -406,14 +384,11 @@ pub fn check_joining<'a>(numbers: Numbers, extents: &'a [u64], joining: &'a [i64
 }
 
 // Row 21 of an operand that is to leave.
-pub fn check_leaving(operands: usize, operand: u64) -> Answer
+pub fn check_leaving(operands: usize, operand: u64) -> Result<(), Refusal>
     ensures { result ≡ answered (refused_by (row21 operands operand ∷ [])) }
 {
-    if operands as u64 <= operand {
-        return Answer::Refused(Refusal::Leaving);
+    if operands as u64 <= operand || operands == 1 {
+        return Err(Refusal::Leaving);
     }
-    if operands == 1 {
-        return Answer::Refused(Refusal::Leaving);
-    }
-    Answer::Served
+    Ok(())
 }

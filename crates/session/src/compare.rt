@@ -9,11 +9,10 @@ pub fn same<'a>(a: &'a [u64], b: &'a [u64]) -> bool
     requires { length a.now ≡ length b.now }
     ensures { result ≡ same_nats a.now b.now }
 {
+    // Kept: `==` of slices looks at one place after another, with a branch for each.
     let mut differing: u64 = 0;
-    let mut i: usize = 0;
-    while i < a.len() {
-        differing = differing | (a[i] ^ b[i]);
-        i += 1;
+    for i in 0..a.len() {
+        differing |= a[i] ^ b[i];
     }
     differing == 0
 }
@@ -23,23 +22,20 @@ pub fn all_zero(numbers: &[u64]) -> bool
     ensures { result ≡ blank numbers.now }
 {
     let mut seen: u64 = 0;
-    let mut i: usize = 0;
-    while i < numbers.len() {
-        seen = seen | numbers[i];
-        i += 1;
+    for n in numbers {
+        seen |= *n;
     }
     seen == 0
 }
 
 // The same of signed numbers.
+// Kept: one function over both types needs a trait of their bits with its law, which is no plainer.
 pub fn all_zero_signed(numbers: &[i64]) -> bool
     ensures { result ≡ blank_z numbers.now }
 {
     let mut seen: i64 = 0;
-    let mut i: usize = 0;
-    while i < numbers.len() {
-        seen = seen | numbers[i];
-        i += 1;
+    for n in numbers {
+        seen |= *n;
     }
     seen == 0
 }

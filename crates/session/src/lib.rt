@@ -2,14 +2,13 @@
 // keeps the ranks and weights of the layout's axes, the costs of the plan's axes, and the plan.
 #![tactic(auto)]
 
-ghost use Rattle.std.specs.Prelude.{◌≡◌, ◌*◌, take, replicate};
+ghost use Rattle.std.specs.Prelude.{◌≡◌, ◌*◌, take, replicate, Ok};
 ghost use Rattle.strided.specs.Refusals.{refused_by, answered};
-ghost use Rattle.strided.specs.declared.Answer.TheVariants.{Served};
 ghost use Rattle.session.specs.Session.{join_rows, leave_rows};
 ghost use Rattle.session.specs.Made.{TableOf, session_at};
 
 use check::{check_joining, check_leaving, holds};
-use strided::{Answer, Machine, Plan, Refusal};
+use strided::{Machine, Plan, Refusal};
 
 pub mod check;
 pub mod compare;
@@ -34,14 +33,8 @@ pub struct Session {
     pub plan: Plan,
 }
 
-// What a call on a session answers. On a refusal every number of the session is 0.
-#[derive(Clone, Copy)]
-pub struct Sessioned {
-    pub answer: Answer,
-    pub session: Session,
-}
-
 // The numbers of a session. The rest of it are arrays, which its functions are lent one by one.
+// Kept: in a struct of the lent arrays each has to be copied into a variable before a slice of it is lent, which is no plainer.
 #[derive(Clone, Copy)]
 pub struct Numbers {
     pub purpose: u64,
@@ -51,13 +44,6 @@ pub struct Numbers {
     pub operands: usize,
     pub plan_rank: usize,
     pub plan_operands: usize,
-}
-
-// What a call on a lent session answers, and the session's numbers after it.
-#[derive(Clone, Copy)]
-pub struct Moved {
-    pub answer: Answer,
-    pub numbers: Numbers,
 }
 
 // What joining is refused for: rows 10, 20, 3 and 6. The table of the session's ranks is left in `table`, which is lent as zeros.
@@ -74,15 +60,15 @@ pub fn check_join<'a>(
     plan_strides: &'a [i64; 512],
     joining: &'a [i64],
     table: &mut [[u8; 64]; 8],
-) -> Answer
+) -> Result<(), Refusal>
     requires { table.old ≡ replicate 8 (replicate 64 0) }
     ensures told { let s = session_at numbers extents.now sizes.now strides.now ranks.now
         weights.now costs.now plan_extents.now blocks.now plan_strides.now in
         result ≡ answered (refused_by (join_rows s joining.now)) }
-    ensures table { result ≡ Served
+    ensures table { result ≡ Ok tt
         → TableOf (take (numbers.rank * numbers.operands) strides.now) numbers.rank numbers.operands table.new }
 {
-    if holds(
+    if !holds(
         numbers,
         extents,
         sizes,
@@ -95,9 +81,9 @@ pub fn check_join<'a>(
         plan_strides,
         table,
     ) {
-        return check_joining(numbers, extents, joining);
+        return Err(Refusal::State);
     }
-    Answer::Refused(Refusal::State)
+    check_joining(numbers, extents, joining)
 }
 
 // What leaving is refused for: rows 10 and 21. The table is left as in joining.
@@ -114,15 +100,15 @@ pub fn check_leave<'a>(
     plan_strides: &'a [i64; 512],
     operand: u64,
     table: &mut [[u8; 64]; 8],
-) -> Answer
+) -> Result<(), Refusal>
     requires { table.old ≡ replicate 8 (replicate 64 0) }
     ensures told { let s = session_at numbers extents.now sizes.now strides.now ranks.now
         weights.now costs.now plan_extents.now blocks.now plan_strides.now in
         result ≡ answered (refused_by (leave_rows s operand)) }
-    ensures table { result ≡ Served
+    ensures table { result ≡ Ok tt
         → TableOf (take (numbers.rank * numbers.operands) strides.now) numbers.rank numbers.operands table.new }
 {
-    if holds(
+    if !holds(
         numbers,
         extents,
         sizes,
@@ -135,7 +121,7 @@ pub fn check_leave<'a>(
         plan_strides,
         table,
     ) {
-        return check_leaving(numbers.operands, operand);
+        return Err(Refusal::State);
     }
-    Answer::Refused(Refusal::State)
+    check_leaving(numbers.operands, operand)
 }

@@ -2,95 +2,77 @@
 // to shorten is the one with the greatest score.
 #![tactic(auto)]
 
-ghost use Rattle.std.specs.Prelude.{◌≡◌, ◌+◌, ◌/◌, ◌<◌};
-ghost use Rattle.strided.specs.Machine.{Allowed};
+ghost use Rattle.std.specs.Prelude.{◌≡◌, ◌<◌};
 ghost use Rattle.strided.specs.Region.{region};
 ghost use Rattle.strided.specs.Cut.{score, greatest_score, halved, lessened, shrunk};
-ghost use Rattle.region.specs.Tail.{Within, axes};
+ghost use Rattle.region.specs.Tail.{axes};
 ghost use Rattle.laws.specs.Cut.Steps.{ScoresFit};
 ghost use Rattle.laws.specs.Cut.Picks.{top_of};
 ghost use Rattle.laws.specs.Cut.Jump.{clipped_over};
 ghost use Rattle.laws.specs.Cut.Level.{Least};
-ghost use Rattle.shrink.specs.Picked.{picked};
 
-use layout::sizes::less_one;
-use region::{Tail, memory_region};
-use strided::Machine;
-
-// Which block is to be shortened.
-#[derive(Clone, Copy)]
-pub enum Pick {
-    At(usize),
-    Nothing,
-}
+use region::{AllowedMachine, Tail, memory_region};
 
 // The greatest (block - 1) * cost over the blocks above 1 of the tail whose axis has a cost; the last wins ties. Any other score is 0, and the
 // score to reach is 1 at first.
-fn last_argmax_weighted<'a>(tail: Tail, blocks: &'a [u64; 64], costs: &'a [u64; 64]) -> Pick
-    requires { Within tail × ScoresFit tail.rank costs.now blocks.now }
-    ensures { picked result ≡ greatest_score blocks.now costs.now tail.offset (axes tail) }
+fn last_argmax_weighted<'a>(
+    tail: Tail,
+    blocks: &'a [u64; 64],
+    costs: &'a [u64; 64],
+) -> Option<usize>
+    requires { ScoresFit tail.rank costs.now blocks.now }
+    ensures { result ≡ greatest_score blocks.now costs.now tail.offset (axes tail) }
 {
-    let mut best = Pick::Nothing;
+    let mut best = None;
     let mut top: u64 = 1;
-    let mut i = tail.offset;
-    while i < tail.rank {
-        let s = less_one(blocks[i]) * costs[i];
+    for i in tail.offset..tail.rank {
+        let s = blocks[i].saturating_sub(1) * costs[i];
         if s >= top {
-            best = Pick::At(i);
+            best = Some(i);
             top = s;
         }
-        i += 1;
     }
     best
 }
 
-// Half of a block, rounding up.
-fn half(x: u64) -> u64
-    ensures { result ≡ (x + 1) / 2 }
-{
-    x / 2 + x % 2
-}
-
-// While the region is at least twice the cache, the picked block is halved.
+// While the region is at least twice the cache, the picked block is halved, rounding up.
 fn halve<'a>(
-    machine: Machine,
+    machine: AllowedMachine,
     tail: Tail,
     blocks: &mut [u64; 64],
     bytes: &'a [u32; 512],
     costs: &'a [u64; 64],
 )
-    requires allowed { Allowed machine }
-    requires within { Within tail × ScoresFit tail.rank costs.now blocks.old }
-    ensures { blocks.new ≡ halved machine bytes.now tail.operands costs.now tail.offset (axes tail) blocks.old }
+    requires { ScoresFit tail.rank costs.now blocks.old }
+    ensures { blocks.new ≡ halved machine.numbers bytes.now tail.operands costs.now tail.offset (axes tail) blocks.old }
 {
     loop {
-        if memory_region(machine, tail, blocks, bytes) < 2 * machine.cache {
+        if memory_region(machine, tail, blocks, bytes) < 2 * machine.numbers.cache {
             return;
         }
-        let Pick::At(i) = last_argmax_weighted(tail, blocks, costs) else {
+        let Some(i) = last_argmax_weighted(tail, blocks, costs) else {
             return;
         };
-        blocks[i] = half(blocks[i]);
+        blocks[i] = blocks[i].div_ceil(2);
     }
 }
 
 // While the region is above the cache, the picked block loses 1.
 fn lessen<'a>(
-    machine: Machine,
+    machine: AllowedMachine,
     tail: Tail,
     blocks: &mut [u64; 64],
     bytes: &'a [u32; 512],
     costs: &'a [u64; 64],
 )
-    requires allowed { Allowed machine }
-    requires within { Within tail × ScoresFit tail.rank costs.now blocks.old }
-    ensures { blocks.new ≡ lessened machine bytes.now tail.operands costs.now tail.offset (axes tail) blocks.old }
+    requires { ScoresFit tail.rank costs.now blocks.old }
+    ensures { blocks.new ≡ lessened machine.numbers bytes.now tail.operands costs.now tail.offset (axes tail) blocks.old }
 {
     loop {
-        if memory_region(machine, tail, blocks, bytes) <= machine.cache {
+        if memory_region(machine, tail, blocks, bytes) <= machine.numbers.cache {
             return;
         }
-        let Pick::At(i) = last_argmax_weighted(tail, blocks, costs) else {
+        let Some(i) = last_argmax_weighted(tail, blocks, costs) else {
             return;
         };
         blocks[i] -= 1;
@@ -105,47 +87,44 @@ fn clip_into<'a>(
     level: u64,
     out: &mut [u64; 64],
 )
-    requires { Within tail × ScoresFit tail.rank costs.now blocks.now }
+    requires { ScoresFit tail.rank costs.now blocks.now }
     ensures { out.new ≡ clipped_over level costs.now tail.offset (axes tail) blocks.now out.old }
 {
-    let mut i = tail.offset;
-    while i < tail.rank {
+    for i in tail.offset..tail.rank {
         let x = blocks[i];
         let c = costs[i];
-        if level < less_one(x) * c {
-            out[i] = level / c + 1;
+        out[i] = if level < x.saturating_sub(1) * c {
+            level / c + 1
         } else {
-            out[i] = x;
-        }
-        i += 1;
+            x
+        };
     }
 }
 
 // The greatest score of the tail.
 fn top_score<'a>(tail: Tail, blocks: &'a [u64; 64], costs: &'a [u64; 64]) -> u64
-    requires { Within tail × ScoresFit tail.rank costs.now blocks.now }
+    requires { ScoresFit tail.rank costs.now blocks.now }
     ensures { result ≡ top_of (score blocks.now costs.now)
         (greatest_score blocks.now costs.now tail.offset (axes tail)) }
 {
-    let Pick::At(i) = last_argmax_weighted(tail, blocks, costs) else {
+    let Some(i) = last_argmax_weighted(tail, blocks, costs) else {
         return 0;
     };
-    less_one(blocks[i]) * costs[i]
+    blocks[i].saturating_sub(1) * costs[i]
 }
 
 // The score to jump to: the least at which the region of the clipped blocks is still above the cache. Halving the way to it takes 64 turns at
 // most.
 fn level<'a>(
-    machine: Machine,
+    machine: AllowedMachine,
     tail: Tail,
     blocks: &'a [u64; 64],
     bytes: &'a [u32; 512],
     costs: &'a [u64; 64],
 ) -> u64
-    requires allowed { Allowed machine }
-    requires within { Within tail × ScoresFit tail.rank costs.now blocks.now }
-    requires cache_bound { machine.cache < region machine bytes.now tail.operands blocks.now tail.offset (axes tail) }
-    ensures { Least machine bytes.now tail.operands costs.now tail.offset (axes tail) blocks.now result }
+    requires scores { ScoresFit tail.rank costs.now blocks.now }
+    requires cache_bound { machine.numbers.cache < region machine.numbers bytes.now tail.operands blocks.now tail.offset (axes tail) }
+    ensures { Least machine.numbers bytes.now tail.operands costs.now tail.offset (axes tail) blocks.now result }
 {
     let mut t = *blocks;
     let mut lo: u64 = 0;
@@ -153,7 +132,7 @@ fn level<'a>(
     while lo < hi {
         let mid = lo + (hi - lo) / 2;
         clip_into(tail, blocks, costs, mid, &mut t);
-        if machine.cache < memory_region(machine, tail, &t, bytes) {
+        if machine.numbers.cache < memory_region(machine, tail, &t, bytes) {
             hi = mid;
         } else {
             lo = mid + 1;
@@ -164,17 +143,16 @@ fn level<'a>(
 
 // As `lessen`, with one jump in place of the many single steps before the last few: below the jump's score each axis has at most one more.
 fn lessen_far<'a>(
-    machine: Machine,
+    machine: AllowedMachine,
     tail: Tail,
     blocks: &mut [u64; 64],
     bytes: &'a [u32; 512],
     costs: &'a [u64; 64],
 )
-    requires allowed { Allowed machine }
-    requires within { Within tail × ScoresFit tail.rank costs.now blocks.old }
-    ensures { blocks.new ≡ lessened machine bytes.now tail.operands costs.now tail.offset (axes tail) blocks.old }
+    requires { ScoresFit tail.rank costs.now blocks.old }
+    ensures { blocks.new ≡ lessened machine.numbers bytes.now tail.operands costs.now tail.offset (axes tail) blocks.old }
 {
-    if memory_region(machine, tail, blocks, bytes) <= machine.cache {
+    if memory_region(machine, tail, blocks, bytes) <= machine.numbers.cache {
         return;
     }
     let s = level(machine, tail, blocks, bytes, costs);
@@ -186,15 +164,14 @@ fn lessen_far<'a>(
 
 // The blocks of the tail, halved and then lessened.
 pub fn shrink<'a>(
-    machine: Machine,
+    machine: AllowedMachine,
     tail: Tail,
     blocks: &mut [u64; 64],
     bytes: &'a [u32; 512],
     costs: &'a [u64; 64],
 )
-    requires allowed { Allowed machine }
-    requires within { Within tail × ScoresFit tail.rank costs.now blocks.old }
-    ensures { blocks.new ≡ shrunk machine bytes.now tail.operands costs.now tail.offset (axes tail) blocks.old }
+    requires { ScoresFit tail.rank costs.now blocks.old }
+    ensures { blocks.new ≡ shrunk machine.numbers bytes.now tail.operands costs.now tail.offset (axes tail) blocks.old }
 {
     halve(machine, tail, blocks, bytes, costs);
     lessen_far(machine, tail, blocks, bytes, costs);

@@ -8,11 +8,11 @@ use native.Mathlib.Numerals.{add-one}
 use native.Mathlib.Omega.{arith}
 use lib.Dec.{T, ltb, leb}
 use lib.IntN.{ℤ, pos, negsuc, nat_abs, ◌-ℤ◌}
-use lib.ListN.{length, get_or, drop, drop_of_length-le}
+use lib.ListN.{length, get_or, drop}
 use lib.Seq.{drop-cons}
 use lib.Signed.{non_neg, lt_z}
 use mir.Syntax.{w64}
-use mir.Val.{Fits, SFits, to_z, of_z}
+use mir.Val.{SFits, to_z, of_z}
 use mir.Facts.{to_z-of_z}
 use borrow.Author.Tests.{ltb-true, lt-ltb, le-ltb, leb-true, leb-false}
 use Rattle.laws.specs.Base.Tests.{both_and}
@@ -23,23 +23,6 @@ use Rattle.laws.specs.Refusals.Zeros.{no_zero_of}
 use Rattle.laws.specs.Walk.Row9.{down_reach}
 use Rattle.span.specs.Span.{in_cells, outside, Spans}
 use Rattle.span.specs.Ways.{down_term, Full}
-
--- ---- along one axis; n is the stride's size as the code has it
-
-sign : (s : ℤ) (b : Bool) → lt_z s (pos 0) ≡ b → non_neg s ≡ not b
-sign (pos a) true t = absurd (omega (arith, ltb-true a 0 t))
-sign (pos a) false t = refl
-sign (negsuc a) true t = refl
-sign (negsuc a) false t = absurd (false≢true (sym t))
-
-module _ (e : ℕ) (s : ℤ) (f : SFits w64 s) where
-  pub down_is : (n : ℕ) → n ≡ nat_abs s → lt_z (to_z w64 (of_z w64 s)) (pos 0) ≡ true → (e - 1) * n ≡ down_term e s
-  down_is n is t =
-      ap (λ (m : ℕ). (e - 1) * m) is
-      ∙ sym (ap (λ (b : Bool). cond b 0 ((e - 1) * nat_abs s)) (sign s true (sym (ap (λ (z : ℤ). lt_z z (pos 0)) (to_z-of_z f)) ∙ t)))
-
-  pub none_down : lt_z (to_z w64 (of_z w64 s)) (pos 0) ≡ false → 0 ≡ down_term e s
-  none_down t = sym (ap (λ (b : Bool). cond b 0 ((e - 1) * nat_abs s)) (sign s false (sym (ap (λ (z : ℤ). lt_z z (pos 0)) (to_z-of_z f)) ∙ t)))
 
 -- ---- the sum over the axes
 
@@ -65,16 +48,8 @@ module _ (es : List ℕ) (ts : List ℤ) (p : Full es ts) where
   left_cons i h = rw (add-one i, drop-cons es i 0 h, drop-cons ts i (pos 0) (stride_there i h))
 
   module _ (sum i t : ℕ) (h : i < length es) (l : Left es ts sum i) (is : t ≡ down_term (get_or es i 0) (get_or ts i (pos 0))) where
-    pub left_turn : Left es ts (sum + t) (i + 1)
-    left_turn = let q = left_cons i h in omega (arith, q, is, l)
-
     pub left_fits : sum + t < 2 ^ 64
     left_fits = let q = left_cons i h in omega (arith, q, is, l, down_fits)
-
-  pub left_end : (sum i : ℕ) → length es ≤ i → Left es ts sum i → sum ≡ reach_down es ts
-  left_end sum i h l =
-      let z : reach_down (drop i es) (drop i ts) ≡ 0 = rw (drop_of_length-le es h) in
-      omega (arith, z, l)
 
 -- ---- the test
 
@@ -135,9 +110,6 @@ module _ (z : ℤ) (f : SFits w64 z) (t : lt_z (to_z w64 (of_z w64 z)) (pos 0) �
   back : (z ≡ to_z w64 (of_z w64 z)) × (T (non_neg (to_z w64 (of_z w64 z))) × (nat_abs (to_z w64 (of_z w64 z)) < 2 ^ 63) × (pos (nat_abs (to_z w64 (of_z w64 z))) ≡ to_z w64 (of_z w64 z)))
   back = (sym (to_z-of_z f), start_of (to_z w64 (of_z w64 z)) t (subst (λ (y : ℤ). SFits w64 y) (sym (to_z-of_z f)) f))
 
-  pub start_cast : T (non_neg (to_z w64 (of_z w64 z))) × Fits w64 (nat_abs (to_z w64 (of_z w64 z)))
-  start_cast = (back.1.0, record { fits = let h = back.1.1 in omega (arith, h) })
-
   module _ (es : List ℕ) (ts : List ℤ) (n : ℕ) (p : Spans es ts) (h : has_zero es ≡ false) (d : ℕ) (is : d ≡ reach_down es ts) where
     at_start : outside es ts (pos (nat_abs (to_z w64 (of_z w64 z)))) n ≡ outside es ts z n
     at_start = ap (λ (y : ℤ). outside es ts y n) (back.1.2 ∙ to_z-of_z f)
@@ -151,9 +123,6 @@ module _ (z : ℤ) (f : SFits w64 z) (t : lt_z (to_z w64 (of_z w64 z)) (pos 0) �
 
       pub down_le : d ≤ r
       down_le = omega (arith, reach_is, is, down_reach es ts)
-
-      pub top_fits : nat_abs (to_z w64 (of_z w64 z)) + (r - d) < 2 ^ 64
-      top_fits = let q = p.near h in let b = back.1.1 in omega (arith, q, reach_is, b)
 
       pub top_test : d ≤ nat_abs (to_z w64 (of_z w64 z)) → leb n (nat_abs (to_z w64 (of_z w64 z)) + (r - d)) ≡ outside es ts z n
       top_test l = rises_above es ts n h (nat_abs (to_z w64 (of_z w64 z))) d r is reach_is l ∙ at_start

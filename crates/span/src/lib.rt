@@ -6,8 +6,8 @@ ghost use Rattle.strided.specs.Layout.{reach_down};
 ghost use Rattle.span.specs.Span.{outside, Spans};
 ghost use Rattle.span.specs.Ways.{down_term, Full};
 
+use layout::has_zero;
 use layout::sizes::reach_of;
-use layout::{has_zero, magnitude};
 
 // The part of an axis's way that lies below the start.
 fn down_along(extent: u64, stride: i64) -> u64
@@ -15,7 +15,7 @@ fn down_along(extent: u64, stride: i64) -> u64
     ensures { result ≡ down_term extent stride }
 {
     if stride < 0 {
-        return (extent - 1) * magnitude(stride);
+        return (extent - 1) * stride.unsigned_abs();
     }
     0
 }
@@ -26,11 +26,8 @@ fn down_of<'a>(extents: &'a [u64], strides: &'a [i64]) -> u64
     ensures { result ≡ reach_down extents.now strides.now }
 {
     let mut sum: u64 = 0;
-    let mut i: usize = 0;
-    while i < extents.len() {
-        let term = down_along(extents[i], strides[i]);
-        sum = sum + term;
-        i += 1;
+    for i in 0..extents.len() {
+        sum += down_along(extents[i], strides[i]);
     }
     sum
 }

@@ -3,7 +3,7 @@
 use mathlib.Core.Path.{◌≡◌, refl, sym, ap, ap₂, ◌∙◌}
 use mathlib.Core.Bool.{Bool, true, false, cond, ◌&&◌, ◌||◌, not}
 use mathlib.Core.List.{List, [], ◌∷◌}
-use mathlib.Core.Option.{none, some}
+use Rattle.std.specs.Prelude.{None, Some}
 use Prim.Native.Nat.{ℕ, zero, suc, ◌+◌, ◌-◌, ◌*◌, ◌<◌}
 use native.Mathlib.Omega.{arith}
 use lib.Dec.{ltb, eqb}
@@ -59,7 +59,7 @@ blank-within (e ∷ es) (x ∷ c) h l b =
     (omega (arith, z, h.0), blank-within es c h.1 (omega arith) p.1)
 
 -- where no row before row 5 applies, nor row 8
-rest_none : (a b c : Bool) (r5 r6 r9 : _) → is_none (cond a (some r5) (cond b (some r6) (cond c (some r9) none))) ≡ ((not a && not b) && not c)
+rest_none : (a b c : Bool) (r5 r6 r9 : _) → is_none (cond a (Some r5) (cond b (Some r6) (cond c (Some r9) None))) ≡ ((not a && not b) && not c)
 rest_none true b c r5 r6 r9 = refl
 rest_none false true c r5 r6 r9 = refl
 rest_none false false true r5 r6 r9 = refl

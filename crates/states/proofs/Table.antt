@@ -3,7 +3,7 @@
 use mathlib.Core.Path.{◌≡◌, refl, sym, ap, ap₂, ◌∙◌, subst}
 use mathlib.Core.Bool.{Bool, false}
 use mathlib.Core.List.{List, [], ◌∷◌}
-use mathlib.Core.Option.{Option, none, some}
+use Rattle.std.specs.Prelude.{Option, None, Ok, Err, Result}
 use Prim.Native.Nat.{ℕ, zero, suc, ◌*◌, ◌≤◌}
 use native.Mathlib.Omega.{arith}
 use lib.Dec.{ltb, eqb}
@@ -12,18 +12,16 @@ use lib.ListN.{length, get_or, take, drop, replicate, length-take}
 use borrow.Author.Tests.{ltb-false, eqb-true, not-false}
 use Rattle.strided.specs.Base.{some_of, padded}
 use Rattle.strided.specs.Layout.{NoZero, Within, has_zero, dot, reach, max_i}
-use Rattle.strided.specs.Refusals.{row6, row9, leaves, some_operand}
-use Rattle.strided.specs.Begin.{plan_extents, plan_row, begin_rows, begin_refused, begun_or, begun_at, no_walk}
+use Rattle.strided.specs.Refusals.{row6, row9, leaves, some_operand, served_unless}
+use Rattle.strided.specs.Begin.{plan_extents, plan_row, begin_rows, begin_refused, begun_at, started}
 use Rattle.strided.specs.declared.Refusal.{Refusal}
 use Rattle.strided.specs.declared.Plan.{Plan}
 use Rattle.strided.specs.declared.Walk.{Walk}
-use Rattle.strided.specs.declared.Begun.{Begun}
-use Rattle.strided.specs.declared.Answer.TheVariants.{Served, Refused}
 use Rattle.strided.specs.Refusals.{answered}
 use Rattle.strided.specs.Memory.{plan_of}
 use Rattle.laws.specs.Base.Refusals.{NoneApplies, none_applies}
 use Rattle.laws.specs.Base.Tests.{or_none}
-use Rattle.laws.specs.Refusals.Rows.{Past, served_none}
+use Rattle.laws.specs.Refusals.Rows.{Past, served_none, refused_too}
 use Rattle.laws.specs.Refusals.Operands.{some_of_at}
 use Rattle.laws.specs.Refusals.Rows.{unless-passes}
 use Rattle.laws.specs.Refusals.Zeros.{no_zero_of}
@@ -113,25 +111,17 @@ pub same_answer : (p : Plan) (zs : List ℤ) → begin_refused (plan_of p.rank p
 unfolding begin_refused
 same_answer p zs = refl
 
-refused_some : (o : Option Refusal) (r : Refusal) → answered o ≡ Refused r → o ≡ some r
-refused_some none r h = let z : ◌≡◌ {A = ℕ} 0 1 = cc h in absurd (omega arith)
-refused_some (some q) r h = cc
-
 module _ (p : Plan) (zs : List ℤ) where
   abbrev asked : Option Refusal
   asked = begin_refused (plan_of p.rank p.operands p.extents [] p.strides) zs
 
-  -- the walk, where nothing refuses
-  abbrev walk : Walk
-  walk = record { ended = has_zero (plan_extents p); counters = replicate 64 0; offsets = padded 8 (pos 0) zs }
-
-  pub begun-refused : {r : Refusal} → Refused r ≡ answered asked → {g : Begun} → g ≡ begun_or (some r) no_walk → g ≡ begun_at p zs
+  pub begun-refused : {r : Refusal} → Err r ≡ answered asked → Err r ≡ begun_at p zs
   unfolding begun_at
-  begun-refused {r} h e = e ∙ sym (ap (λ (o : Option Refusal). begun_or o walk) (sym (same_answer p zs) ∙ refused_some asked r (sym h)))
+  begun-refused h = refused_too asked (started p zs) h ∙ ap (λ (o : Option Refusal). served_unless o (started p zs)) (same_answer p zs)
 
-  module _ (h : Served ≡ answered asked) where
-    not-refused : begin_refused p zs ≡ none
-    not-refused = sym (same_answer p zs) ∙ served_none asked (sym h)
+  module _ (h : Ok tt ≡ answered asked) where
+    not-refused : begin_refused p zs ≡ None
+    not-refused = sym (same_answer p zs) ∙ served_none asked tt (sym h)
 
     rows : NoneApplies (begin_rows p zs)
     unfolding begin_refused
@@ -149,8 +139,8 @@ module _ (p : Plan) (zs : List ℤ) where
         omega (arith, few, same)
 
     pub begun_served : {ended : Bool} {offsets : List ℤ} → ended ≡ has_zero (plan_extents p) → offsets ≡ padded 8 (pos 0) zs
-        → ◌≡◌ {A = Begun} (record { answer = Served; walk = record { ended = ended; counters = replicate 64 0; offsets = offsets } }) (begun_at p zs)
+        → ◌≡◌ {A = Result Walk Refusal} (Ok (record { ended = ended; counters = replicate 64 0; offsets = offsets })) (begun_at p zs)
     unfolding begun_at
     begun_served a b =
-        (λ i. record { answer = Served; walk = record { ended = a i; counters = replicate 64 0; offsets = b i } })
-        ∙ sym (ap (λ (o : Option Refusal). begun_or o walk) not-refused)
+        (λ i. Ok (record { ended = a i; counters = replicate 64 0; offsets = b i }))
+        ∙ sym (ap (λ (o : Option Refusal). served_unless o (started p zs)) not-refused)

@@ -2,15 +2,14 @@
 #![tactic(auto)]
 
 ghost use Rattle.std.specs.Prelude.{◌≡◌, ◌≤◌, [], length, take, pos};
-ghost use Rattle.std.proofs.Math.Option.{some};
 ghost use Rattle.strided.specs.Base.{padded};
 ghost use Rattle.strided.specs.Layout.{has_zero};
 ghost use Rattle.strided.specs.Refusals.{answered};
-ghost use Rattle.strided.specs.Begin.{begin_refused, begun_at, begun_or, no_walk};
+ghost use Rattle.strided.specs.Begin.{begin_refused, begun_at};
 ghost use Rattle.strided.specs.Memory.{plan_of};
 
 use layout::{has_zero, operands_wrong, rank_over, reach_over, total_over};
-use strided::{Answer, Begun, Plan, Refusal, Walk};
+use strided::{Plan, Refusal, Walk};
 
 mod near;
 pub mod starts;
@@ -19,34 +18,13 @@ pub mod state;
 use starts::starts_leave;
 pub use state::reaches;
 
-// "A refusal carries its number and nothing else."
-fn refused(refusal: Refusal) -> Begun
-    ensures { result ≡ begun_or (some refusal) no_walk }
-{
-    let counters = [0u64; 64];
-    let offsets = [0i64; 8];
-    Begun {
-        answer: Answer::Refused(refusal),
-        walk: Walk {
-            ended: false,
-            counters: counters,
-            offsets: offsets,
-        },
-    }
-}
-
 // The starts as a walk's offsets.
 fn offsets_of(starts: &[i64]) -> [i64; 8]
     requires { length starts.now ≤ 8 }
     ensures { result ≡ padded 8 (pos 0) starts.now }
 {
     let mut offsets = [0i64; 8];
-    let mut k: usize = 0;
-    while k < starts.len() {
-        let start = starts[k];
-        offsets[k] = start;
-        k += 1;
-    }
+    offsets[..starts.len()].copy_from_slice(starts);
     offsets
 }
 
@@ -57,30 +35,30 @@ fn check_begin<'a, 'b>(
     e: &'a [u64],
     s: &'a [i64],
     starts: &'b [i64],
-) -> Answer
+) -> Result<(), Refusal>
     requires { (length e.now ≡ 64) × (length s.now ≡ 512) }
     ensures { result ≡ answered (begin_refused (plan_of rank operands e.now [] s.now) starts.now) }
 {
     if rank_over(rank) {
-        return Answer::Refused(Refusal::Rank);
+        return Err(Refusal::Rank);
     }
     if operands_wrong(operands) {
-        return Answer::Refused(Refusal::Operands);
+        return Err(Refusal::Operands);
     }
     if total_over(&e[..rank]) {
-        return Answer::Refused(Refusal::Total);
+        return Err(Refusal::Total);
     }
     if reach_over(&e[..rank], s, 64, operands) {
-        return Answer::Refused(Refusal::Reach);
+        return Err(Refusal::Reach);
     }
     if starts.len() != operands {
-        return Answer::Refused(Refusal::StartCount);
+        return Err(Refusal::StartCount);
     }
     let counters = [0u64; 64];
     if starts_leave(&e[..rank], s, &counters[..rank], starts, operands) {
-        return Answer::Refused(Refusal::Offsets);
+        return Err(Refusal::Offsets);
     }
-    Answer::Served
+    Ok(())
 }
 
 // "Zero extent: no block."
@@ -100,37 +78,24 @@ pub fn begin_on<'a, 'b>(
     b: &'a [u64; 64],
     s: &'a [i64; 512],
     starts: &'b [i64],
-) -> Begun
+) -> Result<Walk, Refusal>
     ensures { result ≡ begun_at (plan_of rank operands e.now b.now s.now) starts.now }
 {
-    let answer = check_begin(rank, operands, e, s, starts);
-    match answer {
-        Answer::Refused(refusal) => refused(refusal),
-        Answer::Served => {
-            let ended = no_block(rank, e);
-            let counters = [0u64; 64];
-            let offsets = offsets_of(starts);
-            Begun {
-                answer: Answer::Served,
-                walk: Walk {
-                    ended: ended,
-                    counters: counters,
-                    offsets: offsets,
-                },
-            }
-        }
-    }
+    check_begin(rank, operands, e, s, starts)?;
+    Ok(Walk {
+        ended: no_block(rank, e),
+        counters: [0u64; 64],
+        offsets: offsets_of(starts),
+    })
 }
 
 // A WALK BEGINS on a plan, whatever its values.
-pub fn begin(plan: Plan, starts: &[i64]) -> Begun
+pub fn begin(plan: Plan, starts: &[i64]) -> Result<Walk, Refusal>
     ensures { result ≡ begun_at plan starts.now }
 {
-    let rank = plan.rank;
-    let operands = plan.operands;
     begin_on(
-        rank,
-        operands,
+        plan.rank,
+        plan.operands,
         &plan.extents,
         &plan.blocks,
         &plan.strides,

@@ -5,18 +5,14 @@ ghost use Rattle.std.specs.Prelude.{◌≡◌, true, ◌+◌, ◌*◌, ◌^◌, 
 ghost use Rattle.layout.specs.Laid.{row_at, Laid};
 ghost use Rattle.states.specs.Near.{all_below, sizes_below, RowsNear, Near};
 
-use layout::magnitude;
-
 // Whether each number is below 2^bits.
 fn all_below(numbers: &[u64], bits: u64) -> bool
     requires { bits < 64 }
     ensures { result ≡ all_below (2 ^ bits) numbers.now }
 {
     let mut above: u64 = 0;
-    let mut i: usize = 0;
-    while i < numbers.len() {
-        above = above | (numbers[i] >> bits);
-        i += 1;
+    for n in numbers {
+        above |= *n >> bits;
     }
     above == 0
 }
@@ -27,11 +23,8 @@ fn sizes_below(numbers: &[i64], bits: u64) -> bool
     ensures { result ≡ sizes_below (2 ^ bits) numbers.now }
 {
     let mut above: u64 = 0;
-    let mut i: usize = 0;
-    while i < numbers.len() {
-        let size = magnitude(numbers[i]);
-        above = above | (size >> bits);
-        i += 1;
+    for n in numbers {
+        above |= n.unsigned_abs() >> bits;
     }
     above == 0
 }
@@ -51,12 +44,8 @@ fn rows_near<'a>(extents: &'a [u64], strides: &'a [i64], operands: usize) -> boo
     requires { Laid extents.now strides.now 64 operands }
     ensures { result ≡ true → RowsNear extents.now strides.now operands }
 {
-    let mut k: usize = 0;
-    while k < operands {
-        let near = row_near(extents, strides, k);
-        if near {
-            k += 1;
-        } else {
+    for k in 0..operands {
+        if !row_near(extents, strides, k) {
             return false;
         }
     }
@@ -73,10 +62,5 @@ pub fn all_near<'a>(
     requires { Laid extents.now strides.now 64 operands }
     ensures { result ≡ true → Near extents.now strides.now offsets.now operands }
 {
-    if sizes_below(offsets, 62) {
-        if all_below(extents, 16) {
-            return rows_near(extents, strides, operands);
-        }
-    }
-    false
+    sizes_below(offsets, 62) && all_below(extents, 16) && rows_near(extents, strides, operands)
 }

@@ -6,7 +6,7 @@ ghost use Rattle.strided.specs.Layout.{in_i64, reach};
 ghost use Rattle.laws.specs.Walk.Row9.{below_term, below_of};
 ghost use Rattle.states.specs.Starts.{leaves_at, some_leave, Placed, StandsAt, Standing, Begins};
 
-use layout::{has_zero, magnitude};
+use layout::has_zero;
 
 // Whether `below` places lie between the least i64 and `o`.
 fn room_below(o: i64, below: u64) -> bool
@@ -31,7 +31,7 @@ fn below_along(extent: u64, at: u64, stride: i64) -> u64
     requires { (at < extent) × ((extent - 1) * nat_abs stride < 2 ^ 63) }
     ensures { result ≡ below_term extent at stride }
 {
-    let size = magnitude(stride);
+    let size = stride.unsigned_abs();
     if stride < 0 {
         return (extent - 1 - at) * size;
     }
@@ -43,7 +43,7 @@ fn way_along(extent: u64, stride: i64) -> u64
     requires { (0 < extent) × ((extent - 1) * nat_abs stride < 2 ^ 63) }
     ensures { result ≡ (extent - 1) * nat_abs stride }
 {
-    (extent - 1) * magnitude(stride)
+    (extent - 1) * stride.unsigned_abs()
 }
 
 // How far apart an operand's offsets lie, and how far below the one at the counters.
@@ -61,13 +61,11 @@ fn span_of<'a, 'b>(extents: &'a [u64], strides: &'a [i64], counters: &'b [u64]) 
 {
     let mut reach: u64 = 0;
     let mut below: u64 = 0;
-    let mut i: usize = 0;
-    while i < extents.len() {
+    for i in 0..extents.len() {
         let way = way_along(extents[i], strides[i]);
         let term = below_along(extents[i], counters[i], strides[i]);
-        reach = reach + way;
-        below = below + term;
-        i += 1;
+        reach += way;
+        below += term;
     }
     Span { reach, below }
 }
@@ -106,12 +104,10 @@ fn some_leave<'a, 'b, 'c>(
     requires { Standing extents.now strides.now counters.now offsets.now operands }
     ensures { result ≡ some_of (leaves_at extents.now strides.now counters.now offsets.now) 0 operands }
 {
-    let mut k: usize = 0;
-    while k < operands {
+    for k in 0..operands {
         if leaves_at(extents, strides, counters, offsets, k) {
             return true;
         }
-        k += 1;
     }
     false
 }

@@ -17,10 +17,8 @@ fn all_zero(numbers: &[u64]) -> bool
     ensures { result ≡ blank numbers.now }
 {
     let mut seen: u64 = 0;
-    let mut i: usize = 0;
-    while i < numbers.len() {
-        seen = seen | numbers[i];
-        i += 1;
+    for n in numbers {
+        seen |= *n;
     }
     seen == 0
 }
@@ -28,13 +26,11 @@ fn all_zero(numbers: &[u64]) -> bool
 fn all_zero_signed(numbers: &[i64]) -> bool
     ensures { result ≡ blank_z numbers.now }
 {
-    let mut bits: i64 = 0;
-    let mut i: usize = 0;
-    while i < numbers.len() {
-        bits = bits | numbers[i];
-        i += 1;
+    let mut seen: u64 = 0;
+    for n in numbers {
+        seen |= n.unsigned_abs();
     }
-    bits == 0
+    seen == 0
 }
 
 // Whether each counter is below its extent.
@@ -42,12 +38,10 @@ fn all_within<'a>(extents: &'a [u64], counters: &'a [u64]) -> bool
     requires { length counters.now ≡ length extents.now }
     ensures { result ≡ within extents.now counters.now }
 {
-    let mut i: usize = 0;
-    while i < extents.len() {
+    for i in 0..extents.len() {
         if extents[i] <= counters[i] {
             return false;
         }
-        i += 1;
     }
     true
 }
@@ -57,7 +51,7 @@ fn on_start<'a>(extents: &'a [u64], blocks: &'a [u64], counters: &'a [u64]) -> b
     requires { (length blocks.now ≡ length extents.now) × (length counters.now ≡ length extents.now) }
     ensures { result ≡ on_startb (cut_axes extents.now blocks.now) counters.now }
 {
-    if extents.len() == 0 {
+    if extents.is_empty() {
         return true;
     }
     let size = advance::effective(extents[0], blocks[0]);
@@ -72,10 +66,7 @@ fn stands<'a>(ended: bool, extents: &'a [u64], blocks: &'a [u64], counters: &'a 
     if ended {
         return all_zero(counters);
     }
-    if all_within(extents, counters) {
-        return on_start(extents, blocks, counters);
-    }
-    false
+    all_within(extents, counters) && on_start(extents, blocks, counters)
 }
 
 // Whether rows 5 and 6 let a walk begin.
@@ -94,10 +85,7 @@ fn tidy<'a>(rank: usize, operands: usize, c: &'a [u64], o: &'a [i64]) -> bool
     requires { (rank ≤ length c.now) × (operands ≤ length o.now) }
     ensures { result ≡ (blank (drop rank c.now) && blank_z (drop operands o.now)) }
 {
-    if all_zero(&c[rank..]) {
-        return all_zero_signed(&o[operands..]);
-    }
-    false
+    all_zero(&c[rank..]) && all_zero_signed(&o[operands..])
 }
 
 // Whether a begun walk of the plan reaches the state. Where nothing is large rows 6 and 9 are not asked.

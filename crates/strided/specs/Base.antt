@@ -1,7 +1,6 @@
 -- Lists, sums, choices, and arrays with a count: the words that all definitions use. Nothing here is about layouts.
 -- Assumes nothing.
-use Rattle.std.specs.Prelude.{Bool, true, false, cond, List, [], ◌∷◌, ◌++◌, ℕ, zero, suc, ◌+◌, ◌*◌, min}
-use Rattle.std.proofs.Math.Option.{Option, none, some}
+use Rattle.std.specs.Prelude.{Bool, true, false, cond, List, [], ◌∷◌, ◌++◌, ℕ, zero, suc, ◌+◌, ◌*◌, min, Option, None, Some}
 
 module _ {A : Type 0} where
   -- "array places behind the counts are 0": n places that hold xs and then z
@@ -12,8 +11,8 @@ module _ {A : Type 0} where
 
   -- element n, if the list has so many
   abbrev pub nth : List A → ℕ → Option A
-  nth [] n = none
-  nth (x ∷ xs) zero = some x
+  nth [] n = None
+  nth (x ∷ xs) zero = Some x
   nth (x ∷ xs) (suc n) = nth xs n
 
   -- a at the front, unless the test holds
@@ -22,13 +21,13 @@ module _ {A : Type 0} where
 
   -- the first of two that is there
   abbrev pub first : Option A → Option A → Option A
-  first none b = b
-  first (some a) b = some a
+  first None b = b
+  first (Some a) b = Some a
 
   -- one step of a machine that may have ended, and n steps of it
   abbrev pub and_then : (A → Option A) → Option A → Option A
-  and_then f none = none
-  and_then f (some x) = f x
+  and_then f None = None
+  and_then f (Some x) = f x
 
   abbrev pub after : (A → Option A) → ℕ → Option A → Option A
   after f zero m = m
@@ -36,8 +35,8 @@ module _ {A : Type 0} where
 
   -- a rule done again and again until it answers none. The count is never met where it is used (crate laws)
   abbrev pub onward : (A → A) → A → Option A → A
-  onward go a none = a
-  onward go a (some b) = go b
+  onward go a None = a
+  onward go a (Some b) = go b
 
   unfoldable pub until : (A → Option A) → ℕ → A → A
   until next zero a = a
@@ -51,8 +50,8 @@ module _ {A B : Type 0} where
 
   -- h of what is there, else z
   abbrev pub or_else : Option B → (A → B) → Option A → Option B
-  or_else z h none = z
-  or_else z h (some x) = some (h x)
+  or_else z h None = z
+  or_else z h (Some x) = Some (h x)
 
 -- s, s + 1, .., n numbers in all
 abbrev pub run : ℕ → ℕ → List ℕ

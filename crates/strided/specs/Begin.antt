@@ -1,15 +1,12 @@
 -- A walk's beginning: "a walk's beginning checks rows 1, 2, 5, 6, 8, 9".
 -- Assumes nothing.
-use Rattle.std.specs.Prelude.{false, List, [], ◌∷◌, map, ℕ, ◌*◌, take, drop, replicate, ℤ, pos}
-use Rattle.std.proofs.Math.Option.{Option, none, some}
+use Rattle.std.specs.Prelude.{false, List, [], ◌∷◌, map, ℕ, ◌*◌, take, drop, replicate, ℤ, pos, Option, Result}
 use Rattle.strided.specs.Base.{padded, run}
 use Rattle.strided.specs.Layout.{has_zero}
-use Rattle.strided.specs.Refusals.{Row, refused_by, row1, row2, row5, row6, row8, row9}
+use Rattle.strided.specs.Refusals.{Row, refused_by, row1, row2, row5, row6, row8, row9, served_unless}
 use Rattle.strided.specs.declared.Refusal.{Refusal}
-use Rattle.strided.specs.declared.Answer.TheVariants.{Served, Refused}
 use Rattle.strided.specs.declared.Plan.{Plan}
 use Rattle.strided.specs.declared.Walk.{Walk}
-use Rattle.strided.specs.declared.Begun.{Begun}
 
 -- a plan's arrays as lists; what lies behind the counts is not looked at
 abbrev pub plan_extents : Plan → List ℕ
@@ -37,11 +34,10 @@ begin_refused p starts = refused_by (begin_rows p starts)
 abbrev pub no_walk : Walk
 no_walk = record { ended = false; counters = replicate 64 0; offsets = replicate 8 (pos 0) }
 
-abbrev pub begun_or : Option Refusal → Walk → Begun
-begun_or none w = record { answer = Served; walk = w }
-begun_or (some r) w = record { answer = Refused r; walk = no_walk }
+-- a walk at its beginning: all counters 0, each operand at its start. "Zero extent: no block.": then it has ended at once
+abbrev pub started : Plan → List ℤ → Walk
+started p starts = record { ended = has_zero (plan_extents p); counters = replicate 64 0; offsets = padded 8 (pos 0) starts }
 
--- A WALK BEGINS: all counters 0, each operand at its start. "Zero extent: no block.": then it has ended at once
-unfoldable pub begun_at : Plan → List ℤ → Begun
-begun_at p starts =
-    begun_or (begin_refused p starts) (record { ended = has_zero (plan_extents p); counters = replicate 64 0; offsets = padded 8 (pos 0) starts })
+-- A WALK BEGINS
+unfoldable pub begun_at : Plan → List ℤ → Result Walk Refusal
+begun_at p starts = served_unless (begin_refused p starts) (started p starts)

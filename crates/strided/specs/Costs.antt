@@ -1,7 +1,6 @@
 -- "The plan": the cost of an axis, by which cutting weighs the blocks. It goes by element strides, regions go by byte strides.
 -- Assumes nothing.
-use Rattle.std.specs.Prelude.{Bool, cond, List, map, ℕ, ◌+◌, ◌*◌, ◌-◌, ◌^◌, min, eqb, ℤ, pos, nat_abs, get_or}
-use Rattle.std.proofs.Math.Option.{Option, none, some}
+use Rattle.std.specs.Prelude.{Bool, cond, List, map, ℕ, ◌+◌, ◌*◌, ◌-◌, ◌^◌, min, eqb, ℤ, pos, nat_abs, get_or, Option, None, Some}
 use Rattle.strided.specs.Base.{run, least, every}
 
 -- "An axis on which every stride is 0 ..": nobody moves along it; size gives each operand's stride size there. An operand of size 0 moves like
@@ -14,12 +13,12 @@ still size operands = every (λ k. eqb (size k) 0) 0 operands
 unfoldable pub cost_of : (ℕ → ℕ) → ℕ → Option ℕ
 cost_of size operands =
     let m : ℕ = least size 0 operands in
-    cond (still size operands) none (some (cond (eqb m 0) 1 (min (2 * m) (2 ^ 63 - 1))))
+    cond (still size operands) None (Some (cond (eqb m 0) 1 (min (2 * m) (2 ^ 63 - 1))))
 
 -- a cost in an array: 0 says none, and no other cost is 0 (crate laws)
 abbrev pub cost_number : Option ℕ → ℕ
-cost_number none = 0
-cost_number (some c) = c
+cost_number None = 0
+cost_number (Some c) = c
 
 -- the costs of the plan's axes, as arrays hold them; operand k's stride on axis i stands at k * 64 + i
 unfoldable pub costs : List ℤ → ℕ → ℕ → List ℕ

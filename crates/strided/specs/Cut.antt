@@ -1,8 +1,7 @@
 -- "The plan": cutting. "Cutting looks at a tail of axes, at first all": the n axes from o on. The record's cache stands for document 01's
 -- 32,768.
 -- Assumes nothing.
-use Rattle.std.specs.Prelude.{Bool, cond, ◌&&◌, List, [], ◌∷◌, ℕ, zero, suc, ◌+◌, ◌-◌, ◌*◌, ◌/◌, get_or, set, take, drop, replicate, ltb, leb, eqb, ℤ}
-use Rattle.std.proofs.Math.Option.{Option, none, some}
+use Rattle.std.specs.Prelude.{Bool, cond, ◌&&◌, List, [], ◌∷◌, ℕ, zero, suc, ◌+◌, ◌-◌, ◌*◌, ◌/◌, get_or, set, take, drop, replicate, ltb, leb, eqb, ℤ, Option, None, Some}
 use Rattle.strided.specs.Base.{sum, least, every, until}
 use Rattle.strided.specs.Ranks.{ranks}
 use Rattle.strided.specs.Region.{byte_at, region}
@@ -13,32 +12,32 @@ abbrev pub score : List ℕ → List ℕ → ℕ → ℕ
 score b costs i = (get_or b i 0 - 1) * get_or costs i 0
 
 abbrev pub later : (ℕ → ℕ) → ℕ → Option ℕ → Option ℕ
-later s i none = some i
-later s i (some j) = cond (ltb (s i) (s j)) (some j) (some i)
+later s i None = Some i
+later s i (Some j) = cond (ltb (s i) (s j)) (Some j) (Some i)
 
 -- "and cutting shall choose among the others": an axis is weighed if it has a cost and its block is above 1
 abbrev pub weighed : List ℕ → List ℕ → ℕ → Bool
 weighed b costs i = ltb 1 (get_or b i 0) && ltb 0 (get_or costs i 0)
 
 unfoldable pub greatest_score : List ℕ → List ℕ → ℕ → ℕ → Option ℕ
-greatest_score b costs o zero = none
+greatest_score b costs o zero = None
 greatest_score b costs o (suc n) =
     let before = greatest_score b costs o n in
     cond (weighed b costs (o + n)) (later (score b costs) (o + n) before) before
 
 abbrev pub shorten : (ℕ → ℕ) → List ℕ → Option ℕ → Option (List ℕ)
-shorten f b none = none
-shorten f b (some i) = some (set b i (f (get_or b i 0)))
+shorten f b None = None
+shorten f b (Some i) = Some (set b i (f (get_or b i 0)))
 
 -- "halving stops below twice the cache": "while the region is at least 65,536, halve (rounding up) the block with the greatest score"
 unfoldable pub halving : Machine → List ℕ → ℕ → List ℕ → ℕ → ℕ → List ℕ → Option (List ℕ)
 halving mc bytes operands costs o n b =
-    cond (leb (2 * mc.cache) (region mc bytes operands b o n)) (shorten (λ x. (x + 1) / 2) b (greatest_score b costs o n)) none
+    cond (leb (2 * mc.cache) (region mc bytes operands b o n)) (shorten (λ x. (x + 1) / 2) b (greatest_score b costs o n)) None
 
 -- "then while it is above 32,768 take 1 off the one with the greatest score, sought anew each time"
 unfoldable pub lessening : Machine → List ℕ → ℕ → List ℕ → ℕ → ℕ → List ℕ → Option (List ℕ)
 lessening mc bytes operands costs o n b =
-    cond (ltb mc.cache (region mc bytes operands b o n)) (shorten (λ x. x - 1) b (greatest_score b costs o n)) none
+    cond (ltb mc.cache (region mc bytes operands b o n)) (shorten (λ x. x - 1) b (greatest_score b costs o n)) None
 
 -- there are never more such steps than the blocks sum to (crate laws)
 abbrev pub cells : ℕ → ℕ → List ℕ → ℕ

@@ -1,18 +1,16 @@
 -- DEMAND 3, stated: the walk meets every index of the original layout exactly once. It is one claim on a whole list of steps, over the
 -- definitions that the contracts of planning, beginning, step and index finding cite. Crate laws proves it for every list of steps.
 -- Assumes nothing.
-use Rattle.std.specs.Prelude.{◌≡◌, ◌↔◌, ◌⊎◌, List, [], ◌∷◌, ℕ, zero, suc, ◌<◌, length, get_or, take, ℤ, pos, ◌+ℤ◌, ◌-ℤ◌, ◌*ℤ◌}
-use Rattle.std.proofs.Math.Option.{some}
+use Rattle.std.specs.Prelude.{◌≡◌, ◌↔◌, ◌⊎◌, List, [], ◌∷◌, ℕ, zero, suc, ◌<◌, length, get_or, take, ℤ, pos, ◌+ℤ◌, ◌-ℤ◌, ◌*ℤ◌, Some, Ok}
 use Rattle.strided.specs.Base.{padded, nth}
 use Rattle.strided.specs.Layout.{NoZero, Within, dot, stride_row}
-use Rattle.strided.specs.Index.{index_in_plan, told_original}
+use Rattle.strided.specs.Index.{index_in_plan, told_original, told}
 use Rattle.strided.specs.Walk.{block, blocks_of, cell_at, run_strides}
 use Rattle.strided.specs.Plan.{planned}
 use Rattle.strided.specs.Begin.{plan_rows, begun_at}
 use Rattle.strided.specs.Step.{plan_cut_axes, stepped}
 use Rattle.strided.specs.declared.Machine.{Machine}
 use Rattle.strided.specs.declared.Purpose.{Purpose}
-use Rattle.strided.specs.declared.Answer.TheVariants.{Served}
 use Rattle.strided.specs.declared.Outcome.TheVariants.{Block, Ended}
 use Rattle.strided.specs.declared.Plan.{Plan}
 use Rattle.strided.specs.declared.Walk.{Walk}
@@ -35,7 +33,7 @@ Hands s = s.answer ≡ Block
 module _ (es sizes : List ℕ) (ss : List ℤ) (u : Purpose) (p : Plan) (steps : List Stepped) where
   -- "A place is a step that hands out a block, with a k below that block's length": step m of the list is s
   pub record Place (m k : ℕ) (s : Stepped) : Type 0 where
-    pub there : nth steps m ≡ some s
+    pub there : nth steps m ≡ Some s
     pub hands : Hands s
     pub below : k < s.length
 
@@ -52,13 +50,13 @@ module _ (es sizes : List ℕ) (ss : List ℤ) (u : Purpose) (p : Plan) (steps :
 
   pub record Demand3 (starts : List ℤ) : Type 0 where
     -- "no step is refused"
-    pub taken : (m : ℕ) (s : Stepped) → nth steps m ≡ some s → Hands s ⊎ (s.answer ≡ Ended)
+    pub taken : (m : ℕ) (s : Stepped) → nth steps m ≡ Some s → Hands s ⊎ (s.answer ≡ Ended)
     -- "a step answers "ended" exactly when every index of the original layout was met before it"
-    pub ends : (m : ℕ) (s : Stepped) → nth steps m ≡ some s
+    pub ends : (m : ℕ) (s : Stepped) → nth steps m ≡ Some s
         → (s.answer ≡ Ended) ↔ ((x : List ℕ) → Within es x → (i : ℕ) × (k : ℕ) × (i < m) × Meets i k x)
     -- "every other step hands out that plan's next block in document 01's order, of length 1 or more"
-    pub order : (m : ℕ) (s : Stepped) → nth steps m ≡ some s → Hands s
-        → (c : List ℕ) × (nth (blocks_of (plan_cut_axes p)) m ≡ some (block c s.length)) × (s.counters ≡ padded 64 0 c)
+    pub order : (m : ℕ) (s : Stepped) → nth steps m ≡ Some s → Hands s
+        → (c : List ℕ) × (nth (blocks_of (plan_cut_axes p)) m ≡ Some (block c s.length)) × (s.counters ≡ padded 64 0 c)
         × (s.strides ≡ padded 8 (pos 0) (run_strides (plan_cut_axes p) (plan_rows p))) × (0 < s.length)
     -- "Each place meets one such index"
     pub meets : (m k : ℕ) (s : Stepped) → Place m k s → (x : List ℕ) × Meets m k x × ((y : List ℕ) → Meets m k y → y ≡ x)
@@ -66,19 +64,17 @@ module _ (es sizes : List ℕ) (ss : List ℤ) (u : Purpose) (p : Plan) (steps :
     pub once : (m k i j : ℕ) (x : List ℕ) → Meets m k x → Meets i j x → (m ≡ i) × (k ≡ j)
     -- "At each place the index told is the one met"
     pub tells : (m k : ℕ) (x : List ℕ) (q : Meets m k x)
-        → told_original es sizes ss u (cell_of k q.by) ≡ record { answer = Served; count = length es; index = padded 64 0 x }
+        → told_original es sizes ss u (cell_of k q.by) ≡ Ok (told x)
     -- "and each operand's offset less its start is the sum of index times original stride"; "its offsets are the block's plus k times the strides"
     pub offsets : (m k : ℕ) (x : List ℕ) (q : Meets m k x) (j : ℕ) → j < length sizes
         → get_or q.by.offsets j (pos 0) +ℤ pos k *ℤ get_or q.by.strides j (pos 0) -ℤ get_or starts j (pos 0) ≡ dot x (stride_row ss (length es) j)
     -- "In the state that "ended" returns every offset is its start again."
-    pub back : (m : ℕ) (s : Stepped) → nth steps m ≡ some s → s.answer ≡ Ended → s.walk.offsets ≡ padded 8 (pos 0) starts
+    pub back : (m : ℕ) (s : Stepped) → nth steps m ≡ Some s → s.answer ≡ Ended → s.walk.offsets ≡ padded 8 (pos 0) starts
 
 -- THE STATEMENT: for every machine record and every layout without a zero extent that planning does not refuse, either purpose, its plan with
 -- each block size left or replaced by any number, every list of starts that the beginning does not refuse, and every number of steps
 abbrev pub Statement : Type 0
 Statement =
-    (mc : Machine) (es sizes : List ℕ) (ss : List ℤ) (u : Purpose) → NoZero es → (planned mc es sizes ss u).answer ≡ Served
-    → (bs : List ℕ) (starts : List ℤ) → (begun_at (replaced (planned mc es sizes ss u).plan bs) starts).answer ≡ Served
-    → (n : ℕ)
-    → Demand3 es sizes ss u (replaced (planned mc es sizes ss u).plan bs)
-    (steps_from (replaced (planned mc es sizes ss u).plan bs) n (begun_at (replaced (planned mc es sizes ss u).plan bs) starts).walk) starts
+    (mc : Machine) (es sizes : List ℕ) (ss : List ℤ) (u : Purpose) → NoZero es → (p : Plan) → planned mc es sizes ss u ≡ Ok p
+    → (bs : List ℕ) (starts : List ℤ) (w : Walk) → begun_at (replaced p bs) starts ≡ Ok w
+    → (n : ℕ) → Demand3 es sizes ss u (replaced p bs) (steps_from (replaced p bs) n w) starts

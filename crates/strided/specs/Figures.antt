@@ -1,21 +1,16 @@
 -- "Figures to check": the marked ones, and some that were found with the Rust where no marked one tells a fault apart, in one table with one
 -- theorem for all rows, by computation on the definitions.
 -- Assumes nothing.
-use Rattle.std.specs.Prelude.{◌≡◌, refl, Bool, true, false, ◌&&◌, List, [], ◌∷◌, ◌++◌, map, ℕ, zero, suc, ◌*◌, ◌^◌, eqb, ℤ, pos, negsuc, length, get_or, take, replicate}
+use Rattle.std.specs.Prelude.{◌≡◌, refl, Bool, true, false, ◌&&◌, List, [], ◌∷◌, ◌++◌, map, ℕ, zero, suc, ◌*◌, ◌^◌, eqb, ℤ, pos, negsuc, length, get_or, take, replicate, Ok, Err, Result}
 use Rattle.std.specs.Int.Count.{count_leading_zeros}
 use Rattle.strided.specs.declared.Machine.{Machine}
 use Rattle.strided.specs.declared.Purpose.{Purpose}
 use Rattle.strided.specs.declared.Purpose.TheVariants.{Pointwise, PointwiseInto, Fold}
-use Rattle.strided.specs.declared.Answer.{Answer}
-use Rattle.strided.specs.declared.Answer.TheVariants.{Served, Refused}
 use Rattle.strided.specs.declared.Plan.{Plan}
 use Rattle.strided.specs.declared.Walk.{Walk}
-use Rattle.strided.specs.declared.Planned.{Planned}
-use Rattle.strided.specs.declared.Begun.{Begun}
 use Rattle.strided.specs.declared.Told.{Told}
 use Rattle.strided.specs.declared.Mark.{Mark}
 use Rattle.strided.specs.declared.Mark.TheVariants.{No, Yes, Undecided}
-use Rattle.strided.specs.declared.Marked.{Marked}
 use Rattle.strided.specs.declared.Outcome.{Outcome}
 use Rattle.strided.specs.declared.Outcome.TheVariants.{Block, Ended, Rejected}
 use Rattle.strided.specs.declared.Stepped.{Stepped}
@@ -32,13 +27,14 @@ use Rattle.strided.specs.Costs.{still, cost_of, costs}
 use Rattle.strided.specs.Cut.{greatest_score, halving, lessening, halved, lessened, shrunk, least_rank, least_byte, keeps_first, ones, cutting}
 use Rattle.strided.specs.Decline.{first_cut, insert_rising, rising, apart, width_of, passes, declined}
 use Rattle.strided.specs.Fit.{reuse, counts, load_of, load, enters_of, enters, shortens, most_of, fit_from, fitted}
-use Rattle.strided.specs.Plan.{grows, cut_blocks, plan_from, planned}
+use Rattle.strided.specs.Plan.{grows, cut_blocks, plan_from, planned, the_plan}
 use Rattle.strided.specs.Begin.{begin_refused, begun_at}
 use Rattle.strided.specs.Step.{stepped}
 use Rattle.strided.specs.Bulk.{SteppedMany, stepped_many}
 use Rattle.strided.specs.Mark.{some_index, shared, insert_up, upwards, exceeds, rises, mark_of, mark_refused, marked, mark_number}
 use Rattle.strided.specs.Digits.{digits_of}
 use Rattle.strided.specs.Text.{OperandLine, Parsed, written, printed_plan, printed, text_refused, listed, printed_by}
+use Rattle.strided.specs.declared.Refusal.{Refusal}
 
 -- ---- the rows
 
@@ -196,7 +192,7 @@ figures =
     ∷ calls_are (plan_of (5 ∷ []) (2 ∷ []) (whole (3 ∷ []))) (pos 10 ∷ []) (4 ∷ []) (3 ∷ []) (2 ∷ 2 ∷ 1 ∷ 9 ∷ []) (whole (10 ∷ 16 ∷ 22 ∷ 9 ∷ []))
     ∷ calls_are (plan_of (3 ∷ 3 ∷ []) (2 ∷ 2 ∷ []) (whole (1 ∷ 10 ∷ []))) (pos 0 ∷ []) (4 ∷ 3 ∷ 1 ∷ []) (4 ∷ 2 ∷ 0 ∷ [])
     (2 ∷ 2 ∷ 1 ∷ 1 ∷ 2 ∷ 1 ∷ 9 ∷ 9 ∷ []) (whole (0 ∷ 10 ∷ 2 ∷ 12 ∷ 20 ∷ 22 ∷ 9 ∷ 9 ∷ []))
-    ∷ calls_are (planned fixed_four (2 ∷ 3 ∷ []) (8 ∷ 8 ∷ []) (whole (1 ∷ 2 ∷ 3 ∷ 1 ∷ [])) Pointwise).plan (whole (0 ∷ 0 ∷ [])) (2 ∷ 2 ∷ []) (2 ∷ 1 ∷ [])
+    ∷ calls_are (the_plan fixed_four (2 ∷ 3 ∷ []) (8 ∷ 8 ∷ []) (whole (1 ∷ 2 ∷ 3 ∷ 1 ∷ [])) Pointwise) (whole (0 ∷ 0 ∷ [])) (2 ∷ 2 ∷ []) (2 ∷ 1 ∷ [])
     (2 ∷ 2 ∷ 2 ∷ 9 ∷ []) (whole (0 ∷ 0 ∷ 2 ∷ 1 ∷ 4 ∷ 2 ∷ 9 ∷ 9 ∷ []))
     -- 43 to 45: row 8 with other records: each of the four is read; in a cache that holds it all nothing is cut
     ∷ plan_on (machine_of 32 4096 4096 6) (64 ∷ 64 ∷ []) (8 ∷ 8 ∷ []) (whole (1 ∷ 64 ∷ 512 ∷ 1 ∷ [])) (PointwiseInto 0) (64 ∷ 64 ∷ []) (6 ∷ 16 ∷ []) (whole (1 ∷ 64 ∷ []))
@@ -295,10 +291,10 @@ same_z [] (y ∷ ys) = false
 same_z (x ∷ xs) [] = false
 same_z (x ∷ xs) (y ∷ ys) = eq_z x y && same_z xs ys
 
--- the number of a refusal, 0 where there is none
-abbrev pub number_of : Answer → ℕ
-number_of Served = 0
-number_of (Refused r) = number r
+-- whether something is refused with this number
+abbrev pub refuses : {A : Type 0} → Result A Refusal → ℕ → Bool
+refuses (Ok value) n = false
+refuses (Err r) n = eqb (number r) n
 
 -- the blocks of a walk up to its end; a number above 0 is where a step was refused
 pub record Seen : Type 0 where
@@ -329,41 +325,52 @@ called (n ∷ ns) p w =
     record { counts = a.several.count ∷ later.counts; lengths = a.lengths ++ later.lengths; offsets = a.offsets ++ later.offsets }
 
 -- what planning answers: this plan, or this number
-abbrev pub plan_right : Planned → ℕ → List ℕ → List ℕ → List ℤ → Bool
-plan_right a operands fs bs ts =
-    eqb (number_of a.answer) 0 && (eqb a.plan.rank (length fs) && (eqb a.plan.operands operands
-    && (same a.plan.extents (padded 64 0 fs) && (same a.plan.blocks (padded 64 0 bs) && same_z (take 64 a.plan.strides) (padded 64 (pos 0) ts)))))
+abbrev pub plan_right : Result Plan Refusal → ℕ → List ℕ → List ℕ → List ℤ → Bool
+plan_right (Err r) operands fs bs ts = false
+plan_right (Ok p) operands fs bs ts =
+    eqb p.rank (length fs) && (eqb p.operands operands
+    && (same p.extents (padded 64 0 fs) && (same p.blocks (padded 64 0 bs) && same_z (take 64 p.strides) (padded 64 (pos 0) ts))))
 
-abbrev pub refused_right : Planned → ℕ → Bool
-refused_right a n = eqb (number_of a.answer) n
+-- what a layout's sizes and its plan load, by these blocks
+abbrev pub load_right : List ℕ → Result Plan Refusal → List ℕ → ℕ → Bool
+load_right sizes (Err r) bs n = false
+load_right sizes (Ok p) bs n = eqb (load fixed_four (byte_table sizes p.strides) sizes p.rank bs) n
+
+-- what index finding tells: this index
+abbrev pub told_right : Result Told Refusal → List ℕ → Bool
+told_right (Err r) x = false
+told_right (Ok t) x = eqb t.count (length x) && same t.index (padded 64 0 x)
+
+-- what a walk gives that begins so
+abbrev pub walk_right : Plan → Result Walk Refusal → List ℤ → List ℕ → Bool
+walk_right p (Err r) zs ns = false
+walk_right p (Ok w) zs ns = let s : Seen = seen 100 p w in same_z s.offsets zs && (same s.lengths ns && eqb s.fault 0)
+
+abbrev pub calls_right : Plan → Result Walk Refusal → List ℕ → List ℕ → List ℕ → List ℤ → Bool
+calls_right p (Err r) rooms counts ns zs = false
+calls_right p (Ok w) rooms counts ns zs =
+    let c : Calls = called rooms p w in same c.counts counts && (same c.lengths ns && same_z c.offsets zs)
+
+-- what the mark is
+abbrev pub mark_right : Result Mark Refusal → Mark → Bool
+mark_right (Err r) m = false
+mark_right (Ok n) m = eqb (mark_number n) (mark_number m)
 
 -- a row is right
 unfoldable pub right : Figure → Bool
 right (ranks_are ss rs) = same (ranks ss) rs
 right (weights_are es operands ss ws) = same (weights es operands ss 0) ws
 right (region_is es ss size r) = eqb (region fixed_four (byte_table (size ∷ []) ss) 1 es 0 (length es)) r
-right (plan_is es sizes ss u fs bs ts) = let a : Planned = planned fixed_four es sizes ss u in plan_right a (length sizes) fs bs ts
-right (refused_is es sizes ss u n) = let a : Planned = planned fixed_four es sizes ss u in refused_right a n
-right (plan_on mc es sizes ss u fs bs ts) = let a : Planned = planned mc es sizes ss u in plan_right a (length sizes) fs bs ts
-right (refused_on mc es sizes ss u n) = let a : Planned = planned mc es sizes ss u in refused_right a n
-right (load_is es sizes ss u bs n) =
-    let p : Plan = (planned fixed_four es sizes ss u).plan in
-    eqb (load fixed_four (byte_table sizes p.strides) sizes p.rank bs) n
-right (index_is es sizes ss u cs x) =
-    let a : Told = told_original es sizes ss u cs in
-    let b : Told = told_plan es sizes ss u x in
-    eqb (number_of a.answer) 0 && (eqb a.count (length x) && (same a.index (padded 64 0 x)
-    && (eqb (number_of b.answer) 0 && (eqb b.count (length cs) && same b.index (padded 64 0 cs)))))
-right (walk_is es bs ts z zs ns) =
-    let a : Begun = begun_at (plan_of es bs ts) (z ∷ []) in
-    let s : Seen = seen 100 (plan_of es bs ts) a.walk in
-    eqb (number_of a.answer) 0 && (same_z s.offsets zs && (same s.lengths ns && eqb s.fault 0))
-right (calls_are p starts rooms counts ns zs) =
-    let a : Begun = begun_at p starts in
-    let c : Calls = called rooms p a.walk in
-    eqb (number_of a.answer) 0 && (same c.counts counts && (same c.lengths ns && same_z c.offsets zs))
-right (mark_is es ts m) = let a : Marked = marked es ts in eqb (number_of a.answer) 0 && eqb (mark_number a.mark) (mark_number m)
-right (mark_refuses es ts n) = let a : Marked = marked es ts in eqb (number_of a.answer) n && eqb (mark_number a.mark) 0
+right (plan_is es sizes ss u fs bs ts) = plan_right (planned fixed_four es sizes ss u) (length sizes) fs bs ts
+right (refused_is es sizes ss u n) = refuses (planned fixed_four es sizes ss u) n
+right (plan_on mc es sizes ss u fs bs ts) = plan_right (planned mc es sizes ss u) (length sizes) fs bs ts
+right (refused_on mc es sizes ss u n) = refuses (planned mc es sizes ss u) n
+right (load_is es sizes ss u bs n) = load_right sizes (planned fixed_four es sizes ss u) bs n
+right (index_is es sizes ss u cs x) = told_right (told_original es sizes ss u cs) x && told_right (told_plan es sizes ss u x) cs
+right (walk_is es bs ts z zs ns) = walk_right (plan_of es bs ts) (begun_at (plan_of es bs ts) (z ∷ [])) zs ns
+right (calls_are p starts rooms counts ns zs) = calls_right p (begun_at p starts) rooms counts ns zs
+right (mark_is es ts m) = mark_right (marked es ts) m
+right (mark_refuses es ts n) = refuses (marked es ts) n
 right (text_is p room t out) = same (written p) t && same (printed_by (listed p (replicate room 0))) out
 
 -- the numbers of the rows that are not right, from row n on

@@ -2,7 +2,7 @@
 -- plan of a copy, P into c, beside that of the sum by the same operand, F by c, whose blocks are "the model's": those before fitting. Crate
 -- laws proves both for every machine record. Axis 0 is the innermost.
 -- Assumes nothing.
-use Rattle.std.specs.Prelude.{◌≡◌, ◌⊎◌, true, false, List, ◌∷◌, ◌++◌, ℕ, suc, ◌+◌, ◌*◌, ◌≤◌, ◌<◌, ℤ, pos, nat_abs, length, get_or, set, take, drop}
+use Rattle.std.specs.Prelude.{◌≡◌, ◌⊎◌, true, false, List, ◌∷◌, ◌++◌, ℕ, suc, ◌+◌, ◌*◌, ◌≤◌, ◌<◌, ℤ, pos, nat_abs, length, get_or, set, take, drop, Ok, Err, Result}
 use Rattle.strided.specs.Base.{every}
 use Rattle.strided.specs.Layout.{total}
 use Rattle.strided.specs.Region.{byte_table, region}
@@ -14,7 +14,7 @@ use Rattle.strided.specs.Plan.{grows, planned}
 use Rattle.strided.specs.declared.Machine.{Machine}
 use Rattle.strided.specs.declared.Purpose.TheVariants.{PointwiseInto, Fold}
 use Rattle.strided.specs.declared.Plan.{Plan}
-use Rattle.strided.specs.declared.Planned.{Planned}
+use Rattle.strided.specs.declared.Refusal.{Refusal}
 
 -- ---- the four sentences, of the blocks of a model and those fitted
 
@@ -106,25 +106,31 @@ pub record SameAxes (p f : Plan) : Type 0 where
   pub extents : p.extents ≡ f.extents
   pub strides : p.strides ≡ f.strides
 
--- what planning answers for the copy, and for the sum: its blocks are "the model's"
-pub record GoodPlans (mc : Machine) (es sizes : List ℕ) (c : ℕ) (copy model : Planned) : Type 0 where
-  pub answer : copy.answer ≡ model.answer
-  pub axes : SameAxes copy.plan model.plan
+-- the plan of the copy, and that of the sum: its blocks are "the model's"
+pub record GoodPlans (mc : Machine) (es sizes : List ℕ) (c : ℕ) (copy model : Plan) : Type 0 where
+  pub axes : SameAxes copy model
   -- "After fitting, the load is at most the live lines, or .."
-  pub fit : Runs mc es sizes model.plan
-      → copy.plan.blocks ≡ fitted mc (bytes_of sizes model.plan) sizes model.plan.rank (chosen_of c model.plan) model.plan.blocks
-  pub achieved : Runs mc es sizes model.plan
-      → Achieved mc (bytes_of sizes model.plan) sizes model.plan.rank (chosen_of c model.plan) copy.plan.blocks
+  pub fit : Runs mc es sizes model
+      → copy.blocks ≡ fitted mc (bytes_of sizes model) sizes model.rank (chosen_of c model) model.blocks
+  pub achieved : Runs mc es sizes model
+      → Achieved mc (bytes_of sizes model) sizes model.rank (chosen_of c model) copy.blocks
   -- "If fitting shortened an axis, .."
-  pub tight : Tight mc (bytes_of sizes model.plan) sizes model.plan.rank (chosen_of c model.plan) model.plan.blocks copy.plan.blocks
+  pub tight : Tight mc (bytes_of sizes model) sizes model.rank (chosen_of c model) model.blocks copy.blocks
   -- "No block ever grows, and blocks on axes .. stay equal to the model's."
-  pub shrinks : AtMost copy.plan.blocks model.plan.blocks
-  pub kept : Kept mc (bytes_of sizes model.plan) sizes model.plan.rank (chosen_of c model.plan) model.plan.blocks copy.plan.blocks
-  -- where nothing is fitted the two answers are one
-  pub same : (Runs mc es sizes model.plan → ⊥) → copy ≡ model
+  pub shrinks : AtMost copy.blocks model.blocks
+  pub kept : Kept mc (bytes_of sizes model) sizes model.rank (chosen_of c model) model.blocks copy.blocks
+  -- where nothing is fitted the two plans are one
+  pub same : (Runs mc es sizes model → ⊥) → copy ≡ model
+
+-- what planning answers for the copy, and for the sum: both are refused, for the same, or neither is
+abbrev pub GoodAnswers : Machine → List ℕ → List ℕ → ℕ → Result Plan Refusal → Result Plan Refusal → Type 0
+GoodAnswers mc es sizes c (Ok copy) (Ok model) = GoodPlans mc es sizes c copy model
+GoodAnswers mc es sizes c (Err r) (Err s) = r ≡ s
+GoodAnswers mc es sizes c (Ok copy) (Err s) = ⊥
+GoodAnswers mc es sizes c (Err r) (Ok model) = ⊥
 
 -- THE STATEMENT: for every machine record and every layout, refused or not, and every chosen operand
 abbrev pub Statement : Type 0
 Statement =
     (mc : Machine) (es sizes : List ℕ) (ss : List ℤ) (c : ℕ)
-    → GoodPlans mc es sizes c (planned mc es sizes ss (PointwiseInto c)) (planned mc es sizes ss (Fold c))
+    → GoodAnswers mc es sizes c (planned mc es sizes ss (PointwiseInto c)) (planned mc es sizes ss (Fold c))

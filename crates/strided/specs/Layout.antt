@@ -1,8 +1,7 @@
 -- "A layout is: extents (64-bit unsigned, one per axis), 1 to 8 operands, each with an element size in bytes (64-bit unsigned, zero
 -- allowed) and one signed 64-bit stride per axis, in elements." And what is said of layouts everywhere: total, reach, index times stride.
 -- Assumes nothing.
-use Rattle.std.specs.Prelude.{Bool, true, false, cond, ◌&&◌, ◌||◌, List, [], ◌∷◌, ℕ, zero, suc, ◌+◌, ◌-◌, ◌*◌, ◌^◌, ◌<◌, ltb, eqb, ℤ, pos, nat_abs, ◌+ℤ◌, ◌*ℤ◌, length, get_or, take, drop}
-use Rattle.std.proofs.Math.Option.{Option, none, some}
+use Rattle.std.specs.Prelude.{Bool, true, false, cond, ◌&&◌, ◌||◌, List, [], ◌∷◌, ℕ, zero, suc, ◌+◌, ◌-◌, ◌*◌, ◌^◌, ◌<◌, ltb, eqb, ℤ, pos, nat_abs, ◌+ℤ◌, ◌*ℤ◌, length, get_or, take, drop, Option, None, Some}
 use Rattle.std.specs.Int.Signed.{mag, non_neg}
 use Rattle.strided.specs.declared.Purpose.{Purpose}
 use Rattle.strided.specs.declared.Purpose.TheVariants.{Pointwise, PointwiseInto, Fold}
@@ -43,14 +42,14 @@ row k (a ∷ xs) = get_or a.strides k (pos 0) ∷ row k xs
 
 -- "P (pointwise, with a chosen destination operand or none) or F (fold, with a chosen ordering operand)"
 abbrev pub chosen : Purpose → Option ℕ
-chosen Pointwise = none
-chosen (PointwiseInto k) = some k
-chosen (Fold k) = some k
+chosen Pointwise = None
+chosen (PointwiseInto k) = Some k
+chosen (Fold k) = Some k
 
 -- "The chosen operand, or operand 0 if none, is the lead."
 abbrev pub lead_of : Option ℕ → ℕ
-lead_of none = 0
-lead_of (some k) = k
+lead_of None = 0
+lead_of (Some k) = k
 
 abbrev pub lead : Purpose → ℕ
 lead u = lead_of (chosen u)

@@ -2,17 +2,14 @@
 -- cells, and beyond them as far as zero strides and stride sizes tell. "Added too is the repeat mark of an operand, from the extents and
 -- its strides": document 01 coins the term.
 -- Assumes nothing.
-use Rattle.std.specs.Prelude.{◌≡◌, Bool, true, false, cond, ◌&&◌, not, List, [], ◌∷◌, ℕ, ◌+◌, ◌-◌, ◌*◌, ltb, leb, eqb, length, get_or, ℤ, pos, nat_abs}
-use Rattle.std.proofs.Math.Option.{Option, none, some}
+use Rattle.std.specs.Prelude.{◌≡◌, Bool, true, false, cond, ◌&&◌, not, List, [], ◌∷◌, ℕ, ◌+◌, ◌-◌, ◌*◌, ltb, leb, eqb, length, get_or, ℤ, pos, nat_abs, Option, Result}
 use Rattle.strided.specs.Base.{some_of, unless}
 use Rattle.strided.specs.Layout.{total, has_zero, Within, dot}
-use Rattle.strided.specs.Refusals.{Row, refused_by, row1, row3, row5, row6}
+use Rattle.strided.specs.Refusals.{Row, refused_by, row1, row3, row5, row6, served_unless}
 use Rattle.strided.specs.Fuse.{eq_z}
 use Rattle.strided.specs.declared.Refusal.{Refusal}
-use Rattle.strided.specs.declared.Answer.TheVariants.{Served, Refused}
 use Rattle.strided.specs.declared.Mark.{Mark}
 use Rattle.strided.specs.declared.Mark.TheVariants.{No, Yes, Undecided}
-use Rattle.strided.specs.declared.Marked.{Marked}
 
 -- ---- the exact test
 
@@ -105,14 +102,9 @@ mark_rows es ts = row1 (length es) ∷ row3 (length es) 1 ts ∷ row5 es ∷ row
 unfoldable pub mark_refused : List ℕ → List ℤ → Option Refusal
 mark_refused es ts = refused_by (mark_rows es ts)
 
--- "A refusal carries its number and nothing else."
-abbrev pub marked_or : Option Refusal → Mark → Marked
-marked_or none m = record { answer = Served; mark = m }
-marked_or (some r) m = record { answer = Refused r; mark = No }
-
--- THE REPEAT MARK
-unfoldable pub marked : List ℕ → List ℤ → Marked
-marked es ts = marked_or (mark_refused es ts) (mark_of es ts)
+-- THE REPEAT MARK. "A refusal carries its number and nothing else."
+unfoldable pub marked : List ℕ → List ℤ → Result Mark Refusal
+marked es ts = served_unless (mark_refused es ts) (mark_of es ts)
 
 -- the mark as a number: 0 for no, 1 for yes, 2 for undecided
 abbrev pub mark_number : Mark → ℕ

@@ -2,23 +2,20 @@
 -- and what lent memory holds afterwards. 0 or more is answered where the call is served; where it is refused, the refusal's number negated,
 -- and then every lent byte is as it was: "A refusal carries its number and nothing else." Document 01 leaves the rest of this form free.
 -- Assumes nothing.
-use Rattle.std.specs.Prelude.{◌≡◌, Bool, cond, not, List, [], ◌∷◌, ℕ, eqb, ℤ, pos, get_or}
+use Rattle.std.specs.Prelude.{◌≡◌, Bool, cond, not, List, [], ◌∷◌, ℕ, eqb, ℤ, pos, get_or, Ok, Err, Result}
 use Rattle.strided.specs.Refusals.{negated}
 use Rattle.strided.specs.Bulk.{SteppedMany}
 use Rattle.strided.specs.Mark.{mark_number}
 use Rattle.strided.specs.declared.Purpose.{Purpose}
 use Rattle.strided.specs.declared.Purpose.TheVariants.{Pointwise, PointwiseInto, Fold}
-use Rattle.strided.specs.declared.Answer.{Answer}
-use Rattle.strided.specs.declared.Answer.TheVariants.{Served, Refused}
 use Rattle.strided.specs.declared.Outcome.{Outcome}
 use Rattle.strided.specs.declared.Outcome.TheVariants.{Block, Ended, Rejected}
 use Rattle.strided.specs.declared.Plan.{Plan}
-use Rattle.strided.specs.declared.Planned.{Planned}
 use Rattle.strided.specs.declared.Told.{Told}
 use Rattle.strided.specs.declared.Walk.{Walk}
-use Rattle.strided.specs.declared.Begun.{Begun}
 use Rattle.strided.specs.declared.Stepped.{Stepped}
-use Rattle.strided.specs.declared.Marked.{Marked}
+use Rattle.strided.specs.declared.Mark.{Mark}
+use Rattle.strided.specs.declared.Refusal.{Refusal}
 
 -- ---- what numbers and arrays tell
 
@@ -113,34 +110,39 @@ many_memory m = record { walk = walk_memory m.several.walk; lengths = m.lengths;
 
 -- ---- an answer and its lent memory
 
--- `served` where the call is served
-abbrev pub code_or : Answer → ℤ → ℤ
-code_or Served served = served
-code_or (Refused r) served = negated r
+-- the number of what is handed out, or the refusal's negated
+abbrev pub code_of : {A : Type 0} → (A → ℤ) → Result A Refusal → ℤ
+code_of code (Ok value) = code value
+code_of code (Err r) = negated r
 
--- memory that held `old`: the value handed out, or what it held
-abbrev pub kept : {A : Type 0} → Answer → A → A → A
-kept Served value old = value
-kept (Refused r) value old = old
+-- memory that held `old`: the value handed out, as it lies there, or what it held
+abbrev pub kept : {A M : Type 0} → (A → M) → Result A Refusal → M → M
+kept laid (Ok value) old = laid value
+kept laid (Err r) old = old
+
+-- whether something is handed out, without what it is
+abbrev pub whether : {A : Type 0} → Result A Refusal → Result (Unit {0}) Refusal
+whether (Ok value) = Ok tt
+whether (Err r) = Err r
 
 -- the function answers r, and lent memory that held `old` holds `new`
-pub record Handed {A : Type 0} (answer : Answer) (value old new : A) (r : ℤ) : Type 0 where
-  pub code : r ≡ code_or answer (pos 0)
-  pub memory : new ≡ kept answer value old
+pub record Handed {A M : Type 0} (laid : A → M) (answer : Result A Refusal) (old new : M) (r : ℤ) : Type 0 where
+  pub code : r ≡ code_of (λ value. pos 0) answer
+  pub memory : new ≡ kept laid answer old
 
 -- of a plan, of an index, of a walk's beginning
-abbrev pub Plans : Planned → PlanMemory → PlanMemory → ℤ → Type 0
-Plans p old new r = Handed p.answer (plan_memory p.plan) old new r
+abbrev pub Plans : Result Plan Refusal → PlanMemory → PlanMemory → ℤ → Type 0
+Plans p old new r = Handed plan_memory p old new r
 
-abbrev pub Tells : Told → IndexMemory → IndexMemory → ℤ → Type 0
-Tells t old new r = Handed t.answer (index_memory t) old new r
+abbrev pub Tells : Result Told Refusal → IndexMemory → IndexMemory → ℤ → Type 0
+Tells t old new r = Handed index_memory t old new r
 
-abbrev pub Begins : Begun → WalkMemory → WalkMemory → ℤ → Type 0
-Begins b old new r = Handed b.answer (walk_memory b.walk) old new r
+abbrev pub Begins : Result Walk Refusal → WalkMemory → WalkMemory → ℤ → Type 0
+Begins b old new r = Handed walk_memory b old new r
 
 -- the repeat mark is 0 for no, 1 for yes, 2 for undecided
-abbrev pub mark_code : Marked → ℤ
-mark_code m = code_or m.answer (pos (mark_number m.mark))
+abbrev pub mark_code : Result Mark Refusal → ℤ
+mark_code m = code_of (λ mark. pos (mark_number mark)) m
 
 -- ---- a step, and many
 

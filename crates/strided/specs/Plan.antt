@@ -1,10 +1,9 @@
 -- "The plan": the whole plan of a layout for a purpose, and what planning answers.
 -- Assumes nothing.
-use Rattle.std.specs.Prelude.{Bool, cond, ◌&&◌, ◌||◌, List, ℕ, suc, ◌+◌, ◌-◌, ◌*◌, length, get_or, replicate, ltb, leb, eqb, ℤ, pos, nat_abs}
-use Rattle.std.proofs.Math.Option.{Option, none, some}
+use Rattle.std.specs.Prelude.{Bool, cond, ◌&&◌, ◌||◌, List, ℕ, suc, ◌+◌, ◌-◌, ◌*◌, length, get_or, ltb, leb, eqb, ℤ, pos, nat_abs, Result}
 use Rattle.strided.specs.Base.{padded, over, run, every}
 use Rattle.strided.specs.Layout.{Axis, extents, row, total}
-use Rattle.strided.specs.Refusals.{planning_refused}
+use Rattle.strided.specs.Refusals.{planning_refused, served_unless}
 use Rattle.strided.specs.Fuse.{plan_axes}
 use Rattle.strided.specs.Region.{byte_table, region}
 use Rattle.strided.specs.Costs.{costs}
@@ -15,9 +14,7 @@ use Rattle.strided.specs.declared.Machine.{Machine}
 use Rattle.strided.specs.declared.Purpose.{Purpose}
 use Rattle.strided.specs.declared.Purpose.TheVariants.{Pointwise, PointwiseInto, Fold}
 use Rattle.strided.specs.declared.Refusal.{Refusal}
-use Rattle.strided.specs.declared.Answer.TheVariants.{Served, Refused}
 use Rattle.strided.specs.declared.Plan.{Plan}
-use Rattle.strided.specs.declared.Planned.{Planned}
 
 -- the plan's strides: operand k's from place k * 64 on
 abbrev pub stride_table : List Axis → ℕ → List ℤ
@@ -50,9 +47,6 @@ cut_blocks mc sizes es strides rank u =
     -- "No cut if rank is 0, the region is at most 32,768, or every operand .."
     cond (eqb rank 0 || (leb (region mc bytes operands es 0 rank) mc.cache || every (grows sizes strides rank) 0 operands)) es tiled
 
-abbrev pub no_plan : Plan
-no_plan = record { rank = 0; operands = 0; extents = replicate 64 0; blocks = replicate 64 0; strides = replicate 512 (pos 0) }
-
 -- "Total at most 1,024: .. blocks are the full extents. Otherwise .. cut."
 unfoldable pub plan_from : Machine → List ℕ → List ℕ → List Axis → Purpose → Plan
 plan_from mc es sizes axs u =
@@ -66,10 +60,10 @@ plan_from mc es sizes axs u =
       strides = stride_table axs (length sizes);
     }
 
-abbrev pub planned_or : Option Refusal → Plan → Planned
-planned_or none p = record { answer = Served; plan = p }
-planned_or (some r) p = record { answer = Refused r; plan = no_plan }
+-- the plan of a layout, were it not refused
+abbrev pub the_plan : Machine → List ℕ → List ℕ → List ℤ → Purpose → Plan
+the_plan mc es sizes ss u = plan_from mc es sizes (plan_axes es (length sizes) ss u) u
 
 -- PLANNING: rows 1 to 4, 24, 5, 6, else the plan: "layout, purpose and record alone fix the plan"
-unfoldable pub planned : Machine → List ℕ → List ℕ → List ℤ → Purpose → Planned
-planned mc es sizes ss u = planned_or (planning_refused mc es sizes ss u) (plan_from mc es sizes (plan_axes es (length sizes) ss u) u)
+unfoldable pub planned : Machine → List ℕ → List ℕ → List ℤ → Purpose → Result Plan Refusal
+planned mc es sizes ss u = served_unless (planning_refused mc es sizes ss u) (the_plan mc es sizes ss u)

@@ -1,14 +1,11 @@
 -- "Refused layouts and calls": the rows with their numbers, "the least number wins", and what planning refuses. The other entries put the
 -- rows they check into lists of their own.
 -- Assumes nothing.
-use Rattle.std.specs.Prelude.{◌≡◌, Bool, false, cond, ◌&&◌, ◌||◌, not, List, [], ◌∷◌, ◌++◌, ℕ, ◌-◌, ◌*◌, ◌<◌, ltb, leb, eqb, ℤ, pos, neg_ℤ, ◌+ℤ◌, ◌-ℤ◌, length, get_or}
-use Rattle.std.proofs.Math.Option.{Option, none, some}
+use Rattle.std.specs.Prelude.{◌≡◌, Bool, false, cond, ◌&&◌, ◌||◌, not, List, [], ◌∷◌, ◌++◌, ℕ, ◌-◌, ◌*◌, ◌<◌, ltb, leb, eqb, ℤ, pos, neg_ℤ, ◌+ℤ◌, ◌-ℤ◌, length, get_or, Option, None, Some, Ok, Err, Result}
 use Rattle.strided.specs.declared.Machine.{Machine}
 use Rattle.strided.specs.declared.Purpose.{Purpose}
 use Rattle.strided.specs.declared.Refusal.{Refusal}
 use Rattle.strided.specs.declared.Refusal.TheVariants.{Rank, Operands, StrideCount, Chosen, Total, Reach, StartCount, Offsets, State, Index, Form, TextTotal, Room, Window, CopySizes, Buffer, Repeats, ByteStrides, Ninth, Leaving, Slice, Visits, Record}
-use Rattle.strided.specs.declared.Answer.{Answer}
-use Rattle.strided.specs.declared.Answer.TheVariants.{Served, Refused}
 use Rattle.strided.specs.Base.{some_of}
 use Rattle.strided.specs.Machine.{allowed}
 use Rattle.strided.specs.Layout.{stride_row, chosen, total, has_zero, Within, within, dot, reach, reach_down, in_i64, max_u, max_i}
@@ -51,13 +48,17 @@ pub record Row : Type 0 where
 -- "the least number wins": the rows of an entry stand in the order of their numbers, and the first that applies refuses. "except that 12
 -- comes first", and "13 then follows 6": so they stand in the text's list. 24 stands "after 4". specs/Rows has the numbers of every entry
 abbrev pub refused_by : List Row → Option Refusal
-refused_by [] = none
-refused_by (r ∷ rs) = cond r.applies (some r.refusal) (refused_by rs)
+refused_by [] = None
+refused_by (r ∷ rs) = cond r.applies (Some r.refusal) (refused_by rs)
 
--- what an entry answers that refuses so
-abbrev pub answered : Option Refusal → Answer
-answered none = Served
-answered (some r) = Refused r
+-- what an entry answers that refuses so, and else hands out this value
+abbrev pub served_unless : {A : Type 0} → Option Refusal → A → Result A Refusal
+served_unless None value = Ok value
+served_unless (Some r) value = Err r
+
+-- the same of an entry that hands out nothing
+abbrev pub answered : Option Refusal → Result (Unit {0}) Refusal
+answered o = served_unless o tt
 
 -- 1, "rank above 64"
 abbrev pub row1 : ℕ → Row
@@ -73,8 +74,8 @@ row3 rank operands ss = record { applies = not (eqb (length ss) (rank * operands
 
 -- 4, "chosen operand not there"
 abbrev pub missing : ℕ → Option ℕ → Bool
-missing operands none = false
-missing operands (some k) = leb operands k
+missing operands None = false
+missing operands (Some k) = leb operands k
 
 abbrev pub row4 : ℕ → Purpose → Row
 row4 operands u = record { applies = missing operands (chosen u); refusal = Chosen }

@@ -1,7 +1,6 @@
 -- "Added: a walk hands out its counters ..": one step of a walk by value, the states that a begun walk reaches, and row 10.
 -- Assumes nothing.
-use Rattle.std.specs.Prelude.{◌≡◌, Bool, true, false, cond, ◌&&◌, not, List, [], ◌∷◌, ℕ, zero, suc, ◌%◌, ltb, eqb, length, take, drop, replicate, ℤ, pos, nat_abs, ◌+ℤ◌, ◌-ℤ◌}
-use Rattle.std.proofs.Math.Option.{Option, none, some}
+use Rattle.std.specs.Prelude.{◌≡◌, Bool, true, false, cond, ◌&&◌, not, List, [], ◌∷◌, ℕ, zero, suc, ◌%◌, ltb, eqb, length, take, drop, replicate, ℤ, pos, nat_abs, ◌+ℤ◌, ◌-ℤ◌, Option, None, Some, Ok}
 use Rattle.strided.specs.Base.{padded}
 use Rattle.strided.specs.Layout.{dot}
 use Rattle.strided.specs.Refusals.{Row, refused_by, row1, row2}
@@ -9,7 +8,6 @@ use Rattle.strided.specs.Walk.{CutAxis, ax, cut_axes, length_at, next, zeros, ru
 use Rattle.strided.specs.Begin.{plan_extents, plan_blocks, plan_rows, begin_refused, begun_at, no_walk}
 use Rattle.strided.specs.declared.Refusal.{Refusal}
 use Rattle.strided.specs.declared.Refusal.TheVariants.{State}
-use Rattle.strided.specs.declared.Answer.TheVariants.{Served}
 use Rattle.strided.specs.declared.Outcome.{Outcome}
 use Rattle.strided.specs.declared.Outcome.TheVariants.{Block, Ended, Rejected}
 use Rattle.strided.specs.declared.Plan.{Plan}
@@ -37,8 +35,8 @@ starts_from (ts ∷ tss) (o ∷ os) c = (o -ℤ dot c ts) ∷ starts_from tss os
 
 -- the state of a walk that began at the starts zs: at the counters c, or ended with counters 0 and "every offset is its start again"
 abbrev pub state_of : List CutAxis → List (List ℤ) → List ℤ → Option (List ℕ) → WalkState
-state_of axs tss zs none = record { running = false; counters = zeros axs; offsets = zs }
-state_of axs tss zs (some c) = record { running = true; counters = c; offsets = offsets_from tss zs c }
+state_of axs tss zs None = record { running = false; counters = zeros axs; offsets = zs }
+state_of axs tss zs (Some c) = record { running = true; counters = c; offsets = offsets_from tss zs c }
 
 -- what a step gives: row 10; or a block's counters, length, offsets and strides of axis 0, with the next state; or that the walk is over
 pub data Step : Type 0 where
@@ -108,8 +106,8 @@ tidy p w = blank (drop p.rank w.counters) && blank_z (drop p.operands w.offsets)
 
 -- a walk of the plan may begin at these starts
 abbrev pub is_none : Option Refusal → Bool
-is_none none = true
-is_none (some r) = false
+is_none None = true
+is_none (Some r) = false
 
 abbrev pub may_begin : Plan → List ℤ → Bool
 may_begin p zs = is_none (begin_refused p zs)
@@ -131,8 +129,8 @@ abbrev pub step_rows : Plan → List Row
 step_rows p = row1 p.rank ∷ row2 p.operands ∷ []
 
 abbrev pub step_or : Option Refusal → Stepped → Stepped
-step_or none s = s
-step_or (some r) s = not_stepped r
+step_or None s = s
+step_or (Some r) s = not_stepped r
 
 -- ONE STEP: rows 1 and 2 of the plan, then 10, "step on a state no begun walk reaches"
 unfoldable pub stepped : Plan → Walk → Stepped
@@ -159,6 +157,7 @@ walk_after p (suc n) w = walk_after p n (stepped p w).walk
 -- some beginning that is not refused, and some number of steps, lead to w
 pub record Reached (p : Plan) (w : Walk) : Type 0 where
   pub starts : List ℤ
-  pub begins : (begun_at p starts).answer ≡ Served
+  pub first : Walk
+  pub begins : begun_at p starts ≡ Ok first
   pub steps : ℕ
-  pub comes : w ≡ walk_after p steps (begun_at p starts).walk
+  pub comes : w ≡ walk_after p steps first

@@ -2,14 +2,12 @@
 -- LF 10, `,` 44, `-` 45, digits from 48, letters as in ASCII. The form is said by rendering: a text is in it if it is the rendering of
 -- what it says, byte for byte.
 -- Assumes nothing.
-use Rattle.std.specs.Prelude.{◌≡◌, ◌⊎◌, List, [], ◌∷◌, ◌++◌, map, ℕ, suc, ◌+◌, ◌^◌, ◌≤◌, ◌<◌, ltb, length, get_or, take, drop, replicate, ℤ, pos, negsuc}
-use Rattle.std.proofs.Math.Option.{Option, none, some}
+use Rattle.std.specs.Prelude.{◌≡◌, ◌⊎◌, List, [], ◌∷◌, ◌++◌, map, ℕ, suc, ◌+◌, ◌^◌, ◌≤◌, ◌<◌, ltb, length, get_or, take, drop, replicate, ℤ, pos, negsuc, Option, None, Some}
 use Rattle.std.specs.Int.Signed.{mag}
 use Rattle.strided.specs.Base.{over, run, first}
 use Rattle.strided.specs.Layout.{stride_row, chosen, lead_of, total}
 use Rattle.strided.specs.Refusals.{Row, refused_by, negated, row1, row2, row4, row5, row6}
 use Rattle.strided.specs.Machine.{fixed_four}
-use Rattle.strided.specs.Plan.{planned}
 use Rattle.strided.specs.Walk.{Block, block, blocks_of}
 use Rattle.strided.specs.Begin.{plan_extents, plan_blocks, plan_rows}
 use Rattle.strided.specs.Step.{plan_cut_axes, offsets_from}
@@ -19,6 +17,7 @@ use Rattle.strided.specs.declared.Purpose.TheVariants.{Pointwise, PointwiseInto,
 use Rattle.strided.specs.declared.Refusal.{Refusal}
 use Rattle.strided.specs.declared.Refusal.TheVariants.{Form, TextTotal, Room}
 use Rattle.strided.specs.declared.Plan.{Plan}
+use Rattle.strided.specs.Plan.{the_plan}
 
 -- ---- lines of fields
 
@@ -55,8 +54,8 @@ purpose_letter (Fold k) = 70
 
 -- "chosen (`-` for none, P only)": a fold always has a number
 abbrev pub chosen_field : Option ℕ → List ℕ
-chosen_field none = 44 ∷ 45 ∷ []
-chosen_field (some k) = field k
+chosen_field None = 44 ∷ 45 ∷ []
+chosen_field (Some k) = field k
 
 -- "L,purpose,rank,operands,chosen"
 abbrev pub head_line : Purpose → ℕ → ℕ → List ℕ
@@ -170,7 +169,7 @@ printed_plan p = rank_line p.rank ++ (over (run 0 p.rank) (axis_of p) ++ (block_
 
 -- "the walklist text keeps the fixed four"
 unfoldable pub printed : List ℕ → List ℕ → List ℤ → Purpose → List ℕ
-printed es sizes ss u = printed_plan (planned fixed_four es sizes ss u).plan
+printed es sizes ss u = printed_plan (the_plan fixed_four es sizes ss u)
 
 abbrev pub printed_of : Parsed → List ℕ
 printed_of p = printed p.extents (sizes_of p) (strides_of p) p.purpose
@@ -214,8 +213,8 @@ abbrev pub filling : List ℕ → List ℕ → Listing
 filling out room = record { answer = pos (length out); room = out ++ drop (length out) room }
 
 abbrev pub listing_or : Option Refusal → List ℕ → List ℕ → Listing
-listing_or none out room = filling out room
-listing_or (some r) out room = refusing r room
+listing_or None out room = filling out room
+listing_or (Some r) out room = refusing r room
 
 -- what becomes of a text in the form
 unfoldable pub listed : Parsed → List ℕ → Listing

@@ -1,7 +1,6 @@
 -- "Blocks of the walk": the blocks of a plan in order, and the successor of a block's counters. Axis 0 is first in every list.
 -- Assumes nothing.
-use Rattle.std.specs.Prelude.{cond, List, [], ◌∷◌, map, ℕ, zero, suc, ◌+◌, ◌-◌, ◌*◌, ◌/◌, min, max, leb, ltb, length, take, ℤ, pos}
-use Rattle.std.proofs.Math.Option.{Option, none, some}
+use Rattle.std.specs.Prelude.{cond, List, [], ◌∷◌, map, ℕ, zero, suc, ◌+◌, ◌-◌, ◌*◌, ◌/◌, min, max, leb, ltb, length, take, ℤ, pos, Option, None, Some}
 use Rattle.strided.specs.Base.{over, or_else, run}
 
 -- an axis of a walk: its extent and its effective block size
@@ -91,26 +90,26 @@ run_strides (a ∷ axs) tss = map first_of tss
 
 -- one step on one axis inside its tile
 abbrev pub next_in : ℕ → ℕ → Option ℕ
-next_in end k = cond (ltb (suc k) end) (some (suc k)) none
+next_in end k = cond (ltb (suc k) end) (Some (suc k)) None
 
 -- the next tile of one axis
 abbrev pub next_start : ℕ → ℕ → ℕ → Option ℕ
-next_start e w s = cond (ltb (s + w) e) (some (s + w)) none
+next_start e w s = cond (ltb (s + w) e) (Some (s + w)) None
 
 -- inside the tile that starts at t: one more on the first axis that has one, those before it at their start
 abbrev pub next_inner : List CutAxis → List ℕ → List ℕ → Option (List ℕ)
-next_inner [] t c = none
-next_inner (ax e w ∷ axs) [] c = none
-next_inner (ax e w ∷ axs) (s ∷ t) [] = none
+next_inner [] t c = None
+next_inner (ax e w ∷ axs) [] c = None
+next_inner (ax e w ∷ axs) (s ∷ t) [] = None
 next_inner (ax e w ∷ axs) (s ∷ t) (k ∷ v) =
-    or_else (or_else none (λ v'. s ∷ v') (next_inner axs t v)) (λ k'. k' ∷ v) (next_in (s + len_at e w s) k)
+    or_else (or_else None (λ v'. s ∷ v') (next_inner axs t v)) (λ k'. k' ∷ v) (next_in (s + len_at e w s) k)
 
 -- the next tile
 abbrev pub next_tile : List CutAxis → List ℕ → Option (List ℕ)
-next_tile [] t = none
-next_tile (ax e w ∷ axs) [] = none
+next_tile [] t = None
+next_tile (ax e w ∷ axs) [] = None
 next_tile (ax e w ∷ axs) (s ∷ t) =
-    or_else (or_else none (λ t'. 0 ∷ t') (next_tile axs t)) (λ s'. s' ∷ t) (next_start e w s)
+    or_else (or_else None (λ t'. 0 ∷ t') (next_tile axs t)) (λ s'. s' ∷ t) (next_start e w s)
 
 -- the start of the tile that counters are in
 abbrev pub tile_of : List CutAxis → List ℕ → List ℕ
@@ -119,8 +118,8 @@ tile_of (ax e w ∷ axs) [] = []
 tile_of (ax e w ∷ axs) (k ∷ v) = k / w * w ∷ tile_of axs v
 
 abbrev pub next : List CutAxis → List ℕ → Option (List ℕ)
-next [] c = none
-next (ax e w ∷ axs) [] = none
+next [] c = None
+next (ax e w ∷ axs) [] = None
 next (ax e w ∷ axs) (s ∷ v) =
     or_else (next_tile (ax e w ∷ axs) (tile_of (ax e w ∷ axs) (s ∷ v))) (λ v'. s ∷ v') (next_inner axs (tile_of axs v) v)
 

@@ -1,8 +1,6 @@
 -- "Axis ranks and loop order": the weights of the axes, by the first try whose numbers fit 64 bits.
 -- Assumes nothing.
-use Rattle.std.specs.Prelude.{Bool, cond, ◌&&◌, ◌||◌, List, [], map, ℕ, zero, suc, ◌+◌, ◌-◌, ◌*◌, ◌^◌, min, ltb, leb, eqb, ℤ, pos, nat_abs, length, get_or}
-use Rattle.std.proofs.Math.Option
-use Rattle.std.proofs.Math.Option.{Option, none, some}
+use Rattle.std.specs.Prelude.{Bool, cond, ◌&&◌, ◌||◌, List, [], map, ℕ, zero, suc, ◌+◌, ◌-◌, ◌*◌, ◌^◌, min, ltb, leb, eqb, ℤ, pos, nat_abs, length, get_or, Option, None, Some, unwrap_or}
 use Rattle.std.specs.Int.Count.{count_leading_zeros}
 use Rattle.strided.specs.Base.{run, sum, every, first}
 use Rattle.strided.specs.Layout.{stride_row}
@@ -53,11 +51,11 @@ module _ (es : List ℕ) (operands : ℕ) (ss : List ℤ) (lead : ℕ) where
 
   -- one try: the weights, if all its numbers fit
   unfoldable pub try : ℕ → ℕ → Option (List ℕ)
-  try width cap = cond (every (axis_fits width cap) 0 (length es)) (some (map (weight_at width cap) (run 0 (length es)))) none
+  try width cap = cond (every (axis_fits width cap) 0 (length es)) (Some (map (weight_at width cap) (run 0 (length es)))) None
 
   -- "then width 1 with caps 63 down to 1"
   unfoldable pub cap_tries : ℕ → Option (List ℕ)
-  cap_tries zero = none
+  cap_tries zero = None
   cap_tries (suc n) = first (try 1 (suc n)) (cap_tries n)
 
   -- "Try widths g down to 1 without a cap": the cap `axes` cuts no level
@@ -67,4 +65,4 @@ module _ (es : List ℕ) (operands : ℕ) (ss : List ℤ) (lead : ℕ) where
 
   -- "The first try where .. gives the weights. With at most 8 operands one always does": the empty list is never met (crate laws)
   unfoldable pub weights : List ℕ
-  weights = Option.get_or (width_tries (packing_width operands)) []
+  weights = unwrap_or (width_tries (packing_width operands)) []

@@ -25,39 +25,32 @@ pub struct Machine {
     pub live: u64,
 }
 
-// The rows of the refusal table, 1 to 24 in this order but for 7, which is given no longer. specs/Refusals has their numbers.
+// The rows of the refusal table with their numbers, 1 to 24 but for 7, which is given no longer. specs/Refusals has the rows.
 #[derive(Clone, Copy)]
 pub enum Refusal {
-    Rank,
-    Operands,
-    StrideCount,
-    Chosen,
-    Total,
-    Reach,
-    StartCount,
-    Offsets,
-    State,
-    Index,
-    Form,
-    TextTotal,
-    Room,
-    Window,
-    CopySizes,
-    Buffer,
-    Repeats,
-    ByteStrides,
-    Ninth,
-    Leaving,
-    Slice,
-    Visits,
-    Record,
-}
-
-// What an entry answers, beside its value. On a refusal every number of the value is 0.
-#[derive(Clone, Copy)]
-pub enum Answer {
-    Served,
-    Refused(Refusal),
+    Rank = 1,
+    Operands = 2,
+    StrideCount = 3,
+    Chosen = 4,
+    Total = 5,
+    Reach = 6,
+    StartCount = 8,
+    Offsets = 9,
+    State = 10,
+    Index = 11,
+    Form = 12,
+    TextTotal = 13,
+    Room = 14,
+    Window = 15,
+    CopySizes = 16,
+    Buffer = 17,
+    Repeats = 18,
+    ByteStrides = 19,
+    Ninth = 20,
+    Leaving = 21,
+    Slice = 22,
+    Visits = 23,
+    Record = 24,
 }
 
 // Operand k's stride on axis i stands at k * 64 + i. Places behind the counts are 0 in a plan handed out, and are not looked at in one
@@ -71,16 +64,9 @@ pub struct Plan {
     pub strides: [i64; 512],
 }
 
-#[derive(Clone, Copy)]
-pub struct Planned {
-    pub answer: Answer,
-    pub plan: Plan,
-}
-
 // An original index or a plan index: the first `count` places.
 #[derive(Clone, Copy)]
 pub struct Told {
-    pub answer: Answer,
     pub count: usize,
     pub index: [u64; 64],
 }
@@ -93,13 +79,7 @@ pub struct Walk {
     pub offsets: [i64; 8],
 }
 
-#[derive(Clone, Copy)]
-pub struct Begun {
-    pub answer: Answer,
-    pub walk: Walk,
-}
-
-// What a step answers. The refusal has another name than Answer's, since one file cannot import two constructors of one name.
+// What a step answers.
 #[derive(Clone, Copy)]
 pub enum Outcome {
     Block,
@@ -134,10 +114,4 @@ pub enum Mark {
     No,
     Yes,
     Undecided,
-}
-
-#[derive(Clone, Copy)]
-pub struct Marked {
-    pub answer: Answer,
-    pub mark: Mark,
 }

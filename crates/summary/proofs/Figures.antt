@@ -1,6 +1,5 @@
 -- Summaries of a few cells, computed. Assumes nothing.
-use Rattle.std.specs.Prelude.{◌≡◌, refl, true, false, List, [], ◌∷◌, ℕ, ℤ, pos, negsuc, Float}
-use Rattle.std.proofs.Math.Option.{none, some}
+use Rattle.std.specs.Prelude.{◌≡◌, refl, true, false, List, [], ◌∷◌, ℕ, ℤ, pos, negsuc, Float, None, Some}
 use Rattle.std.specs.Float.{nan, inf, fin, binary64}
 use Rattle.std.specs.Float.Ieee.{add, lt, is_nan, of_bits}
 use Rattle.strided.specs.Base.{some_of}
@@ -68,9 +67,9 @@ pub summary_rows_lem : (mc : Machine) (es : List ℕ) (ss : List ℤ) (z : ℤ) 
 summary_rows_lem mc es ss z n = refl
 
 -- 9 before 22, and neither at a zero extent; 24 there too
-rows_right : (summary_refused fixed_four (2 ∷ []) (pos 1 ∷ []) (pos 9223372036854775807) 0 ≡ some Offsets)
-    × (summary_refused fixed_four (2 ∷ []) (pos 1 ∷ []) (pos 0) 1 ≡ some Slice) × (summary_refused fixed_four (2 ∷ []) (pos 1 ∷ []) (pos 0) 2 ≡ none)
-    × (summary_refused fixed_four (2 ∷ []) (negsuc 0 ∷ []) (pos 0) 2 ≡ some Slice) × (summary_refused fixed_four (0 ∷ []) (pos 1 ∷ []) (pos 9223372036854775807) 0 ≡ none)
-    × (summary_refused (machine_of 64 32768 4096 17) (0 ∷ []) (pos 1 ∷ []) (pos 0) 0 ≡ some Record)
+rows_right : (summary_refused fixed_four (2 ∷ []) (pos 1 ∷ []) (pos 9223372036854775807) 0 ≡ Some Offsets)
+    × (summary_refused fixed_four (2 ∷ []) (pos 1 ∷ []) (pos 0) 1 ≡ Some Slice) × (summary_refused fixed_four (2 ∷ []) (pos 1 ∷ []) (pos 0) 2 ≡ None)
+    × (summary_refused fixed_four (2 ∷ []) (negsuc 0 ∷ []) (pos 0) 2 ≡ Some Slice) × (summary_refused fixed_four (0 ∷ []) (pos 1 ∷ []) (pos 9223372036854775807) 0 ≡ None)
+    × (summary_refused (machine_of 64 32768 4096 17) (0 ∷ []) (pos 1 ∷ []) (pos 0) 0 ≡ Some Record)
 unfolding summary_refused outside some_of allowed
 rows_right = (refl, refl, refl, refl, refl, refl)

@@ -81,10 +81,6 @@ met-append cells s xs ys = ap (with_cells s) (map-append (cell_of cells) xs ys) 
 
 -- ---- along a run
 
-pub length-run-from : (o t : ℤ) (n : ℕ) → length (run_from o t n) ≡ n
-length-run-from o t zero = refl
-length-run-from o t (suc n) = ap suc (length-run-from (o +ℤ t) t n)
-
 pub move_none : (o t : ℤ) → o ≡ o +ℤ pos 0 *ℤ t
 move_none o t = sym (ap (λ (z : ℤ). o +ℤ z) (zero-*ℤ t) ∙ +ℤ_idr o)
 
@@ -107,9 +103,6 @@ pub ahead_some : {cells : List Float} {s : Summary} (o t : ℤ) (m n : ℕ) → 
 ahead_some {cells} {s} o t m n h a =
     let e : n ≡ m + (n - m) = omega (arith, h) in
     ahead-first (run_from o t m) (run_from (o +ℤ pos m *ℤ t) t (n - m)) (subst (Ahead cells s) (ap (run_from o t) e ∙ run_parts o t m (n - m)) a)
-
-pub ahead-count : {cells : List Float} {s : Summary} (o t : ℤ) (n : ℕ) → Ahead cells s (run_from o t n) → s.count + n < 2 ^ 64
-ahead-count o t n a = let r = a.room in let e = length-run-from o t n in omega (arith, r, e)
 
 -- ---- a run, cell by cell
 
@@ -248,13 +241,7 @@ pub record Rowing (cells : List Float) (d : ℤ) (c : ℕ) (t : ℤ) (n : ℕ) (
   pub ahead : Ahead cells s (rows_from o d (c - j) t n)
   pub goes : met cells s (rows_from o d (c - j) t n) ≡ whole
 
-pub rowing_none : {cells : List Float} {s : Summary} {o d t : ℤ} {c n : ℕ} → RunsFit o d c → Ahead cells s (rows_from o d c t n) → Rowing cells d c t n (met cells s (rows_from o d c t n)) 0 s o
-rowing_none {cells} {s} {o} {d} {t} {c} {n} f a = record { most = omega arith; fit = subst (RunsFit o d) (sym (sub-zero c)) f; ahead = rw (sub-zero c) a; goes = rw (sub-zero c) }
-
 module _ {cells : List Float} {d : ℤ} {c : ℕ} {t : ℤ} {n : ℕ} {whole : Summary} {j : ℕ} {s : Summary} {o : ℤ} (r : Rowing cells d c t n whole j s o) where
-  pub rowing_end : c ≤ j → s ≡ whole
-  rowing_end h = let e : c - j ≡ 0 = omega (arith, h) in subst (λ (m : ℕ). met cells s (rows_from o d m t n) ≡ whole) e r.goes
-
   module _ (h : j < c) where
     one-row : c - j ≡ suc (c - (j + 1))
     one-row = omega (arith, h)

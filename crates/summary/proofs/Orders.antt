@@ -2,29 +2,28 @@
 -- records, or two ways to name the axes that give one order of visits give one summary. And of a summary that is served: its count is the
 -- layout's total, each index of the layout is met exactly once, the sum of whole numbers is exact, the extremes are cells.
 -- Assumes nothing.
-use Rattle.std.specs.Prelude.{◌≡◌, refl, true, false, List, map, ℕ, ◌^◌, ◌≤◌, ◌<◌, ℤ, pos, ◌+ℤ◌, Float, length}
+use Rattle.std.specs.Prelude.{◌≡◌, refl, true, false, List, map, ℕ, ◌^◌, ◌≤◌, ◌<◌, ℤ, pos, ◌+ℤ◌, Float, length, Option, None, Some, Ok}
 use Rattle.std.proofs.Common.{sym, ap₂, ◌∙◌, subst, arith}
 use Rattle.std.proofs.Math.Path.{ap}
 use Rattle.std.proofs.lemmas.Simd.{map-map}
-use Rattle.std.proofs.Math.Option.{Option, none, some}
 use Rattle.std.proofs.Math.IntN.{+ℤ_idl}
 use Rattle.std.specs.Float.{nan}
 use Rattle.std.specs.Float.Ieee.{is_nan}
 use Rattle.std.proofs.Math.ListN.{length-map}
 use Rattle.strided.specs.Layout.{Within, dot, total}
-use Rattle.strided.specs.Refusals.{planning_refused}
+use Rattle.strided.specs.Refusals.{planning_refused, served_unless}
 use Rattle.strided.specs.Index.{index_in_plan}
 use Rattle.strided.specs.Begin.{plan_extents, plan_row}
 use Rattle.strided.specs.declared.Machine.{Machine}
 use Rattle.strided.specs.declared.Refusal.{Refusal}
-use Rattle.strided.specs.declared.Answer.TheVariants.{Served}
 use Rattle.laws.specs.Base.Counting.{count}
 use Rattle.laws.specs.Fuse.Maps.{plan_total, plan_in, orig_plan}
+use Rattle.laws.specs.Refusals.Rows.{served_none, served_is}
 use Rattle.laws.specs.Text.Totals.{planned-extents}
 use Rattle.summary.specs.declared.cell.Summary.{Summary}
 use Rattle.summary.specs.Sums.{summary_of}
 use Rattle.summary.specs.Visits.{cell_sizes, ordering, summary_plan, indices_of, offset_at, visits_of, visits, cell_of}
-use Rattle.summary.specs.Rows.{summary_refused, summarized_or, cells_met, summarized}
+use Rattle.summary.specs.Rows.{summary_refused, cells_met, summarized}
 use Rattle.summary.specs.Indices.{indices_once, visits-many}
 use Rattle.summary.proofs.Served.{planning_rows_lem, same_offset}
 use Rattle.summary.proofs.Counts.{nans_in, count-all, nans_all, sum_lost}
@@ -45,37 +44,33 @@ start_moves mc es ss z =
 
 -- ONE ORDER OF VISITS, ONE SUMMARY: two records, or a permutation of the axes' names, or any other two layouts
 pub same_order : (mc mc' : Machine) (es es' : List ℕ) (ss ss' : List ℤ) (z z' : ℤ) (cells : List Float) → visits mc es ss z ≡ visits mc' es' ss' z'
-    → summary_refused mc es ss z (length cells) ≡ none → summary_refused mc' es' ss' z' (length cells) ≡ none
+    → summary_refused mc es ss z (length cells) ≡ None → summary_refused mc' es' ss' z' (length cells) ≡ None
     → summarized mc es ss z cells ≡ summarized mc' es' ss' z' cells
 unfolding summarized
 same_order mc mc' es es' ss ss' z z' cells e h h' =
-    ap₂ (λ (o : Option Refusal) (l : List ℤ). summarized_or o (summary_of (map (cell_of cells) l))) (h ∙ sym h') e
+    ap₂ (λ (o : Option Refusal) (l : List ℤ). served_unless o (summary_of (map (cell_of cells) l))) (h ∙ sym h') e
 
--- ---- a summary that is served
+-- ---- a summary that is handed out
 
-served_none : (o : Option Refusal) (s : Summary) → (summarized_or o s).answer ≡ Served → o ≡ none
-served_none none s h = refl
-served_none (some r) s h = let z : ◌≡◌ {A = ℕ} 0 1 = cc h in absurd (omega arith)
-
-planning_passes : (mc : Machine) (es : List ℕ) (ss : List ℤ) (z : ℤ) (n : ℕ) → summary_refused mc es ss z n ≡ none → planning_refused mc es cell_sizes ss ordering ≡ none
+planning_passes : (mc : Machine) (es : List ℕ) (ss : List ℤ) (z : ℤ) (n : ℕ) → summary_refused mc es ss z n ≡ None → planning_refused mc es cell_sizes ss ordering ≡ None
 planning_passes mc es ss z n h = go (planning_refused mc es cell_sizes ss ordering) refl
   where
-    go : (o : Option Refusal) → planning_refused mc es cell_sizes ss ordering ≡ o → planning_refused mc es cell_sizes ss ordering ≡ none
-    go none e = e
-    go (some r) e = let q = planning_rows_lem mc es ss z n r e in let y : ◌≡◌ {A = ℕ} 0 1 = cc (q, h) in absurd (omega arith)
+    go : (o : Option Refusal) → planning_refused mc es cell_sizes ss ordering ≡ o → planning_refused mc es cell_sizes ss ordering ≡ None
+    go None e = e
+    go (Some r) e = let q = planning_rows_lem mc es ss z n r e in let y : ◌≡◌ {A = ℕ} 0 1 = cc (q, h) in absurd (omega arith)
 
-module _ (mc : Machine) (es : List ℕ) (ss : List ℤ) (z : ℤ) (cells : List Float) (served : (summarized mc es ss z cells).answer ≡ Served) where
-  not-refused : summary_refused mc es ss z (length cells) ≡ none
+module _ (mc : Machine) (es : List ℕ) (ss : List ℤ) (z : ℤ) (cells : List Float) {given : Summary} (served : summarized mc es ss z cells ≡ Ok given) where
+  not-refused : summary_refused mc es ss z (length cells) ≡ None
   unfolding summarized
   not-refused = served_none (summary_refused mc es ss z (length cells)) (summary_of (cells_met mc es ss z cells)) served
 
-  passed : planning_refused mc es cell_sizes ss ordering ≡ none
+  passed : planning_refused mc es cell_sizes ss ordering ≡ None
   passed = planning_passes mc es ss z (length cells) not-refused
 
   -- it is that of the cells that are met
-  pub summary_is : (summarized mc es ss z cells).summary ≡ summary_of (cells_met mc es ss z cells)
+  pub summary_is : given ≡ summary_of (cells_met mc es ss z cells)
   unfolding summarized
-  summary_is = ap (λ (o : Option Refusal). (summarized_or o (summary_of (cells_met mc es ss z cells))).summary) not-refused
+  summary_is = served_is (summary_refused mc es ss z (length cells)) (summary_of (cells_met mc es ss z cells)) served
 
   -- as many as the layout's total
   met-many : length (cells_met mc es ss z cells) ≡ total es
@@ -85,14 +80,14 @@ module _ (mc : Machine) (es : List ℕ) (ss : List ℤ) (z : ℤ) (cells : List 
       ∙ ap total (planned-extents mc es cell_sizes ss ordering passed) ∙ plan_total es 1 ss ordering
 
   -- THE COUNT is the layout's total, a cell that two indices share counted at each
-  pub count-total : (summarized mc es ss z cells).summary.count ≡ total es
+  pub count-total : given.count ≡ total es
   count-total = ap (λ (s : Summary). s.count) summary_is ∙ count-all (cells_met mc es ss z cells) ∙ met-many
 
   -- of which so many are not a number; with one the sum is none
-  pub nans_counted : (summarized mc es ss z cells).summary.nans ≡ nans_in (cells_met mc es ss z cells)
+  pub nans_counted : given.nans ≡ nans_in (cells_met mc es ss z cells)
   nans_counted = ap (λ (s : Summary). s.nans) summary_is ∙ nans_all (cells_met mc es ss z cells)
 
-  pub nan_sum : 0 < (summarized mc es ss z cells).summary.nans → (summarized mc es ss z cells).summary.sum ≡ nan
+  pub nan_sum : 0 < given.nans → given.sum ≡ nan
   nan_sum h =
       ap (λ (s : Summary). s.sum) summary_is ∙ sum_lost (cells_met mc es ss z cells) (subst (λ (n : ℕ). 0 < n) nans_counted h)
 
@@ -106,16 +101,16 @@ module _ (mc : Machine) (es : List ℕ) (ss : List ℤ) (z : ℤ) (cells : List 
       (indices_once (summary_plan mc es ss) y v, ap (λ (o : ℤ). z +ℤ o) (d ∙ ap (λ (i : List ℕ). dot i ss) (orig_plan es 1 ss ordering x w)))
 
   -- EXACT: "If all cells are whole numbers whose sizes, so counted, total at most 2^53, the sum equals the exact one"
-  pub sum_exact : (zs : List ℤ) → Wholes (cells_met mc es ss z cells) zs → sizes_of zs ≤ 2 ^ 53 → Whole (summarized mc es ss z cells).summary.sum (exact_sum zs)
+  pub sum_exact : (zs : List ℤ) → Wholes (cells_met mc es ss z cells) zs → sizes_of zs ≤ 2 ^ 53 → Whole given.sum (exact_sum zs)
   sum_exact zs w h = subst (λ (s : Summary). Whole s.sum (exact_sum zs)) (sym summary_is) (sum-whole (cells_met mc es ss z cells) zs w h)
 
   -- THE EXTREMES: a cell that is a number lies within them, and then they exist
-  pub cell_bounded : (y : Float) → In y (cells_met mc es ss z cells) → is_nan y ≡ false → Bounded y (summarized mc es ss z cells).summary
+  pub cell_bounded : (y : Float) → In y (cells_met mc es ss z cells) → is_nan y ≡ false → Bounded y given
   cell_bounded y i h = subst (Bounded y) (sym summary_is) (within_extremes (cells_met mc es ss z cells) y i h)
 
   -- and where they exist they are such cells
-  pub extremes_cells : (summarized mc es ss z cells).summary.extremes ≡ true
-      → NumberIn (cells_met mc es ss z cells) (summarized mc es ss z cells).summary.least × NumberIn (cells_met mc es ss z cells) (summarized mc es ss z cells).summary.greatest
+  pub extremes_cells : given.extremes ≡ true
+      → NumberIn (cells_met mc es ss z cells) given.least × NumberIn (cells_met mc es ss z cells) given.greatest
   extremes_cells h =
       let e = extremes_are_cells (cells_met mc es ss z cells) (sym (ap (λ (s : Summary). s.extremes) summary_is) ∙ h) in
       subst (λ (s : Summary). NumberIn (cells_met mc es ss z cells) s.least × NumberIn (cells_met mc es ss z cells) s.greatest) (sym summary_is) e

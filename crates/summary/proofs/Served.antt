@@ -1,71 +1,64 @@
 -- A layout of one operand that planning does not refuse: its walk begins exactly if row 9 passes, and where row 22 passes too every cell that is
 -- met lies in the slice. And the rows, as the code tells them.
 -- Assumes nothing.
-use Rattle.std.specs.Prelude.{◌≡◌, refl, Bool, true, false, cond, List, [], ◌∷◌, ℕ, ◌^◌, ◌≤◌, ◌<◌, ℤ, pos, negsuc, ◌+ℤ◌, Float, length, get_or, take, drop}
+use Rattle.std.specs.Prelude.{◌≡◌, refl, Bool, true, false, cond, not, eqb, List, [], ◌∷◌, ℕ, ◌^◌, ◌≤◌, ◌<◌, ℤ, pos, negsuc, ◌+ℤ◌, Float, length, get_or, take, drop, Option, None, Some, Ok, Err, Result}
 use Rattle.std.proofs.Common.{sym, ◌∙◌, subst, true≢false, mul-one, zero-mul, arith, take_all, ltb-true, lt-ltb}
 use Rattle.std.proofs.Math.Path.{ap}
 use Rattle.std.proofs.lemmas.Bool.{false≢true}
-use Rattle.std.proofs.Math.Option.{Option, none, some}
 use Rattle.strided.specs.Layout.{NoZero, Within, in_i64, dot, reach, max_i, extents, row, stride_row}
-use Rattle.strided.specs.Refusals.{refused_by, planning_rows, planning_refused, row9}
+use Rattle.strided.specs.Refusals.{refused_by, planning_rows, planning_refused, row9, served_unless}
 use Rattle.strided.specs.Fuse.{plan_axes}
 use Rattle.strided.specs.Index.{original_index}
 use Rattle.strided.specs.Plan.{plan_from}
-use Rattle.strided.specs.Begin.{plan_extents, plan_row, begin_refused, begun_at}
+use Rattle.strided.specs.Begin.{plan_extents, plan_row, begin_rows, begin_refused, begun_at}
 use Rattle.strided.specs.Memory.{plan_of}
+use Rattle.strided.specs.Text.{zero_starts}
 use Rattle.strided.specs.declared.Machine.{Machine}
 use Rattle.strided.specs.declared.Refusal.{Refusal}
 use Rattle.strided.specs.declared.Refusal.TheVariants.{Offsets, Slice}
 use Rattle.strided.specs.declared.Plan.{Plan}
-use Rattle.strided.specs.declared.Planned.{Planned}
-use Rattle.strided.specs.declared.Begun.{Begun}
-use Rattle.strided.specs.declared.Answer.TheVariants.{Served, Refused}
+use Rattle.strided.specs.declared.Walk.{Walk}
 use Rattle.laws.specs.Base.Layouts.{table_row, within-total, total_nozero}
 use Rattle.laws.specs.Base.Lists.{All, all_map}
 use Rattle.laws.specs.Fuse.Maps.{plan_nozero, orig_in, same-dot}
-use Rattle.laws.specs.Plan.Answers.{planned_served}
 use Rattle.laws.specs.Plan.Begins.{begins_to, begins_from}
 use Rattle.laws.specs.Plan.Bounds.{plan_few}
 use Rattle.laws.specs.Plan.Places.{plan_extents_lem, plan_blocks_lem, plan_strides}
 use Rattle.laws.specs.Refusals.Accepted.{Accepted, accepted}
 use Rattle.laws.specs.Refusals.Record.{planning_layout}
-use Rattle.laws.specs.Refusals.Rows.{rows_refuse, rows_pass}
+use Rattle.laws.specs.Base.Refusals.{NoneApplies, none_applies}
+use Rattle.laws.specs.Refusals.Rows.{rows_refuse, rows_pass, served_none, refused_some}
+use Rattle.laws.specs.Text.Begins.{planned_operands, planned_begins}
 use Rattle.laws.specs.Text.Totals.{planned-extents}
 use Rattle.laws.specs.Walk.Row9.{row9-leaves}
-use Rattle.laws.specs.Walk.Steps.{served_walk}
 use Rattle.advance.specs.Sized.{Sized}
 use Rattle.kernel.specs.Made.{Made}
 use Rattle.span.specs.Span.{Spans, in_cells, outside}
 use Rattle.span.specs.Exact.{all-cells}
 use Rattle.summary.specs.declared.cell.Summary.{Summary}
-use Rattle.summary.specs.declared.Summarized.{Summarized}
 use Rattle.summary.specs.Sums.{nothing_met, summary_of}
 use Rattle.summary.specs.Visits.{cell_sizes, ordering, summary_plan, indices_of, offset_at, visits_of, visits}
 use Rattle.summary.specs.Indices.{indices-within}
 use Rattle.summary.specs.Ahead.{Summable, met}
-use Rattle.summary.specs.Rows.{row22, summary_refused, summarized_or, cells_met, summarized}
+use Rattle.summary.specs.Rows.{row22, summary_refused, cells_met, summarized}
 
 -- the offset of a cell is a number of 64 bits
 in_64 : (n : ℕ) (o : ℤ) → n ≤ 2 ^ 63 → in_cells n o ≡ true → in_i64 o ≡ true
 in_64 n (pos k) l h = let b = ltb-true k n h in lt-ltb k (2 ^ 63) (omega (arith, b, l))
 in_64 n (negsuc k) l h = absurd (false≢true h)
 
-taken_answer : (p : Plan) (zs : List ℤ) → begin_refused p zs ≡ none → (begun_at p zs).answer ≡ Served
-unfolding begun_at
-taken_answer p zs h = rw h
-
 module _ (mc : Machine) (es : List ℕ) (ss : List ℤ) where
   -- the rows before 9 are planning's
-  pub planning_rows_lem : (z : ℤ) (n : ℕ) (r : Refusal) → planning_refused mc es cell_sizes ss ordering ≡ some r → summary_refused mc es ss z n ≡ some r
+  pub planning_rows_lem : (z : ℤ) (n : ℕ) (r : Refusal) → planning_refused mc es cell_sizes ss ordering ≡ Some r → summary_refused mc es ss z n ≡ Some r
   unfolding summary_refused planning_refused
   planning_rows_lem z n r h = rows_refuse (planning_rows mc es cell_sizes ss ordering) (row9 es 1 (stride_row ss (length es)) (z ∷ []) ∷ row22 es (stride_row ss (length es) 0) z n ∷ []) r h
 
-  pub behind_rows : (z : ℤ) (n : ℕ) → planning_refused mc es cell_sizes ss ordering ≡ none
+  pub behind_rows : (z : ℤ) (n : ℕ) → planning_refused mc es cell_sizes ss ordering ≡ None
       → summary_refused mc es ss z n ≡ refused_by (row9 es 1 (stride_row ss (length es)) (z ∷ []) ∷ row22 es (stride_row ss (length es) 0) z n ∷ [])
   unfolding summary_refused planning_refused
   behind_rows z n h = rows_pass (planning_rows mc es cell_sizes ss ordering) (row9 es 1 (stride_row ss (length es)) (z ∷ []) ∷ row22 es (stride_row ss (length es) 0) z n ∷ []) h
 
-  module _ (h : planning_refused mc es cell_sizes ss ordering ≡ none) where
+  module _ (h : planning_refused mc es cell_sizes ss ordering ≡ None) where
     a : Accepted es cell_sizes ss ordering
     a = accepted es cell_sizes ss ordering (planning_layout mc es cell_sizes ss ordering h)
 
@@ -83,12 +76,9 @@ module _ (mc : Machine) (es : List ℕ) (ss : List ℤ) where
     abbrev P : Plan
     P = summary_plan mc es ss
 
-    plan_is : summary_plan mc es ss ≡ plan_from mc es cell_sizes (plan_axes es 1 ss ordering) ordering
-    plan_is = ap (λ (q : Planned). q.plan) (planned_served mc es cell_sizes ss ordering h)
-
     plan_row_lem : plan_row P 0 ≡ row 0 (plan_axes es 1 ss ordering)
     unfolding plan_from
-    plan_row_lem = ap (λ (p : Plan). plan_row p 0) plan_is ∙ table_row (plan_axes es 1 ss ordering) 1 0 (plan_few es cell_sizes ss ordering a) (omega arith) (omega arith)
+    plan_row_lem = table_row (plan_axes es 1 ss ordering) 1 0 (plan_few es cell_sizes ss ordering a) (omega arith) (omega arith)
 
     -- the offset of a plan's index is that of the index of the layout that it stands for
     pub same_offset : (y : List ℕ) → Within (plan_extents (summary_plan mc es ss)) y
@@ -109,10 +99,10 @@ module _ (mc : Machine) (es : List ℕ) (ss : List ℤ) where
         (indices-within P)
 
     -- the walk begins exactly if row 9 passes
-    pub begins_if : (z : ℤ) → begin_refused (summary_plan mc es ss) (z ∷ []) ≡ none → (row9 es 1 (stride_row ss (length es)) (z ∷ [])).applies ≡ false
+    pub begins_if : (z : ℤ) → begin_refused (summary_plan mc es ss) (z ∷ []) ≡ None → (row9 es 1 (stride_row ss (length es)) (z ∷ [])).applies ≡ false
     begins_if z b = (begins_to mc es cell_sizes ss ordering h P.blocks (z ∷ []) b).1
 
-    pub if_begins : (z : ℤ) → (row9 es 1 (stride_row ss (length es)) (z ∷ [])).applies ≡ false → begin_refused (summary_plan mc es ss) (z ∷ []) ≡ none
+    pub if_begins : (z : ℤ) → (row9 es 1 (stride_row ss (length es)) (z ∷ [])).applies ≡ false → begin_refused (summary_plan mc es ss) (z ∷ []) ≡ None
     if_begins z q = begins_from mc es cell_sizes ss ordering h P.blocks (z ∷ []) refl q
 
     -- where row 22 passes row 9 does: the offset of a cell is a number of 64 bits
@@ -135,50 +125,65 @@ module _ (mc : Machine) (es : List ℕ) (ss : List ℤ) where
     pub plan_sized : Sized (summary_plan mc es ss)
     plan_sized =
         let axs = plan_axes es 1 ss ordering in
-        subst Sized (sym plan_is)
-        (record { extents-all = plan_extents_lem mc es cell_sizes axs ordering; blocks_all = plan_blocks_lem mc es cell_sizes axs ordering; strides_all = plan_strides mc es cell_sizes axs ordering })
+        record { extents-all = plan_extents_lem mc es cell_sizes axs ordering; blocks_all = plan_blocks_lem mc es cell_sizes axs ordering; strides_all = plan_strides mc es cell_sizes axs ordering }
 
     -- so all may be met
-    pub summable : (z : ℤ) (cells : List Float) → begin_refused (summary_plan mc es ss) (z ∷ []) ≡ none → outside es ss z (length cells) ≡ false → Summable (summary_plan mc es ss) z cells
+    pub summable : (z : ℤ) (cells : List Float) → begin_refused (summary_plan mc es ss) (z ∷ []) ≡ None → outside es ss z (length cells) ≡ false → Summable (summary_plan mc es ss) z cells
     summable z cells b q = record { sized = plan_sized; begins = b; inside = visits_inside z (length cells) q }
 
     -- the plan as it is made
     pub made_plan : (rank : ℕ) (E B : List ℕ) (S : List ℤ) → Made mc es cell_sizes ss ordering rank E B S → plan_of rank 1 E B S ≡ summary_plan mc es ss
-    made_plan rank E B S m = m.is ∙ sym plan_is
+    made_plan rank E B S m = m.is
 
-    module _ {rank : ℕ} {E B : List ℕ} {S : List ℤ} (m : Made mc es cell_sizes ss ordering rank E B S) (z : ℤ) {b : Begun} (is : b ≡ begun_at (plan_of rank 1 E B S) (z ∷ [])) where
+    -- of the rows of a beginning only 9 can apply
+    begin_is : (z : ℤ) → begin_refused (summary_plan mc es ss) (z ∷ []) ≡ cond (row9 (plan_extents P) P.operands (plan_row P) (z ∷ [])).applies (Some Offsets) None
+    unfolding begin_refused NoneApplies
+    begin_is z =
+        let n : NoneApplies (begin_rows P (zero_starts P)) = none_applies (begin_rows P (zero_starts P)) (planned_begins mc es cell_sizes ss ordering h) in
+        let one : not (eqb 1 P.operands) ≡ false = ap (λ (m : ℕ). not (eqb 1 m)) (planned_operands mc es cell_sizes ss ordering h) in
+        rw (n.0, n.1.0, n.1.1.0, n.1.1.1.0, one)
+
+    only_offsets : (z : ℤ) (r : Refusal) → begin_refused (summary_plan mc es ss) (z ∷ []) ≡ Some r → r ≡ Offsets
+    only_offsets z r q = go (row9 (plan_extents P) P.operands (plan_row P) (z ∷ [])).applies (sym (begin_is z) ∙ q)
+      where
+        go : (b : Bool) → cond b (Some Offsets) None ≡ Some r → r ≡ Offsets
+        go true e = cc e
+        go false e = cc e
+
+    -- a walk that begins, and one that does not
+    module _ {rank : ℕ} {E B : List ℕ} {S : List ℤ} (m : Made mc es cell_sizes ss ordering rank E B S) (z : ℤ) {b : Result Walk Refusal} (is : b ≡ begun_at (plan_of rank 1 E B S) (z ∷ [])) where
       of_plan : b ≡ begun_at (summary_plan mc es ss) (z ∷ [])
       of_plan = is ∙ ap (λ (p : Plan). begun_at p (z ∷ [])) (made_plan rank E B S m)
 
-      -- a beginning that is taken, and one that is not
-      pub begun_taken : b.answer ≡ Served → begin_refused (summary_plan mc es ss) (z ∷ []) ≡ none
+      pub begun_taken : {w : Walk} → b ≡ Ok w → begin_refused (summary_plan mc es ss) (z ∷ []) ≡ None
       unfolding begun_at
-      begun_taken q = served_walk (begin_refused P (z ∷ [])) _ (sym (ap (λ (x : Begun). x.answer) of_plan) ∙ q)
+      begun_taken q = served_none (begin_refused P (z ∷ [])) _ (sym of_plan ∙ q)
 
-      pub begun-refused : {r : Refusal} → b.answer ≡ Refused r → (row9 es 1 (stride_row ss (length es)) (z ∷ [])).applies ≡ true
-      begun-refused {r} q = go (row9 es 1 (stride_row ss (length es)) (z ∷ [])).applies refl
+      pub begun-refused : {r : Refusal} → b ≡ Err r → (r ≡ Offsets) × ((row9 es 1 (stride_row ss (length es)) (z ∷ [])).applies ≡ true)
+      unfolding begun_at
+      begun-refused {r} q = (only_offsets z r some, go (row9 es 1 (stride_row ss (length es)) (z ∷ [])).applies refl)
         where
+          some : begin_refused (summary_plan mc es ss) (z ∷ []) ≡ Some r
+          some = refused_some (begin_refused P (z ∷ [])) _ (sym of_plan ∙ q)
+
           go : (t : Bool) → (row9 es 1 (stride_row ss (length es)) (z ∷ [])).applies ≡ t → (row9 es 1 (stride_row ss (length es)) (z ∷ [])).applies ≡ true
           go true e = e
-          go false e =
-              let n : b.answer ≡ Served = ap (λ (x : Begun). x.answer) of_plan ∙ taken_answer P (z ∷ []) (if_begins z e) in
-              let y : ◌≡◌ {A = ℕ} 0 1 = cc (n, q) in
-              absurd (omega arith)
+          go false e = let n : None ≡ Some r = sym (if_begins z e) ∙ some in cc n
 
     -- ---- what is answered
 
     module _ (z : ℤ) (cells : List Float) where
-      pub refused_9 : (row9 es 1 (stride_row ss (length es)) (z ∷ [])).applies ≡ true → summary_refused mc es ss z (length cells) ≡ some Offsets
+      pub refused_9 : (row9 es 1 (stride_row ss (length es)) (z ∷ [])).applies ≡ true → summary_refused mc es ss z (length cells) ≡ Some Offsets
       refused_9 q = behind_rows z (length cells) h ∙ rw q
 
       module _ (nine : (row9 es 1 (stride_row ss (length es)) (z ∷ [])).applies ≡ false) where
-        behind_9 : (b : Bool) → outside es ss z (length cells) ≡ b → summary_refused mc es ss z (length cells) ≡ cond b (some Slice) none
+        behind_9 : (b : Bool) → outside es ss z (length cells) ≡ b → summary_refused mc es ss z (length cells) ≡ cond b (Some Slice) None
         behind_9 b q = behind_rows z (length cells) h ∙ rw (nine, one-row, q)
 
-        pub refused_22 : outside es ss z (length cells) ≡ true → summary_refused mc es ss z (length cells) ≡ some Slice
+        pub refused_22 : outside es ss z (length cells) ≡ true → summary_refused mc es ss z (length cells) ≡ Some Slice
         refused_22 = behind_9 true
 
-        pub not-refused : outside es ss z (length cells) ≡ false → summary_refused mc es ss z (length cells) ≡ none
+        pub not-refused : outside es ss z (length cells) ≡ false → summary_refused mc es ss z (length cells) ≡ None
         not-refused = behind_9 false
 
 -- all cells of the plan's walk, met
@@ -186,13 +191,13 @@ pub all_summed : (mc : Machine) (es : List ℕ) (ss : List ℤ) (z : ℤ) (cells
 unfolding summary_of visits
 all_summed mc es ss z cells = refl
 
-pub refused_with : (mc : Machine) (es : List ℕ) (ss : List ℤ) (z : ℤ) (cells : List Float) (r : Refusal) → summary_refused mc es ss z (length cells) ≡ some r
-    → {x : Summarized} (s : Summary) → x ≡ summarized_or (some r) s → x ≡ summarized mc es ss z cells
+pub refused_with : (mc : Machine) (es : List ℕ) (ss : List ℤ) (z : ℤ) (cells : List Float) (r : Refusal) → summary_refused mc es ss z (length cells) ≡ Some r
+    → Err r ≡ summarized mc es ss z cells
 unfolding summarized
-refused_with mc es ss z cells r h s e = e ∙ ap (λ (o : Option Refusal). summarized_or o (summary_of (cells_met mc es ss z cells))) (sym h)
+refused_with mc es ss z cells r h = ap (λ (o : Option Refusal). served_unless o (summary_of (cells_met mc es ss z cells))) (sym h)
 
-pub served_with : (mc : Machine) (es : List ℕ) (ss : List ℤ) (z : ℤ) (cells : List Float) → summary_refused mc es ss z (length cells) ≡ none
-    → {x : Summarized} (s : Summary) → x ≡ summarized_or none s → s ≡ summary_of (cells_met mc es ss z cells) → x ≡ summarized mc es ss z cells
+pub served_with : (mc : Machine) (es : List ℕ) (ss : List ℤ) (z : ℤ) (cells : List Float) → summary_refused mc es ss z (length cells) ≡ None
+    → {s : Summary} → s ≡ summary_of (cells_met mc es ss z cells) → Ok s ≡ summarized mc es ss z cells
 unfolding summarized
-served_with mc es ss z cells h s e q =
-    e ∙ ap (summarized_or none) q ∙ ap (λ (o : Option Refusal). summarized_or o (summary_of (cells_met mc es ss z cells))) (sym h)
+served_with mc es ss z cells h q =
+    ap (λ (s : Summary). Ok s) q ∙ ap (λ (o : Option Refusal). served_unless o (summary_of (cells_met mc es ss z cells))) (sym h)

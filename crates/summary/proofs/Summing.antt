@@ -13,7 +13,7 @@ use borrow.Author.Tests.{ltb-false}
 use Rattle.strided.specs.Base.{over}
 use Rattle.strided.specs.Layout.{has_zero, total, max_u}
 use Rattle.strided.specs.Walk.{counters, block_at}
-use Rattle.strided.specs.Begin.{plan_extents, begin_rows, begin_refused, begun_at}
+use Rattle.strided.specs.Begin.{plan_extents, begin_rows, begin_refused, started}
 use Rattle.strided.specs.Step.{plan_cut_axes}
 use Rattle.strided.specs.Memory.{plan_of, walk_of}
 use Rattle.strided.specs.declared.Plan.{Plan}
@@ -97,9 +97,8 @@ module _ {p : Plan} {z : ℤ} {cells : List Float} (h : Summable p z cells) wher
       let d = total_fits in
       omega (arith, a, b, c, d)
 
-  begun : {ended : Bool} → ended ≡ has_zero (plan_extents p) → first_of z ended ≡ (begun_at p (z ∷ [])).walk
-  unfolding begun_at
-  begun e = rw h.begins (λ i. record { ended = e i; counters = replicate 64 0; offsets = z ∷ replicate 7 (pos 0) })
+  begun : {ended : Bool} → ended ≡ has_zero (plan_extents p) → first_of z ended ≡ started p (z ∷ [])
+  begun e = λ i. record { ended = e i; counters = replicate 64 0; offsets = z ∷ replicate 7 (pos 0) }
 
   -- it has no block
   pub no_blocks : true ≡ has_zero (plan_extents p) → placed_walk p (z ∷ []) ≡ []

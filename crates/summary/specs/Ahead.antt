@@ -1,8 +1,7 @@
 -- What the loops over cells ask: the cells that are ahead of a summary lie in the slice, and its count has room for them. And the offsets of a
 -- run, and of rows of runs, as the loops go through them.
 -- Assumes nothing.
-use Rattle.std.specs.Prelude.{◌≡◌, true, List, [], ◌∷◌, ◌++◌, map, ℕ, zero, suc, ◌+◌, ◌^◌, ◌≤◌, ◌<◌, ℤ, pos, ◌+ℤ◌, ◌*ℤ◌, Float, length}
-use Rattle.std.proofs.Math.Option.{none}
+use Rattle.std.specs.Prelude.{◌≡◌, true, List, [], ◌∷◌, ◌++◌, map, ℕ, zero, suc, ◌+◌, ◌^◌, ◌≤◌, ◌<◌, ℤ, pos, ◌+ℤ◌, ◌*ℤ◌, Float, length, None}
 use Rattle.std.specs.Int.{w64}
 use Rattle.std.proofs.Common.{SFits}
 use Rattle.laws.specs.Base.Lists.{All}
@@ -45,5 +44,5 @@ RunsFit o d c = (j : ℕ) → j < c → SFits w64 (o +ℤ pos j *ℤ d)
 -- what the walk of a plan asks: the plan is one as a value has it, its walk begins at the start z, and each cell that it meets lies in the slice
 pub record Summable (p : Plan) (z : ℤ) (cells : List Float) : Type 0 where
   pub sized : Sized p
-  pub begins : begin_refused p (z ∷ []) ≡ none
+  pub begins : begin_refused p (z ∷ []) ≡ None
   pub inside : AllIn cells (visits_of p z)

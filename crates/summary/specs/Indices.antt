@@ -1,13 +1,13 @@
 -- THE INDICES THAT ARE MET: each index of the plan exactly once, whatever the blocks; so as many visits as the layout has cells. Assumes nothing.
-use Rattle.std.specs.Prelude.{◌≡◌, refl, List, [], ◌∷◌, ◌++◌, map, ℕ, zero, suc, ◌+◌, ◌≤◌, ◌<◌, ℤ, length, take}
-use Rattle.std.proofs.Common.{sym, ap, ap₂, ◌∙◌, subst, add-zero, arith, length-append}
+use Rattle.std.specs.Prelude.{◌≡◌, refl, List, [], ◌∷◌, ◌++◌, map, ℕ, zero, suc, ◌+◌, ◌<◌, ℤ, length}
+use Rattle.std.proofs.Common.{ap, ap₂, ◌∙◌, subst, add-zero, arith, length-append}
 use Rattle.std.proofs.lemmas.List.{length-map}
 use Rattle.strided.specs.Base.{over, run}
 use Rattle.strided.specs.Layout.{Within, total}
-use Rattle.strided.specs.Walk.{CutAxis, ax, Block, block, cut_axes, tiles, inner, in_tile, counters, length_at, block_at, blocks_of, cell_at}
+use Rattle.strided.specs.Walk.{CutAxis, ax, Block, block, tiles, inner, in_tile, counters, length_at, block_at, blocks_of, cell_at}
 use Rattle.strided.specs.Begin.{plan_extents, plan_blocks}
 use Rattle.strided.specs.Step.{plan_cut_axes}
-use Rattle.strided.specs.Text.{cells_in, cells_of, plan_walk}
+use Rattle.strided.specs.Text.{cells_of, plan_walk}
 use Rattle.strided.specs.declared.Plan.{Plan}
 use Rattle.laws.specs.Base.Counting.{same_list_refl, count}
 use Rattle.laws.specs.Base.Lists.{All, all_unit, all_map, all-over, length_run}

@@ -1,18 +1,15 @@
 -- What a summary is refused for, and what the entry answers. "The entry takes extents, that operand's strides and a start; operand count and
 -- size are no input, and row 3 reads one operand"; "22: a cell outside the slice; after 9".
 -- Assumes nothing.
-use Rattle.std.specs.Prelude.{List, [], ◌∷◌, map, ℕ, ℤ, Float, length}
-use Rattle.std.proofs.Math.Option.{Option, none, some}
+use Rattle.std.specs.Prelude.{List, [], ◌∷◌, map, ℕ, ℤ, Float, length, Option, Result}
 use Rattle.strided.specs.Layout.{stride_row}
-use Rattle.strided.specs.Refusals.{Row, refused_by, row1, row3, row5, row6, row9, row24}
+use Rattle.strided.specs.Refusals.{Row, refused_by, row1, row3, row5, row6, row9, row24, served_unless}
 use Rattle.strided.specs.declared.Machine.{Machine}
 use Rattle.strided.specs.declared.Refusal.{Refusal}
 use Rattle.strided.specs.declared.Refusal.TheVariants.{Slice}
-use Rattle.strided.specs.declared.Answer.TheVariants.{Served, Refused}
 use Rattle.span.specs.Span.{outside}
 use Rattle.summary.specs.declared.cell.Summary.{Summary}
-use Rattle.summary.specs.declared.Summarized.{Summarized}
-use Rattle.summary.specs.Sums.{nothing_met, summary_of}
+use Rattle.summary.specs.Sums.{summary_of}
 use Rattle.summary.specs.Visits.{visits, cell_of}
 
 -- 22, "a cell outside the slice": the offset of some index is that of none of the slice's n cells. At a zero extent there is no index
@@ -29,15 +26,10 @@ summary_rows mc es ss z n =
 unfoldable pub summary_refused : Machine → List ℕ → List ℤ → ℤ → ℕ → Option Refusal
 summary_refused mc es ss z n = refused_by (summary_rows mc es ss z n)
 
--- "A refusal carries its number and nothing else": the summary beside it is that of no cell
-abbrev pub summarized_or : Option Refusal → Summary → Summarized
-summarized_or none s = record { answer = Served; summary = s }
-summarized_or (some r) s = record { answer = Refused r; summary = nothing_met }
-
 -- the cells that are met, in order
 abbrev pub cells_met : Machine → List ℕ → List ℤ → ℤ → List Float → List Float
 cells_met mc es ss z cells = map (cell_of cells) (visits mc es ss z)
 
--- THE SUMMARY of the operand's cells, in the order of its plan
-unfoldable pub summarized : Machine → List ℕ → List ℤ → ℤ → List Float → Summarized
-summarized mc es ss z cells = summarized_or (summary_refused mc es ss z (length cells)) (summary_of (cells_met mc es ss z cells))
+-- THE SUMMARY of the operand's cells, in the order of its plan: "A refusal carries its number and nothing else."
+unfoldable pub summarized : Machine → List ℕ → List ℤ → ℤ → List Float → Result Summary Refusal
+summarized mc es ss z cells = served_unless (summary_refused mc es ss z (length cells)) (summary_of (cells_met mc es ss z cells))

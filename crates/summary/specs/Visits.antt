@@ -7,7 +7,7 @@ use Rattle.strided.specs.Base.{over, run}
 use Rattle.strided.specs.Layout.{dot}
 use Rattle.strided.specs.Walk.{Block, block, cell_at}
 use Rattle.strided.specs.Begin.{plan_row}
-use Rattle.strided.specs.Plan.{planned}
+use Rattle.strided.specs.Plan.{the_plan}
 use Rattle.strided.specs.Text.{plan_walk}
 use Rattle.strided.specs.declared.Machine.{Machine}
 use Rattle.strided.specs.declared.Purpose.{Purpose}
@@ -23,7 +23,7 @@ ordering = Fold 0
 
 -- THE PLAN that orders the cells
 abbrev pub summary_plan : Machine → List ℕ → List ℤ → Plan
-summary_plan mc es ss = (planned mc es cell_sizes ss ordering).plan
+summary_plan mc es ss = the_plan mc es cell_sizes ss ordering
 
 -- the plan indices of a block's cells, in order: "cell k of the block has k more on axis 0"
 abbrev pub indices_in : Block → List (List ℕ)

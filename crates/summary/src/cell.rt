@@ -1,9 +1,10 @@
 // A summary of f64 cells, and what one more cell makes of it. It is a value: a loop over cells hands it on from cell to cell, in registers.
 ghost use Rattle.std.specs.Prelude.{◌≡◌, ◌<◌, ◌≤◌, ◌^◌, ◌-◌};
-ghost use Rattle.std.specs.Float.Ieee.{is_nan};
 ghost use Rattle.summary.specs.Sums.{nothing_met, lesser, greater, with_cell};
 
 // `count` cells, of which `nans` are not a number. Without `extremes` least and greatest are +0.0.
+// Kept: least and greatest beside a yes or no. Document 02 has both +0.0 where there are none, and a group of cells is held against both
+// without a branch.
 #[derive(Clone, Copy)]
 pub struct Summary {
     pub sum: f64,
@@ -28,14 +29,8 @@ pub fn nothing_met() -> Summary
     }
 }
 
-// What is not a number, and nothing else, differs from itself.
-fn is_nan(x: f64) -> bool
-    ensures { result ≡ is_nan x }
-{
-    x != x
-}
-
 // x where it is strictly smaller.
+// Kept: `f64::min` leaves open which zero of two is the less.
 fn lesser(x: f64, least: f64) -> f64
     ensures { result ≡ lesser x least }
 {
@@ -43,6 +38,7 @@ fn lesser(x: f64, least: f64) -> f64
 }
 
 // x where it is strictly greater.
+// Kept: `f64::max` leaves open which zero of two is the greater.
 fn greater(x: f64, greatest: f64) -> f64
     ensures { result ≡ greater x greatest }
 {
@@ -56,7 +52,7 @@ pub fn with_cell(s: Summary, x: f64) -> Summary
 {
     let sum = s.sum + x;
     let count = s.count + 1;
-    if is_nan(x) {
+    if x.is_nan() {
         return Summary {
             sum,
             least: s.least,

@@ -1,7 +1,6 @@
 // The cells of a run, and of a stretch of blocks, met in order. Where there are extremes and the next cells all lie between them, those cells
 // only add to the sum: then the one thing that a cell waits for is the addition of the cell before it.
-ghost use Rattle.std.specs.Prelude.{◌≡◌, true, ◌<◌, ◌≤◌, T, nat_abs, ◌+ℤ◌, length};
-ghost use Rattle.std.specs.Int.Signed.{non_neg};
+ghost use Rattle.std.specs.Prelude.{◌≡◌, true, ◌<◌, ◌≤◌, ◌+ℤ◌, length};
 ghost use Rattle.std.specs.Int.{w64};
 ghost use Rattle.std.proofs.Common.{SFits};
 ghost use Rattle.span.specs.Span.{in_cells};
@@ -10,23 +9,13 @@ ghost use Rattle.summary.specs.Ahead.{run_from, rows_from, Ahead, met, RunsFit};
 ghost use Rattle.summary.specs.Parts.{between, group, Grouped, Went};
 
 use super::cell::{Summary, with_cell};
-use layout::sizes::least;
-
-// An offset that is not negative, as a place in the slice.
-fn place_of(o: i64) -> usize
-    requires { T (non_neg o) }
-    ensures { result ≡ nat_abs o }
-{
-    o as usize
-}
 
 // The cell at an offset that lies in the slice.
 fn cell_at(cells: &[f64], o: i64) -> f64
     requires { in_cells (length cells.now) o ≡ true }
     ensures { result ≡ cell_of cells.now o }
 {
-    let i = place_of(o);
-    cells[i]
+    cells[o as usize]
 }
 
 // An offset and how far it moves.
@@ -50,38 +39,6 @@ const GROUP: u64 = 8;
 // So many are met one by one where a group is not quiet: a processor that guesses wrong at every other group loses more than the groups save.
 const SINGLE: u64 = 64;
 
-// A group of cells: what the sum is with them, whether there are extremes and each cell lies between them, and the last one's offset.
-#[derive(Clone, Copy)]
-struct Group {
-    sum: f64,
-    quiet: bool,
-    last: i64,
-}
-
-// The group behind the cell at `last`.
-fn group_behind(s: Summary, cells: &[f64], last: i64, stride: i64) -> Group
-    requires { Ahead cells.now s (run_from (last +ℤ stride) stride group) }
-    ensures { Grouped cells.now s last stride result }
-{
-    let mut sum = s.sum;
-    let mut quiet = s.extremes;
-    let mut o = last;
-    let mut k: u64 = 0;
-    while k < GROUP {
-        o = moved(o, stride);
-        let x = cell_at(cells, o);
-        let lies = between(s.least, x, s.greatest);
-        quiet = quiet & lies;
-        sum = sum + x;
-        k += 1;
-    }
-    Group {
-        sum,
-        quiet,
-        last: o,
-    }
-}
-
 // Cells of a run that are met: how many, what they make of the summary, and the last one's offset.
 #[derive(Clone, Copy)]
 struct Part {
@@ -90,7 +47,41 @@ struct Part {
     last: i64,
 }
 
-// The same summary, made field by field. A copy of the whole would carry the bytes between the fields along from turn to turn, through memory.
+// The group behind the cell at `last`, if there are extremes and each of its cells lies between them.
+fn group_behind(s: Summary, cells: &[f64], last: i64, stride: i64) -> Option<Part>
+    requires { Ahead cells.now s (run_from (last +ℤ stride) stride group) }
+    ensures { Grouped cells.now s last stride result }
+{
+    let mut sum = s.sum;
+    let mut quiet = s.extremes;
+    let mut o = last;
+    for _k in 0..GROUP {
+        o = moved(o, stride);
+        let x = cell_at(cells, o);
+        let lies = between(s.least, x, s.greatest);
+        quiet &= lies;
+        sum += x;
+    }
+    if !quiet {
+        return None;
+    }
+    let summary = Summary {
+        sum,
+        least: s.least,
+        greatest: s.greatest,
+        count: s.count + GROUP,
+        nans: s.nans,
+        extremes: s.extremes,
+    };
+    Some(Part {
+        summary,
+        met: GROUP,
+        last: o,
+    })
+}
+
+// The same summary, made field by field.
+// Kept: a copy of the whole would carry the bytes between the fields along from turn to turn, through memory.
 fn anew(s: Summary) -> Summary
     ensures { result ≡ s }
 {
@@ -111,12 +102,10 @@ fn cells_behind(s: Summary, cells: &[f64], last: i64, stride: i64, n: u64) -> Pa
 {
     let mut t = s;
     let mut o = last;
-    let mut k: u64 = 0;
-    while k < n {
+    for _k in 0..n {
         o = moved(o, stride);
         let x = cell_at(cells, o);
         t = with_cell(t, x);
-        k += 1;
     }
     Part {
         summary: anew(t),
@@ -131,24 +120,11 @@ fn part_behind(s: Summary, cells: &[f64], last: i64, stride: i64, left: u64) -> 
     ensures { (0 < result.met) × (result.met ≤ left) × Went cells.now s last stride result.met result }
 {
     if GROUP <= left {
-        let g = group_behind(s, cells, last, stride);
-        if g.quiet {
-            return Part {
-                summary: Summary {
-                    sum: g.sum,
-                    least: s.least,
-                    greatest: s.greatest,
-                    count: s.count + GROUP,
-                    nans: s.nans,
-                    extremes: s.extremes,
-                },
-                met: GROUP,
-                last: g.last,
-            };
+        if let Some(group) = group_behind(s, cells, last, stride) {
+            return group;
         }
     }
-    let n = least(left, SINGLE);
-    cells_behind(s, cells, last, stride, n)
+    cells_behind(s, cells, last, stride, left.min(SINGLE))
 }
 
 // `n` cells from `first` on, `stride` apart, part by part where there is a group. The first one stands before the loop: the move behind the
@@ -190,11 +166,9 @@ fn with_rows(
 {
     let mut t = s;
     let mut o = first;
-    let mut j: u64 = 0;
-    while j < count {
+    for j in 0..count {
         t = with_run(t, cells, o, stride, n);
-        j += 1;
-        if j < count {
+        if j + 1 < count {
             o = moved(o, by);
         }
     }

@@ -3,7 +3,7 @@
 use mathlib.Core.Path.{◌≡◌, refl, sym, ap, ◌∙◌, subst}
 use mathlib.Core.Bool.{Bool, true, false}
 use mathlib.Core.List.{List, [], ◌∷◌}
-use mathlib.Core.Option.{Option, none, some}
+use Rattle.std.specs.Prelude.{Option, None, Some}
 use Prim.Native.Nat.{ℕ, ◌*◌, ◌≤◌}
 use native.Mathlib.Nat.{mul-le-mul_right}
 use native.Mathlib.Omega.{arith}
@@ -16,17 +16,14 @@ use Rattle.strided.specs.Layout.{total}
 use Rattle.strided.specs.Refusals.{refused_by, row1, row2, layout_refused, planning_refused}
 use Rattle.strided.specs.Machine.{fixed_four}
 use Rattle.strided.specs.Fuse.{plan_axes}
-use Rattle.strided.specs.Plan.{planned}
 use Rattle.strided.specs.Begin.{begin_refused}
 use Rattle.strided.specs.Text.{Parsed, InForm, Listing, sizes_of, strides_of, printed, printed_of, row13, row14, refusing, listing_or, text_refused, listed, zero_starts}
 use Rattle.strided.specs.Memory.{plan_of}
 use Rattle.strided.specs.declared.Purpose.{Purpose}
-use Rattle.strided.specs.declared.Planned.{Planned}
 use Rattle.strided.specs.declared.Plan.{Plan}
 use Rattle.strided.specs.declared.Refusal.{Refusal}
 use Rattle.strided.specs.declared.Refusal.TheVariants.{Rank, Operands, TextTotal}
 use Rattle.laws.specs.Base.Tests.{or_none}
-use Rattle.laws.specs.Plan.Answers.{planned_served}
 use Rattle.laws.specs.Plan.Places.{plan_extents_lem, plan_blocks_lem, plan_strides}
 use Rattle.laws.specs.Refusals.Record.{planning_fixed}
 use Rattle.laws.specs.Text.Begins.{planned_begins}
@@ -46,13 +43,10 @@ answering {room = room} e h = (λ i. record { answer = e i; room = room }) ∙ h
 
 -- ---- a layout that rows 1 to 6 let through
 
-module _ (es sizes : List ℕ) (ss : List ℤ) (u : Purpose) (h : layout_refused es sizes ss u ≡ none) where
+module _ (es sizes : List ℕ) (ss : List ℤ) (u : Purpose) (h : layout_refused es sizes ss u ≡ None) where
   -- planning with the fixed four lets it through too
-  passed : planning_refused fixed_four es sizes ss u ≡ none
+  passed : planning_refused fixed_four es sizes ss u ≡ None
   passed = planning_fixed es sizes ss u ∙ h
-
-  plan_is : (rank : ℕ) (E B : List ℕ) (S : List ℤ) → Made fixed_four es sizes ss u rank E B S → plan_of rank (length sizes) E B S ≡ (planned fixed_four es sizes ss u).plan
-  plan_is rank E B S m = m.is ∙ sym (ap (λ (r : Planned). r.plan) (planned_served fixed_four es sizes ss u passed))
 
   -- the plan made is one that is written
   pub made_printable : (rank : ℕ) (E B : List ℕ) (S : List ℤ) → Made fixed_four es sizes ss u rank E B S → Printable (plan_of rank (length sizes) E B S)
@@ -62,27 +56,27 @@ module _ (es sizes : List ℕ) (ss : List ℤ) (u : Purpose) (h : layout_refused
         sized =
             subst Sized (sym m.is)
             (record { extents-all = plan_extents_lem fixed_four es sizes axs u; blocks_all = plan_blocks_lem fixed_four es sizes axs u; strides_all = plan_strides fixed_four es sizes axs u });
-        begins = subst (λ (p : Plan). begin_refused p (zero_starts p) ≡ none) (sym (plan_is rank E B S m)) (planned_begins fixed_four es sizes ss u passed);
+        begins = subst (λ (p : Plan). begin_refused p (zero_starts p) ≡ None) (sym m.is) (planned_begins fixed_four es sizes ss u passed);
       }
 
   -- and its listing is the layout's
   pub made-listed : (rank : ℕ) (E B : List ℕ) (S : List ℤ) → Made fixed_four es sizes ss u rank E B S → (room : List ℕ) {z : ℤ} {new : List ℕ}
       → z ≡ (listed_in (plan_of rank (length sizes) E B S) room).answer → new ≡ (listed_in (plan_of rank (length sizes) E B S) room).room
       → record { answer = z; room = new } ≡ listed_served es sizes ss u room
-  made-listed rank E B S m room e f = (λ i. record { answer = e i; room = f i }) ∙ ap (λ (p : Plan). listed_in p room) (plan_is rank E B S m)
+  made-listed rank E B S m room e f = (λ i. record { answer = e i; room = f i }) ∙ ap (λ (p : Plan). listed_in p room) m.is
 
 -- ---- a layout
 
 module _ (es sizes : List ℕ) (ss : List ℤ) (u : Purpose) (room : List ℕ) where
-  pub layout_refused_lem : (r : Refusal) → layout_refused es sizes ss u ≡ some r → refusing r room ≡ listed_layout es sizes ss u room
+  pub layout_refused_lem : (r : Refusal) → layout_refused es sizes ss u ≡ Some r → refusing r room ≡ listed_layout es sizes ss u room
   unfolding listed_layout
   layout_refused_lem r e = rw e
 
-  pub layout_total : layout_refused es sizes ss u ≡ none → leb (total es) 1048576 ≡ false → refusing TextTotal room ≡ listed_layout es sizes ss u room
+  pub layout_total : layout_refused es sizes ss u ≡ None → leb (total es) 1048576 ≡ false → refusing TextTotal room ≡ listed_layout es sizes ss u room
   unfolding listed_layout
   layout_total e t = rw (e, lt-ltb 1048576 (total es) (leb-false (total es) 1048576 t))
 
-  pub layout_served : layout_refused es sizes ss u ≡ none → leb (total es) 1048576 ≡ true → listed_served es sizes ss u room ≡ listed_layout es sizes ss u room
+  pub layout_served : layout_refused es sizes ss u ≡ None → leb (total es) 1048576 ≡ true → listed_served es sizes ss u room ≡ listed_layout es sizes ss u room
   unfolding listed_layout printed
   layout_served e t = rw (e, le-ltb 1048576 (total es) (leb-true (total es) 1048576 t))
 

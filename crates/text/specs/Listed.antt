@@ -1,11 +1,10 @@
 -- The listing of a layout and of numbers in arrays: the rows of the text entry, taken apart as its functions check them.
 -- Assumes nothing.
-use Rattle.std.specs.Prelude.{◌≡◌, List, [], ◌∷◌, ℕ, ◌*◌, ℤ, length, take}
-use Rattle.std.proofs.Math.Option.{Option, none, some}
+use Rattle.std.specs.Prelude.{◌≡◌, List, [], ◌∷◌, ℕ, ◌*◌, ℤ, length, take, Option, None, Some}
 use Rattle.strided.specs.Base.{first}
 use Rattle.strided.specs.Refusals.{refused_by, row1, row2, layout_refused}
 use Rattle.strided.specs.Machine.{fixed_four}
-use Rattle.strided.specs.Plan.{planned}
+use Rattle.strided.specs.Plan.{the_plan}
 use Rattle.strided.specs.Text.{Listing, printed, row13, row14, refusing, listing_or}
 use Rattle.strided.specs.declared.Purpose.{Purpose}
 use Rattle.strided.specs.declared.Refusal.{Refusal}
@@ -13,7 +12,7 @@ use Rattle.writing.specs.Plan.{listed_in}
 
 -- a layout that rows 1 to 6 and 13 let through: the output of its plan for the fixed four, if there is room
 abbrev pub listed_served : List ℕ → List ℕ → List ℤ → Purpose → List ℕ → Listing
-listed_served es sizes ss u room = listed_in (planned fixed_four es sizes ss u).plan room
+listed_served es sizes ss u room = listed_in (the_plan fixed_four es sizes ss u) room
 
 -- rows 1 to 6, then 13, then 14
 unfoldable pub listed_layout : List ℕ → List ℕ → List ℤ → Purpose → List ℕ → Listing
@@ -27,8 +26,8 @@ pub record Places (es sizes : List ℕ) (ss : List ℤ) : Type 0 where
   pub all : length ss ≡ 512
 
 abbrev pub refused_or : Option Refusal → Listing → List ℕ → Listing
-refused_or none l room = l
-refused_or (some r) l room = refusing r room
+refused_or None l room = l
+refused_or (Some r) l room = refusing r room
 
 -- rows 1 and 2 of the counts, then the layout in the counted places
 unfoldable pub listed_numbers : ℕ → ℕ → List ℕ → List ℕ → List ℤ → Purpose → List ℕ → Listing

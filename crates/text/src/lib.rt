@@ -2,8 +2,7 @@
 // byte is written, and its output is measured first, so that a refusal leaves every lent byte as it was.
 #![tactic(auto)]
 
-ghost use Rattle.std.specs.Prelude.{◌≡◌};
-ghost use Rattle.std.proofs.Math.Option.{none};
+ghost use Rattle.std.specs.Prelude.{◌≡◌, None};
 ghost use Rattle.strided.specs.Refusals.{layout_refused};
 ghost use Rattle.strided.specs.Text.{Lists};
 ghost use Rattle.text.specs.Listed.{Places, listed_served, listed_layout, listed_numbers};
@@ -11,8 +10,8 @@ ghost use Rattle.text.specs.Listed.{Places, listed_served, listed_layout, listed
 use kernel::{Aim, plan_into};
 use l1::L1Sets;
 use layout::{check_layout, negated, operands_wrong, rank_over, total_at_most};
-use reading::{Said, read_text};
-use strided::{Answer, Machine, Purpose, Refusal};
+use reading::read_text;
+use strided::{Machine, Purpose, Refusal};
 use writing::list;
 
 // "total above 1,048,576 in text": so many cells at most.
@@ -26,7 +25,7 @@ fn list_served<'a>(
     purpose: Purpose,
     room: &mut [u8],
 ) -> i64
-    requires { layout_refused extents.now sizes.now strides.now purpose ≡ none }
+    requires { layout_refused extents.now sizes.now strides.now purpose ≡ None }
     ensures { record { answer = result; room = room.new }
         ≡ listed_served extents.now sizes.now strides.now purpose room.old }
 {
@@ -63,15 +62,13 @@ fn list_layout<'a>(
     ensures { record { answer = result; room = room.new }
         ≡ listed_layout extents.now sizes.now strides.now purpose room.old }
 {
-    match check_layout(extents, sizes, strides, purpose) {
-        Answer::Refused(refusal) => negated(refusal),
-        Answer::Served => {
-            if total_at_most(extents, MAX_TOTAL) {
-                return list_served(extents, sizes, strides, purpose, room);
-            }
-            negated(Refusal::TextTotal)
-        }
+    if let Err(refusal) = check_layout(extents, sizes, strides, purpose) {
+        return negated(refusal);
     }
+    if !total_at_most(extents, MAX_TOTAL) {
+        return negated(Refusal::TextTotal);
+    }
+    list_served(extents, sizes, strides, purpose, room)
 }
 
 // Lists the layout whose numbers stand in arrays of 64, 8 and 512 places. A rank or a count of operands that has no places there is above
@@ -113,9 +110,15 @@ pub fn walklist(text: &[u8], room: &mut [u8]) -> i64
     let mut sizes = [0u64; 8];
     let mut strides = [0i64; 512];
     match read_text(text, &mut extents, &mut sizes, &mut strides) {
-        Said::Layout(purpose, rank, operands) => list_numbers(
-            rank, operands, &extents, &sizes, &strides, purpose, room,
+        Ok(said) => list_numbers(
+            said.rank,
+            said.operands,
+            &extents,
+            &sizes,
+            &strides,
+            said.purpose,
+            room,
         ),
-        Said::Unformed => negated(Refusal::Form),
+        Err(_) => negated(Refusal::Form),
     }
 }

@@ -3,7 +3,7 @@
 use mathlib.Core.Path.{◌≡◌, refl, sym, ap, ap₂, ◌∙◌, subst}
 use mathlib.Core.Bool.{Bool, true, false}
 use mathlib.Core.List.{List, [], ◌∷◌}
-use mathlib.Core.Option.{none, some}
+use Rattle.std.specs.Prelude.{None, Some, Ok, Err, Result}
 use Prim.Native.Nat.{ℕ, ◌^◌, ◌≤◌, ◌<◌}
 use native.Mathlib.Omega.{arith}
 use lib.Dec.{ltb}
@@ -15,12 +15,10 @@ use Rattle.strided.specs.Refusals.{refused_by, row1, row2, layout_refused}
 use Rattle.strided.specs.Index.{told_original}
 use Rattle.strided.specs.Begin.{plan_extents, begin_rows, begin_refused}
 use Rattle.strided.specs.Step.{plan_cut_axes, not_stepped, step_rows, stepped}
-use Rattle.strided.specs.Memory.{index_at, index_memory, kept, StepMemory, step_memory, kept_step, Steps}
+use Rattle.strided.specs.Memory.{index_at, index_memory, StepMemory, step_memory, kept_step, Steps}
 use Rattle.strided.specs.declared.Purpose.{Purpose}
 use Rattle.strided.specs.declared.Refusal.{Refusal}
 use Rattle.strided.specs.declared.Refusal.TheVariants.{State}
-use Rattle.strided.specs.declared.Answer.{Answer}
-use Rattle.strided.specs.declared.Answer.TheVariants.{Served, Refused}
 use Rattle.strided.specs.declared.Outcome.{Outcome}
 use Rattle.strided.specs.declared.Outcome.TheVariants.{Block, Ended, Rejected}
 use Rattle.strided.specs.declared.Plan.{Plan}
@@ -42,7 +40,7 @@ use Rattle.walk.specs.Lent.{Taken, over_step}
 use Rattle.walk.proofs.Stepping.{zs, r, runs, ended_step, block_here, counters-here}
 use Rattle.views.specs.declared.Visited.{Visited}
 use Rattle.views.specs.Number.{block_number}
-use Rattle.views.specs.Visits.{visit_rows, visit_refused, not_visited, ended_visit, found_visit, visit_by, seen, visited}
+use Rattle.views.specs.Visits.{visit_rows, visit_refused, ended_visit, shown, found_visit, visit_by, seen, visited}
 use Rattle.views.specs.Memory.{VisitMemory, visit_at, VisitLeaves, record_of}
 use Rattle.views.specs.Tally.{Countable}
 
@@ -51,13 +49,24 @@ use Rattle.views.specs.Tally.{Countable}
 pub taken_long : (n : ℕ) (l : List ℕ) → length l ≡ 64 → n ≤ 64 → n ≡ length (take n l)
 taken_long n l e h = omega (arith, length-take n l)
 
-leaves_as : {t : Told} {c x c' x' : List ℕ} {a b : Answer} → a ≡ b → Leaves t c x c' x' a → Leaves t c x c' x' b
-leaves_as {t} {c} {x} {c'} {x'} e l = subst (Leaves t c x c' x') e l
-
 -- of a layout that is not refused
-pub told_as : (es sizes : List ℕ) (ss : List ℤ) (u : Purpose) → layout_refused es sizes ss u ≡ none → (y : List ℕ) {c x c' x' : List ℕ} {a b : Answer} → a ≡ b
+pub told_as : (es sizes : List ℕ) (ss : List ℤ) (u : Purpose) → layout_refused es sizes ss u ≡ None → (y : List ℕ) {c x c' x' : List ℕ} {a b : Result (Unit {0}) Refusal} → a ≡ b
     → Leaves (found_original es (length sizes) ss u y) c x c' x' a → Leaves (told_original es sizes ss u y) c x c' x' b
-told_as es sizes ss u h y e l = leaves_as e (same-told (original_passed es sizes ss u y h) l)
+told_as es sizes ss u h y {c} {x} {c'} {x'} e l = subst (Leaves (told_original es sizes ss u y) c x c' x') e (same-told (original_passed es sizes ss u y h) l)
+
+-- what memory holds is what was told, and a refusal is the teller's
+pub record Given (t : Result Told Refusal) (c x : List ℕ) : Type 0 where
+  pub value : Told
+  pub is : t ≡ Ok value
+  pub memory : index_at c x ≡ index_memory value
+
+given : (t : Result Told Refusal) {c x c' x' : List ℕ} → Leaves t c x c' x' (Ok tt) → Given t c' x'
+given (Ok v) l = record { value = v; is = refl; memory = l.memory }
+given (Err r) l = let a = l.answer in let z : ◌≡◌ {A = ℕ} 0 1 = cc a in absurd (omega arith)
+
+refused_is : (t : Result Told Refusal) {c x c' x' : List ℕ} {s : Refusal} → Leaves t c x c' x' (Err s) → (t ≡ Err s) × (index_at c' x' ≡ index_at c x)
+refused_is (Ok v) l = let a = l.answer in let z : ◌≡◌ {A = ℕ} 0 1 = cc a in absurd (omega arith)
+refused_is (Err r) l = let a = l.answer in (cc a, l.memory)
 
 -- ---- the rows
 
@@ -68,13 +77,13 @@ module _ (es sizes : List ℕ) (ss : List ℤ) (u : Purpose) (rank operands : �
   unfolding layout_refused visit_refused
   visit_rest a b c d = rw (a, b, c, d)
 
-  pub visit_layout : visit_refused es sizes ss u rank operands ≡ none → layout_refused es sizes ss u ≡ none
+  pub visit_layout : visit_refused es sizes ss u rank operands ≡ None → layout_refused es sizes ss u ≡ None
   unfolding visit_refused NoneApplies
   visit_layout h =
       let n : NoneApplies (visit_rows es sizes ss u rank operands) = none_applies (visit_rows es sizes ss u rank operands) h in
       visit_rest n.0 n.1.0 n.1.1.0 n.1.1.1.0 ∙ h
 
-  pub visit_plan : visit_refused es sizes ss u rank operands ≡ none → refused_by (row1 rank ∷ row2 operands ∷ []) ≡ none
+  pub visit_plan : visit_refused es sizes ss u rank operands ≡ None → refused_by (row1 rank ∷ row2 operands ∷ []) ≡ None
   unfolding visit_refused NoneApplies
   visit_plan h =
       let n : NoneApplies (visit_rows es sizes ss u rank operands) = none_applies (visit_rows es sizes ss u rank operands) h in
@@ -96,7 +105,7 @@ module _ (p : Plan) (w : Walk) (k : Taken p w) (h : w.ended ≡ false) where
       let q = runs p w k h in
       let e : take p.rank w.counters ≡ q.c =
       ap (λ (v : Walk). take p.rank v.counters) q.here
-      ∙ take_counted 0 64 p.rank q.c (counters-many p (zs p w k) (r p w k) k.reached.steps (some q.c) q.is) (r p w k).axes in
+      ∙ take_counted 0 64 p.rank q.c (counters-many p (zs p w k) (r p w k) k.reached.steps (Some q.c) q.is) (r p w k).axes in
       let i = (reach (plan_cut_axes p) q.c (wide p (zs p w k) (r p w k))).0 (k.reached.steps, q.is) in
       record {
         few = (r p w k).axes;
@@ -111,60 +120,55 @@ module _ (p : Plan) (w : Walk) (k : Taken p w) (h : w.ended ≡ false) where
   -- ---- its visit, out of what index finding told
 
   module _ (es sizes : List ℕ) (ss : List ℤ) (u : Purpose) where
-    abbrev T : Told
+    abbrev T : Result Told Refusal
     T = told_original es sizes ss u (take p.rank w.counters)
 
-    seen_here : seen es sizes ss u p (stepped p w) ≡ found_visit T.answer p (stepped p w) T
+    seen_here : seen es sizes ss u p (stepped p w) ≡ found_visit T p (stepped p w)
     unfolding seen
     seen_here =
         ap₂ (λ (o : Outcome) (c : List ℕ). visit_by o p (stepped p w) (told_original es sizes ss u (take p.rank c))) (block_here p w k h) (counters-here p w k h)
 
     module _ {c x c' x' : List ℕ} where
-      pub visit_refused_lem : {s : Refusal} → Leaves T c x c' x' (Refused s) → (m : StepMemory) (n : List ℕ)
+      pub visit_refused_lem : {s : Refusal} → Leaves T c x c' x' (Err s) → (m : StepMemory) (n : List ℕ)
           → VisitLeaves (seen es sizes ss u p (stepped p w)) (visit_at m n (index_at c x)) (visit_at m n (index_at c' x')) (Rejected s)
-      visit_refused_lem {s} l m n =
-          let q : index_at c' x' ≡ index_at c x = subst (λ (a : Answer). index_at c' x' ≡ kept a (index_memory T) (index_at c x)) (sym l.answer) l.memory in
-          rw (seen_here, sym l.answer) (record { answer = refl; memory = ap (visit_at m n) q })
+      visit_refused_lem l m n =
+          let q = refused_is T l in
+          rw (seen_here, q.0) (record { answer = refl; memory = ap (visit_at m n) q.1 })
 
-      pub visit_block : Leaves T c x c' x' Served → {n : ℕ} → n ≡ block_number (plan_cut_axes p) (take p.rank w.counters)
+      pub visit_block : Leaves T c x c' x' (Ok tt) → {n : ℕ} → n ≡ block_number (plan_cut_axes p) (take p.rank w.counters)
           → {old new : StepMemory} {N : List ℕ} → Steps (stepped p w) old new (pos 1)
           → VisitLeaves (seen es sizes ss u p (stepped p w)) (visit_at old N (index_at c x)) (visit_at new (n ∷ []) (index_at c' x')) Block
       visit_block l {n} e {old} {new} s =
-          let q : index_at c' x' ≡ index_memory T = subst (λ (a : Answer). index_at c' x' ≡ kept a (index_memory T) (index_at c x)) (sym l.answer) l.memory in
+          let q = given T l in
           let f : new ≡ step_memory (stepped p w) = s.memory ∙ ap (λ (o : Outcome). kept_step o (step_memory (stepped p w)) old) (block_here p w k h) in
           let g : n ≡ block_number (plan_cut_axes p) (take p.rank (stepped p w).counters) =
           e ∙ ap (λ (v : List ℕ). block_number (plan_cut_axes p) (take p.rank v)) (sym (counters-here p w k h)) in
-          rw (seen_here, sym l.answer) (record { answer = refl; memory = λ i. visit_at (f i) (g i ∷ []) (q i) })
+          rw (seen_here, q.is) (record { answer = refl; memory = λ i. visit_at (f i) (g i ∷ []) (q.memory i) })
 
 -- ---- by value: index finding told into zeros
 
 module _ (es sizes : List ℕ) (ss : List ℤ) (u : Purpose) (p : Plan) (s : Stepped) (h : s.answer ≡ Block) where
-  abbrev told : Told
+  abbrev told : Result Told Refusal
   told = told_original es sizes ss u (take p.rank s.counters)
 
-  seen_block : seen es sizes ss u p s ≡ found_visit told.answer p s told
+  seen_block : seen es sizes ss u p s ≡ found_visit told p s
   unfolding seen
   seen_block = ap (λ (o : Outcome). visit_by o p s told) h
 
   module _ {c x : List ℕ} where
-    pub value-refused : {r : Refusal} → Leaves told (0 ∷ []) (replicate 64 0) c x (Refused r) → not_visited r ≡ seen es sizes ss u p s
-    value-refused l = rw (seen_block, sym l.answer)
+    pub value-refused : {r : Refusal} → Leaves told (0 ∷ []) (replicate 64 0) c x (Err r) → Err r ≡ seen es sizes ss u p s
+    value-refused l = rw (seen_block, (refused_is told l).0)
 
-    pub value_block : Leaves told (0 ∷ []) (replicate 64 0) c x Served → {n : ℕ} → n ≡ block_number (plan_cut_axes p) (take p.rank s.counters)
-        → ◌≡◌ {A = Visited} (record { answer = Block; visit = record_of n s.counters s.length s.offsets s.strides (get_or c 0 0) x; walk = s.walk }) (seen es sizes ss u p s)
+    pub value_block : Leaves told (0 ∷ []) (replicate 64 0) c x (Ok tt) → {n : ℕ} → n ≡ block_number (plan_cut_axes p) (take p.rank s.counters)
+        → shown (record_of n s.counters s.length s.offsets s.strides (get_or c 0 0) x) s.walk ≡ seen es sizes ss u p s
     value_block l {n} e =
-        let q : index_at c x ≡ index_memory told = subst (λ (a : Answer). index_at c x ≡ kept a (index_memory told) (index_at (0 ∷ []) (replicate 64 0))) (sym l.answer) l.memory in
-        rw (seen_block, sym l.answer)
-        (λ i. record {
-          answer = Block;
-          visit = record_of (e i) s.counters s.length s.offsets s.strides (get_or (q i).count 0 0) (q i).index;
-          walk = s.walk;
-        })
+        let q = given told l in
+        rw (seen_block, q.is) (λ i. shown (record_of (e i) s.counters s.length s.offsets s.strides (get_or (q.memory i).count 0 0) (q.memory i).index) s.walk)
 
 -- ---- a step that hands out a block was made on a state that is taken
 
 module _ (p : Plan) (w : Walk) (z : plans.Sized p) (hc : length w.counters ≡ 64) (ho : length w.offsets ≡ 8)
-    (rows : refused_by (step_rows p) ≡ none) (h : (stepped p w).answer ≡ Block) where
+    (rows : refused_by (step_rows p) ≡ None) (h : (stepped p w).answer ≡ Block) where
   block_taken : Taken p w
   block_taken =
       record {
@@ -197,22 +201,22 @@ module _ (p : Plan) (w : Walk) (z : plans.Sized p) (hc : length w.counters ≡ 6
 
 module _ (es sizes : List ℕ) (ss : List ℤ) (u : Purpose) (p : Plan) (w : Walk) where
   -- a row of the counts or of the layout
-  pub entry_refused : {s : Refusal} → visit_refused es sizes ss u p.rank p.operands ≡ some s → {old : VisitMemory}
+  pub entry_refused : {s : Refusal} → visit_refused es sizes ss u p.rank p.operands ≡ Some s → {old : VisitMemory}
       → VisitLeaves (visited es sizes ss u p w) old old (Rejected s)
   unfolding visited
   entry_refused h = rw h (record { answer = refl; memory = refl })
 
-  pub value-first : {s : Refusal} → visit_refused es sizes ss u p.rank p.operands ≡ some s → not_visited s ≡ visited es sizes ss u p w
+  pub value-first : {s : Refusal} → visit_refused es sizes ss u p.rank p.operands ≡ Some s → Err s ≡ visited es sizes ss u p w
   unfolding visited
   value-first h = rw h
 
-  module _ (h : visit_refused es sizes ss u p.rank p.operands ≡ none) where
+  module _ (h : visit_refused es sizes ss u p.rank p.operands ≡ None) where
     pub visited_is : {s : Stepped} → s ≡ stepped p w → seen es sizes ss u p s ≡ visited es sizes ss u p w
     unfolding visited
     visited_is e = rw h (ap (seen es sizes ss u p) e)
 
     -- the step's answer decides
-    pub value-state : {s : Stepped} → s ≡ stepped p w → {a : Refusal} → s.answer ≡ Rejected a → not_visited a ≡ visited es sizes ss u p w
+    pub value-state : {s : Stepped} → s ≡ stepped p w → {a : Refusal} → s.answer ≡ Rejected a → Err a ≡ visited es sizes ss u p w
     unfolding seen
     value-state {s} e {a} q = sym (ap (λ (o : Outcome). visit_by o p s (told_original es sizes ss u (take p.rank s.counters))) q) ∙ visited_is e
 
@@ -223,12 +227,12 @@ module _ (es sizes : List ℕ) (ss : List ℤ) (u : Purpose) (p : Plan) (w : Wal
     -- row 10
     pub entry_state : {s : Refusal} {old : VisitMemory} → not_stepped s ≡ stepped p w → VisitLeaves (visited es sizes ss u p w) old old (Rejected s)
     unfolding seen
-    entry_state {s} {old} e = subst (λ (v : Visited). VisitLeaves v old old (Rejected s)) (visited_is e) (record { answer = refl; memory = refl })
+    entry_state {s} {old} e = subst (λ (v : Result Visited Refusal). VisitLeaves v old old (Rejected s)) (visited_is e) (record { answer = refl; memory = refl })
 
     pub entry_ended : {old : VisitMemory} → over_step w ≡ stepped p w → VisitLeaves (visited es sizes ss u p w) old old Ended
     unfolding seen
-    entry_ended {old} e = subst (λ (v : Visited). VisitLeaves v old old Ended) (visited_is e) (record { answer = refl; memory = refl })
+    entry_ended {old} e = subst (λ (v : Result Visited Refusal). VisitLeaves v old old Ended) (visited_is e) (record { answer = refl; memory = refl })
 
     pub entry_block : {s : Stepped} → s ≡ stepped p w → {old new : VisitMemory} {a : Outcome} → VisitLeaves (seen es sizes ss u p s) old new a
         → VisitLeaves (visited es sizes ss u p w) old new a
-    entry_block e {old} {new} {a} l = subst (λ (v : Visited). VisitLeaves v old new a) (visited_is e) l
+    entry_block e {old} {new} {a} l = subst (λ (v : Result Visited Refusal). VisitLeaves v old new a) (visited_is e) l

@@ -1,8 +1,11 @@
 -- A visit and the two views in lent memory: what is answered, and what a refusal and an ended walk keep, is as strided's Memory has it for a step.
 -- Assumes nothing.
-use Rattle.std.specs.Prelude.{◌≡◌, List, [], ◌∷◌, ℕ, ℤ}
-use Rattle.strided.specs.Memory.{IndexMemory, StepMemory, walk_memory, step_code, kept_step}
+use Rattle.std.specs.Prelude.{◌≡◌, List, [], ◌∷◌, ℕ, ℤ, Option, None, Some, Result, Ok, Err}
+use Rattle.strided.specs.Memory.{IndexMemory, StepMemory, walk_memory, step_code}
 use Rattle.strided.specs.declared.Outcome.{Outcome}
+use Rattle.strided.specs.declared.Refusal.{Refusal}
+use Rattle.strided.specs.declared.Walk.{Walk}
+use Rattle.views.specs.Visits.{outcome_of}
 use Rattle.views.specs.declared.Visit.{Visit}
 use Rattle.views.specs.declared.Visited.{Visited}
 use Rattle.views.specs.declared.Engineer.{Engineer}
@@ -19,23 +22,32 @@ pub record VisitMemory : Type 0 where
 abbrev pub visit_at : StepMemory → List ℕ → IndexMemory → VisitMemory
 visit_at step number first = record { step = step; number = number; first = first }
 
-abbrev pub visit_memory : Visited → VisitMemory
-visit_memory v =
+abbrev pub visit_memory : Visit → Walk → VisitMemory
+visit_memory v w =
     record {
-      step = record { walk = walk_memory v.walk; counters = v.visit.counters; length = v.visit.length ∷ []; offsets = v.visit.offsets; strides = v.visit.strides };
-      number = v.visit.number ∷ [];
-      first = record { count = v.visit.count ∷ []; index = v.visit.first };
+      step = record { walk = walk_memory w; counters = v.counters; length = v.length ∷ []; offsets = v.offsets; strides = v.strides };
+      number = v.number ∷ [];
+      first = record { count = v.count ∷ []; index = v.first };
     }
 
+-- memory that held `old`: the record and the state, or, at the end as on a refusal, what it held
+abbrev pub kept_met : Option Visit → Walk → VisitMemory → VisitMemory
+kept_met None w old = old
+kept_met (Some v) w old = visit_memory v w
+
+abbrev pub kept_visit : Result Visited Refusal → VisitMemory → VisitMemory
+kept_visit (Ok v) old = kept_met v.visit v.walk old
+kept_visit (Err r) old = old
+
 -- the answer is r, and lent memory that held `old` holds `new`
-pub record VisitLeaves (v : Visited) (old new : VisitMemory) (r : Outcome) : Type 0 where
-  pub answer : r ≡ v.answer
-  pub memory : new ≡ kept_step v.answer (visit_memory v) old
+pub record VisitLeaves (v : Result Visited Refusal) (old new : VisitMemory) (r : Outcome) : Type 0 where
+  pub answer : r ≡ outcome_of v
+  pub memory : new ≡ kept_visit v old
 
 -- the same as a C function answers it: 1 for a block, 0 for the end
-pub record VisitsMemory (v : Visited) (old new : VisitMemory) (r : ℤ) : Type 0 where
-  pub code : r ≡ step_code v.answer
-  pub memory : new ≡ kept_step v.answer (visit_memory v) old
+pub record VisitsMemory (v : Result Visited Refusal) (old new : VisitMemory) (r : ℤ) : Type 0 where
+  pub code : r ≡ step_code (outcome_of v)
+  pub memory : new ≡ kept_visit v old
 
 -- ---- the views
 

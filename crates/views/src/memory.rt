@@ -1,7 +1,6 @@
 // A visit in lent arrays, as C functions have it: one step of the state that lies in them, with its record. Neither the plan nor the state is
 // copied, and nothing is written before every row has been judged.
-ghost use Rattle.std.specs.Prelude.{◌≡◌, false, ◌^◌, ◌≤◌, ◌<◌, length, take};
-ghost use Rattle.std.proofs.Math.Option.{none};
+ghost use Rattle.std.specs.Prelude.{◌≡◌, false, ◌^◌, ◌≤◌, ◌<◌, length, take, None};
 ghost use Rattle.strided.specs.Layout.{total};
 ghost use Rattle.strided.specs.Refusals.{layout_refused};
 ghost use Rattle.strided.specs.Step.{stepped};
@@ -16,7 +15,7 @@ ghost use Rattle.views.specs.Memory.{visit_at, VisitLeaves};
 use crate::check_visit;
 use crate::number::number_of;
 use finding::original_of_into;
-use strided::{Answer, Outcome, Purpose};
+use strided::{Outcome, Purpose, Refusal};
 use walk::answer_of;
 use walk::memory::block_into;
 
@@ -30,7 +29,7 @@ fn told_into<'a>(
     counters: &[u64],
     count: &mut [usize; 1],
     index: &mut [u64; 64],
-) -> Answer
+) -> Result<(), Refusal>
     requires layout { Fitting strides.now (length extents.now) operands }
     requires total { total extents.now < 2 ^ 64 }
     requires counters { rank ≤ length counters.now }
@@ -70,7 +69,7 @@ fn found_into<'a>(
     count: &mut [usize; 1],
     index: &mut [u64; 64],
 ) -> Outcome
-    requires layout { layout_refused extents.now sizes.now strides.now purpose ≡ none }
+    requires layout { layout_refused extents.now sizes.now strides.now purpose ≡ None }
     requires state { Taken (plan_of rank operands plan_extents.now blocks.now plan_strides.now) (walk_of false counters.old offsets.old) }
     ensures { let p = plan_of rank operands plan_extents.now blocks.now plan_strides.now in
         let w = walk_at ended.old counters.old offsets.old in
@@ -93,10 +92,9 @@ fn found_into<'a>(
         index,
     );
     match told {
-        Answer::Refused(refusal) => Outcome::Rejected(refusal),
-        Answer::Served => {
-            let n = number_of(rank, plan_extents, blocks, counters);
-            *number = [n];
+        Err(refusal) => Outcome::Rejected(refusal),
+        Ok(()) => {
+            *number = [number_of(rank, plan_extents, blocks, counters)];
             block_into(
                 rank,
                 operands,
@@ -149,8 +147,8 @@ pub fn visit_into<'a>(
 {
     let checked = check_visit(extents, sizes, strides, purpose, rank, operands);
     match checked {
-        Answer::Refused(refusal) => Outcome::Rejected(refusal),
-        Answer::Served => {
+        Err(refusal) => Outcome::Rejected(refusal),
+        Ok(()) => {
             let over = ended[0] != 0;
             let answer = answer_of(
                 over,

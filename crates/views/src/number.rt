@@ -5,7 +5,6 @@ ghost use Rattle.views.specs.Number.{block_number};
 ghost use Rattle.views.specs.Tally.{tallied, numbered, Room, First, Countable};
 
 use advance::width_of;
-use layout::sizes::least;
 use walk::onward::start_at;
 
 // Of the axes from some axis on: how many indices the tiles before have, how many this tile has, and the place among these.
@@ -22,14 +21,14 @@ fn tally_axis(extent: u64, width: u64, at: u64, tally: Tally) -> Tally
     ensures { result ≡ tallied extent width at tally }
 {
     let start = start_at(width, at);
-    let len = least(width, extent - start);
+    let len = width.min(extent - start);
     let before = extent * tally.before + start * tally.size;
     let size = len * tally.size;
     let place = len * tally.place + (at - start);
     Tally {
-        before: before,
-        size: size,
-        place: place,
+        before,
+        size,
+        place,
     }
 }
 
@@ -76,12 +75,9 @@ pub fn number_of<'a>(rank: usize, e: &'a [u64; 64], b: &'a [u64; 64], c: &'a [u6
         size: 1,
         place: 0,
     };
-    let mut i = rank;
-    while 1 < i {
-        i -= 1;
+    for i in (1..rank).rev() {
         let width = width_of(rank, i, e[i], b[i]);
-        let more = tally_axis(e[i], width, c[i], t);
-        t = more;
+        t = tally_axis(e[i], width, c[i], t);
     }
     let width = width_of(rank, 0, e[0], b[0]);
     number_first(e[0], width, c[0], t)

@@ -11,7 +11,7 @@ use strided::MAX_RANK;
 fn count_of(count: usize) -> usize
     ensures { result ≡ min count 64 }
 {
-    if count < MAX_RANK { count } else { MAX_RANK }
+    count.min(MAX_RANK)
 }
 
 // The first places of an index, written into an array of zeros.
@@ -20,11 +20,7 @@ fn places_into(count: usize, index: &[u64; 64], places: &mut [u64; 64])
     requires zeros { places.old ≡ replicate 64 0 }
     ensures { places.new ≡ padded 64 0 (take count index.now) }
 {
-    let mut i: usize = 0;
-    while i < count {
-        places[i] = index[i];
-        i += 1;
-    }
+    places[..count].copy_from_slice(&index[..count]);
 }
 
 // THE ENGINEER'S VIEW: "a block as now".
@@ -35,10 +31,10 @@ pub fn engineer_view(visit: Visit) -> Engineer
     let offsets = visit.offsets;
     let strides = visit.strides;
     Engineer {
-        counters: counters,
+        counters,
         length: visit.length,
-        offsets: offsets,
-        strides: strides,
+        offsets,
+        strides,
     }
 }
 
@@ -47,14 +43,13 @@ pub fn student_view(visit: Visit) -> Student
     ensures { result ≡ student_of visit }
 {
     let count = count_of(visit.count);
-    let index = visit.first;
     let mut first = [0u64; 64];
-    places_into(count, &index, &mut first);
+    places_into(count, &visit.first, &mut first);
     Student {
         number: visit.number,
         length: visit.length,
-        count: count,
-        first: first,
+        count,
+        first,
     }
 }
 
@@ -76,13 +71,10 @@ pub fn engineer_into<'a>(
         let new = engineer_at engineer_counters.new engineer_length.new engineer_offsets.new engineer_strides.new in
         new ≡ engineer_memory (engineer_of v) }
 {
-    let c = *counters;
-    let o = *offsets;
-    let s = *strides;
-    *engineer_counters = c;
+    *engineer_counters = *counters;
     *engineer_length = [length];
-    *engineer_offsets = o;
-    *engineer_strides = s;
+    *engineer_offsets = *offsets;
+    *engineer_strides = *strides;
 }
 
 // The student's view of a record in lent arrays.
@@ -103,22 +95,18 @@ pub fn student_into<'a>(
         let new = student_at student_number.new student_length.new student_count.new student_index.new in
         new ≡ student_memory (student_of v) }
 {
-    let c = *counters;
-    let o = *offsets;
-    let s = *strides;
-    let first = *index;
     let student = student_view(Visit {
-        number: number,
-        counters: c,
-        length: length,
-        offsets: o,
-        strides: s,
-        count: count,
-        first: first,
+        number,
+        counters: *counters,
+        length,
+        offsets: *offsets,
+        strides: *strides,
+        count,
+        first: *index,
     });
-    let places = student.first;
     *student_number = [student.number];
     *student_length = [student.length];
     *student_count = [student.count];
+    let places = student.first;
     *student_index = places;
 }

@@ -2,18 +2,9 @@
 -- Assumes nothing.
 use mathlib.Core.Path.{◌≡◌, ap, ◌∙◌}
 use lib.IntN.{ℤ, pos}
-use Rattle.strided.specs.Refusals.{negated}
 use Rattle.strided.specs.Memory.{step_code, kept_step, StepMemory, step_memory, Steps}
-use Rattle.strided.specs.declared.Refusal.{Refusal}
-use Rattle.strided.specs.declared.Outcome.TheVariants.{Block, Ended, Rejected}
+use Rattle.strided.specs.declared.Outcome.TheVariants.{Block}
 use Rattle.strided.specs.declared.Stepped.{Stepped}
-
--- an answer that is known
-pub step-refused : {s : Stepped} {old : StepMemory} {r : Refusal} {n : ℤ} → s.answer ≡ Rejected r → n ≡ negated r → Steps s old old n
-step-refused h e = record { code = rw h e; memory = rw h }
-
-pub step_ended : {s : Stepped} {old : StepMemory} → s.answer ≡ Ended → Steps s old old (pos 0)
-step_ended h = record { code = rw h; memory = rw h }
 
 pub step_block : {s : Stepped} {old new : StepMemory} → s.answer ≡ Block → new ≡ step_memory s → Steps s old new (pos 1)
 step_block h e = record { code = rw h; memory = rw h e }

@@ -3,7 +3,7 @@
 use mathlib.Core.Path.{◌≡◌, refl, sym, ap, ap₂, ◌∙◌, subst}
 use mathlib.Core.Bool.{Bool, true, false, cond, ◌&&◌, not, false≢true}
 use mathlib.Core.List.{List, []}
-use mathlib.Core.Option.{Option, none, some}
+use Rattle.std.specs.Prelude.{Option, None, Some}
 use Prim.Native.Nat.{ℕ, ◌+◌, ◌≤◌, ◌<◌}
 use native.Mathlib.Omega.{arith}
 use lib.Dec.{ltb, eqb}
@@ -13,12 +13,12 @@ use borrow.Author.Tests.{ltb-false, eqb-false}
 use Rattle.strided.specs.Base.{padded}
 use Rattle.strided.specs.Refusals.{refused_by, row1, row2}
 use Rattle.strided.specs.Walk.{length_at, run_strides}
-use Rattle.strided.specs.Begin.{plan_extents, plan_rows, begin_refused, begun_at}
+use Rattle.strided.specs.Begin.{plan_extents, plan_rows, begin_refused, begun_at, started}
 use Rattle.strided.specs.Step.{plan_cut_axes, unpacked, packed, reachable, may_begin, tidy, step, step_running, over, refused, handed_out, not_stepped, step_rows, stepped, walk_after}
 use Rattle.strided.specs.Bulk.{next_blocks}
 use Rattle.strided.specs.Memory.{walk_of}
 use Rattle.strided.specs.declared.Refusal.TheVariants.{Rank, Operands, State}
-use Rattle.strided.specs.declared.Answer.TheVariants.{Served}
+use Rattle.strided.specs.declared.Outcome.{Outcome}
 use Rattle.strided.specs.declared.Outcome.TheVariants.{Block, Ended, Rejected}
 use Rattle.strided.specs.declared.Plan.{Plan}
 use Rattle.strided.specs.declared.Walk.{Walk}
@@ -26,10 +26,11 @@ use Rattle.strided.specs.declared.Stepped.{Stepped}
 use Rattle.laws.specs.Base.Arrays.{length-padded}
 use Rattle.laws.specs.Base.Refusals.{NoneApplies, none_applies}
 use Rattle.laws.specs.Base.Tests.{and_both, or_none}
+use Rattle.laws.specs.Refusals.Rows.{served_none, served_is}
 use Rattle.laws.specs.Walk.States.{state_after, begin}
 use Rattle.laws.specs.Walk.Row10.{row10_exact}
 use Rattle.laws.specs.Walk.Bulk.{walk_more, blocks_none}
-use Rattle.laws.specs.Walk.Steps.{Ready, ready, none_of, served_walk, at, raw, begun-walk, step-at, walk-state}
+use Rattle.laws.specs.Walk.Steps.{Ready, ready, none_of, at, raw, begun-walk, step-at, walk-state}
 use Rattle.advance.specs.Axis.{widths_to, start_of, starts_to}
 use Rattle.advance.specs.Carry.{Roomy, Tiled, AdvancedTo}
 use Rattle.advance.specs.Blocks.{length_of, firsts_of}
@@ -37,7 +38,7 @@ use Rattle.advance.proofs.Plans.{C, O, length_is, firsts_are, first_start}
 use Rattle.advance.specs.Sized as plans
 use Rattle.advance.proofs.Reached.{widths_pos, tiled, roomy, advanced}
 use Rattle.states.specs.Reaches.{Arrays, reaches}
-use Rattle.walk.specs.Lent.{Taken, over_step}
+use Rattle.walk.specs.Lent.{Taken, Answers, over_step}
 
 -- ---- the rows
 
@@ -53,7 +54,7 @@ module _ (p : Plan) (w : Walk) where
       operands_rejected h e = e ∙ sym (rw (sym a-is ∙ ah, sym b-is ∙ h))
 
       module _ (bh : b ≡ false) where
-        rows : refused_by (step_rows p) ≡ none
+        rows : refused_by (step_rows p) ≡ None
         rows = rw (sym a-is ∙ ah, sym b-is ∙ bh)
 
         axes : p.rank ≤ 64
@@ -120,11 +121,10 @@ module _ (p : Plan) (w : Walk) where
 -- ---- a state that is taken
 
 -- the beginning of a walk
-pub begun_taken : (p : Plan) (zs : List ℤ) → Ready p zs → plans.Sized p → Taken p (begun_at p zs).walk
+pub begun_taken : (p : Plan) (zs : List ℤ) → Ready p zs → plans.Sized p → Taken p (started p zs)
 unfolding begun_at
 begun_taken p zs r z =
     let e = begun-walk p zs r in
-    let served : (begun_at p zs).answer ≡ Served = rw (none_of (begin_refused p zs) r.may) in
     record {
       extents-all = z.extents-all;
       blocks_all = z.blocks_all;
@@ -132,7 +132,7 @@ begun_taken p zs r z =
       counters-all = ap (λ (v : Walk). length v.counters) e ∙ length-padded {A = ℕ} 0 64 (at p zs r (begin (plan_cut_axes p))).counters;
       offsets_all = ap (λ (v : Walk). length v.offsets) e ∙ length-padded {A = ℤ} (pos 0) 8 (at p zs r (begin (plan_cut_axes p))).offsets;
       rows = r.taken;
-      reached = record { starts = zs; begins = served; steps = 0; comes = refl };
+      reached = record { starts = zs; first = started p zs; begins = rw (none_of (begin_refused p zs) r.may); steps = 0; comes = refl };
     }
 
 module _ (p : Plan) (w : Walk) (k : Taken p w) where
@@ -151,21 +151,26 @@ module _ (p : Plan) (w : Walk) (k : Taken p w) where
 
   pub r : Ready p zs
   unfolding begun_at
-  r = ready p zs long (served_walk (begin_refused p zs) _ k.reached.begins)
+  r = ready p zs long (served_none (begin_refused p zs) _ k.reached.begins)
 
   abbrev state : Option (List ℕ)
   state = state_after (plan_cut_axes p) k.reached.steps
 
+  -- w is the state begun, so many steps on
+  steps-here : w ≡ walk_after p k.reached.steps (started p zs)
+  unfolding begun_at
+  steps-here = k.reached.comes ∙ ap (walk_after p k.reached.steps) (served_is (begin_refused p zs) _ k.reached.begins)
+
   comes : w ≡ packed (at p zs r state)
-  comes = k.reached.comes ∙ walk-state p zs r k.reached.steps
+  comes = steps-here ∙ walk-state p zs r k.reached.steps
 
   -- "A step after the last block answers "ended" again, state unchanged."
   pub ended_step : w.ended ≡ true → {s : Stepped} → s ≡ over_step w → s ≡ stepped p w
   ended_step h e = e ∙ go (state_after (plan_cut_axes p) k.reached.steps) refl comes
     where
       go : (m : Option (List ℕ)) → state_after (plan_cut_axes p) k.reached.steps ≡ m → w ≡ packed (at p zs r m) → over_step w ≡ stepped p w
-      go none g q = sym (subst (λ (v : Walk). stepped p v ≡ over_step v) (sym q) (step-at p zs r k.reached.steps none g))
-      go (some c) g q = absurd (false≢true (sym (ap (λ (v : Walk). v.ended) q) ∙ h))
+      go None g q = sym (subst (λ (v : Walk). stepped p v ≡ over_step v) (sym q) (step-at p zs r k.reached.steps None g))
+      go (Some c) g q = absurd (false≢true (sym (ap (λ (v : Walk). v.ended) q) ∙ h))
 
   pub ended_none : w.ended ≡ true → (m : ℕ) → next_blocks m p w ≡ []
   ended_none h m =
@@ -176,8 +181,8 @@ module _ (p : Plan) (w : Walk) (k : Taken p w) where
   pub taken_after : (n : ℕ) → Taken p (walk_after p n w)
   taken_after n =
       let steps : ℕ = k.reached.steps + n in
-      let e : walk_after p n w ≡ walk_after p steps (begun_at p zs).walk = ap (walk_after p n) k.reached.comes ∙ sym (walk_more p k.reached.steps n (begun_at p zs).walk) in
-      let f : walk_after p n w ≡ packed (at p zs r (state_after (plan_cut_axes p) steps)) = e ∙ walk-state p zs r steps in
+      let e : walk_after p n w ≡ walk_after p steps k.reached.first = ap (walk_after p n) k.reached.comes ∙ sym (walk_more p k.reached.steps n k.reached.first) in
+      let f : walk_after p n w ≡ packed (at p zs r (state_after (plan_cut_axes p) steps)) = ap (walk_after p n) steps-here ∙ sym (walk_more p k.reached.steps n (started p zs)) ∙ walk-state p zs r steps in
       record {
         extents-all = k.extents-all;
         blocks_all = k.blocks_all;
@@ -185,21 +190,21 @@ module _ (p : Plan) (w : Walk) (k : Taken p w) where
         counters-all = ap (λ (v : Walk). length v.counters) f ∙ length-padded {A = ℕ} 0 64 (at p zs r (state_after (plan_cut_axes p) steps)).counters;
         offsets_all = ap (λ (v : Walk). length v.offsets) f ∙ length-padded {A = ℤ} (pos 0) 8 (at p zs r (state_after (plan_cut_axes p) steps)).offsets;
         rows = k.rows;
-        reached = record { starts = zs; begins = k.reached.begins; steps = steps; comes = e };
+        reached = record { starts = zs; first = k.reached.first; begins = k.reached.begins; steps = steps; comes = e };
       }
 
   -- what a running state has
   pub record Runs : Type 0 where
     pub c : List ℕ
-    pub is : state_after (plan_cut_axes p) k.reached.steps ≡ some c
-    pub here : w ≡ packed (at p zs r (some c))
+    pub is : state_after (plan_cut_axes p) k.reached.steps ≡ Some c
+    pub here : w ≡ packed (at p zs r (Some c))
 
   pub runs : w.ended ≡ false → Runs
   runs h = go (state_after (plan_cut_axes p) k.reached.steps) refl comes
     where
       go : (m : Option (List ℕ)) → state_after (plan_cut_axes p) k.reached.steps ≡ m → w ≡ packed (at p zs r m) → Runs
-      go none g q = absurd (false≢true (sym h ∙ ap (λ (v : Walk). v.ended) q))
-      go (some c) g q = record { c = c; is = g; here = q }
+      go None g q = absurd (false≢true (sym h ∙ ap (λ (v : Walk). v.ended) q))
+      go (Some c) g q = record { c = c; is = g; here = q }
 
   abbrev pub ws : List ℕ
   ws = widths_to p.rank p.extents p.blocks p.rank
@@ -243,8 +248,8 @@ module _ (p : Plan) (w : Walk) (k : Taken p w) where
         (first_start p zs r sized k.reached.steps q.c q.is))
 
     -- the block that it is at
-    step-here : stepped p w ≡ handed_out (raw p zs r (some q.c))
-    step-here = ap (stepped p) q.here ∙ step-at p zs r k.reached.steps (some q.c) q.is
+    step-here : stepped p w ≡ handed_out (raw p zs r (Some q.c))
+    step-here = ap (stepped p) q.here ∙ step-at p zs r k.reached.steps (Some q.c) q.is
 
     pub block_here : (stepped p w).answer ≡ Block
     block_here = ap (λ (s : Stepped). s.answer) step-here
@@ -284,6 +289,11 @@ module _ (p : Plan) (w : Walk) (k : Taken p w) where
         })
         ∙ sym step-here
 
+-- ---- what is known with an answer
+
+pub answers_at : (p : Plan) (w : Walk) {r s : Outcome} → Answers p w r → r ≡ s → Answers p w s
+answers_at p w a h = subst (Answers p w) h a
+
 -- ---- a state that runs, put together anew from its parts
 
 pub running : (w : Walk) → w.ended ≡ false → w ≡ walk_of false w.counters w.offsets
@@ -291,6 +301,3 @@ running w h = λ i. record { ended = h i; counters = w.counters; offsets = w.off
 
 pub taken_parts : (p : Plan) (w : Walk) → w.ended ≡ false → Taken p w → Taken p (walk_of false w.counters w.offsets)
 taken_parts p w h k = subst (Taken p) (running w h) k
-
-pub stepped_parts : (p : Plan) (w : Walk) → w.ended ≡ false → {s : Stepped} → s ≡ stepped p (walk_of false w.counters w.offsets) → s ≡ stepped p w
-stepped_parts p w h e = e ∙ ap (stepped p) (sym (running w h))

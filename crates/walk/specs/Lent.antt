@@ -1,7 +1,6 @@
 -- What the functions of a step ask and leave.
 -- Assumes nothing.
-use Rattle.std.specs.Prelude.{◌≡◌, false, pos, length, replicate}
-use Rattle.std.proofs.Math.Option.{none}
+use Rattle.std.specs.Prelude.{◌≡◌, false, pos, length, replicate, None}
 use Rattle.strided.specs.Refusals.{refused_by}
 use Rattle.strided.specs.Step.{not_stepped, step_rows, stepped, Reached}
 use Rattle.strided.specs.declared.Outcome.{Outcome}
@@ -22,7 +21,7 @@ pub record Taken (p : Plan) (w : Walk) : Type 0 where
   pub strides_all : length p.strides ≡ 512
   pub counters-all : length w.counters ≡ 64
   pub offsets_all : length w.offsets ≡ 8
-  pub rows : refused_by (step_rows p) ≡ none
+  pub rows : refused_by (step_rows p) ≡ None
   pub reached : Reached p w
 
 -- the answer r is the step's: what is refused and what has ended is known with it, and of a block that the state is taken

@@ -24,14 +24,14 @@ fn rejected(refusal: Refusal) -> Stepped
     let offsets = [0i64; 8];
     Stepped {
         answer: Outcome::Rejected(refusal),
-        counters: counters,
+        counters,
         length: 0,
-        offsets: offsets,
+        offsets,
         strides: offsets,
         walk: Walk {
             ended: false,
-            counters: counters,
-            offsets: offsets,
+            counters,
+            offsets,
         },
     }
 }
@@ -44,11 +44,11 @@ fn ended_again(walk: Walk) -> Stepped
     let offsets = [0i64; 8];
     Stepped {
         answer: Outcome::Ended,
-        counters: counters,
+        counters,
         length: 0,
-        offsets: offsets,
+        offsets,
         strides: offsets,
-        walk: walk,
+        walk,
     }
 }
 
@@ -77,10 +77,10 @@ fn block_at<'a>(
     };
     Stepped {
         answer: Outcome::Block,
-        counters: counters,
-        length: length,
-        offsets: offsets,
-        strides: strides,
+        counters,
+        length,
+        offsets,
+        strides,
         walk: next,
     }
 }

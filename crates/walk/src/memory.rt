@@ -14,7 +14,7 @@ use strided::{Outcome, Plan};
 pub fn flag(b: bool) -> u64
     ensures { result ≡ flagOf b }
 {
-    if b { 1 } else { 0 }
+    u64::from(b)
 }
 
 // A plan from its numbers and arrays.
@@ -27,15 +27,12 @@ pub fn plan_of<'a>(
 ) -> Plan
     ensures { result ≡ plan_of rank operands extents.now blocks.now strides.now }
 {
-    let e = *extents;
-    let b = *blocks;
-    let s = *strides;
     Plan {
-        rank: rank,
-        operands: operands,
-        extents: e,
-        blocks: b,
-        strides: s,
+        rank,
+        operands,
+        extents: *extents,
+        blocks: *blocks,
+        strides: *strides,
     }
 }
 
@@ -64,15 +61,12 @@ pub fn block_into<'a>(
 {
     let bl = length_on(rank, extents, blocks, counters);
     let bs = firsts(rank, operands, strides);
-    let bc = *counters;
-    let bo = *offsets;
-    *block_counters = bc;
+    *block_counters = *counters;
     *length = [bl];
-    *block_offsets = bo;
+    *block_offsets = *offsets;
     *block_strides = bs;
     let more = advance_on(rank, operands, extents, blocks, strides, counters, offsets);
-    let e = flag(!more);
-    *ended = [e];
+    *ended = [flag(!more)];
 }
 
 // One step in the lent arrays. Neither the plan nor the state is copied.

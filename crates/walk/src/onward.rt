@@ -28,19 +28,17 @@ fn inside_at(extent: u64, width: u64, at: u64) -> Goal
     ensures { result ≡ inside_goal extent width at }
 {
     let start = start_at(width, at);
-    if at - start < width - 1 {
-        if at < extent - 1 {
-            return Goal {
-                more: true,
-                to: at + 1,
-                start: start,
-            };
-        }
+    if at - start < width - 1 && at < extent - 1 {
+        return Goal {
+            more: true,
+            to: at + 1,
+            start,
+        };
     }
     Goal {
         more: false,
         to: start,
-        start: start,
+        start,
     }
 }
 
@@ -77,6 +75,8 @@ fn goal_at(inside: bool, extent: u64, width: u64, at: u64) -> Goal
 }
 
 // A carry along the axes from `first` to `last`, inside a tile or from tile to tile. Says whether an axis went ahead.
+// Kept: `inside` picks between inside_at and tile_at as a flag, since the definitions of a carry in specs/ (crate advance) have the same flag; a
+// closure for it would be no plainer.
 fn carry_on(
     inside: bool,
     first: usize,
@@ -95,8 +95,7 @@ fn carry_on(
         e.now b.now s.now c.old o.old
         result c.new o.new }
 {
-    let mut i = first;
-    while i < last {
+    for i in first..last {
         let at = c[i];
         let width = width_of(rank, i, e[i], b[i]);
         let a = goal_at(inside, e[i], width, at);
@@ -107,7 +106,6 @@ fn carry_on(
         if more {
             return true;
         }
-        i += 1;
     }
     false
 }
@@ -154,8 +152,5 @@ pub fn length_on<'a>(rank: usize, e: &'a [u64; 64], b: &'a [u64; 64], c: &'a [u6
     }
     let size = width_of(rank, 0, e[0], b[0]);
     let left = e[0] - c[0];
-    if size < left {
-        return size;
-    }
-    left
+    size.min(left)
 }

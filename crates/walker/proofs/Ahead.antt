@@ -122,18 +122,6 @@ module _ (y : Way) (extent w s at : ℕ) (k : 0 < y.by → (0 < w) × (at < exte
     h : 0 < y.by
     h = omega (arith, n)
 
-    pub told_wide : 0 < w
-    told_wide = (k h).0
-
-    pub told_at_lem : at ≤ extent
-    told_at_lem = let x = (k h).1 in omega (arith, x)
-
-    pub told_start : s ≤ at
-    told_start = let x = (k h).2 in let d = div-mul-le_self at w in omega (arith, x, d)
-
-    pub told_size : at - s ≤ w
-    told_size = let x = (k h).2 in let d = div-add-mod' at w in let m = mod-lt at (k h).0 in omega (arith, x, d, m)
-
     pub told_tile : y.inside ≡ true → w - (at - s) < extent - at → w - (at - s) ≡ left_in y extent w at
     told_tile i g = let x : w - (at - s) ≡ w - (at - start_of w at) = ap (λ (z : ℕ). w - (at - z)) (k h).2 in x ∙ sym (left_inside y extent w at h i ∙ least (w - (at - start_of w at)) (extent - at) (subst (λ (z : ℕ). z < extent - at) x g))
       where

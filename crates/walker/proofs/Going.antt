@@ -10,7 +10,7 @@ use lib.Dec.{ltb, eqb}
 use lib.IntN.{ℤ, pos}
 use lib.ListN.{length, get_or, set}
 use lib.Seq.{get_or-set_same, get_or-set_other, set-set, set-get_or}
-use borrow.Author.Tests.{le-ltb, ltb-false, eq-eqb, ne_eqb}
+use borrow.Author.Tests.{le-ltb, ltb-false, ne_eqb}
 use Rattle.advance.specs.Axis.{start_of, ahead, back, inside_goal, tile_goal, goal_of}
 use Rattle.advance.specs.Blocks.{length_of}
 use Rattle.advance.specs.Filled.{by_lt, filled_above}
@@ -20,7 +20,7 @@ use Rattle.advance.proofs.Axis.{start_one, start_whole, start_on, start_tiles}
 use Rattle.advance.proofs.Dot.{roomy_shifts, roomy_moved, start_stays}
 use Rattle.advance.proofs.Turns.{tiled_set, passed, passed_single}
 use Rattle.walker.specs.declared.Way.{Way}
-use Rattle.walker.specs.Way.{Leads, left_of, onward, OnTo, AtEnd, MayGo, Gone, MayStride, LeftFrom, MayTell, PassedOn, StrodeOn}
+use Rattle.walker.specs.Way.{Leads, left_of, onward, OnTo, MayGo, Gone, MayStride, LeftFrom, MayTell, PassedOn, StrodeOn}
 use Rattle.walker.proofs.Ahead.{inside_next, tiles-fit, tile_next, left_inside, left_tile, left_some, left_way}
 
 -- ---- axes that stay where they are
@@ -328,9 +328,6 @@ module _ {y : Way} {rank operands : ℕ} {e w : List ℕ} {s : List ℤ} {t c : 
     pub end_below : 0 < y.by → A + (left - 1) * y.by ≤ E
     end_below h = let f = below h (left - 1) last_less in omega (arith, f)
 
-    pub end_at : (0 < y.by) × (y.inside ≡ false → E - (A + (left - 1) * y.by) ≤ y.by) → (0 < y.by) × AtEnd y E Z A
-    end_at k = (k.0, λ i. subst (λ (n : ℕ). E - (A + (n - 1) * y.by) ≤ Z) left_is (subst (λ (z : ℕ). E - (A + (left - 1) * y.by) ≤ z) (l.tile_by i k.0) (k.1 i)))
-
     pub limit_less : (limit : ℕ) → limit < left → limit < left_of y e w c
     limit_less limit h = omega (arith, h, left_is)
 
@@ -366,15 +363,3 @@ pub strode_of : {y : Way} {rank operands limit : ℕ} {e w : List ℕ} {s : List
     → {first : List ℤ} → first ≡ o → {more : Bool} {t' c' : List ℕ} {o' : List ℤ} → PassedOn y rank operands limit e w s c o more t' c' o'
     → StrodeOn y rank operands limit e w s c o (record { count = count; length = len; more = more }) first t' c' o'
 strode_of {limit = limit} a b n f p = record { count = n ∙ ap (λ (i : ℕ). min limit i) a; length = b; offsets = f; short = p.short; all = p.all }
-
--- what `go_steps` leaves, by the way it went
-module _ {y : Way} {steps : ℕ} {s : List ℤ} {t c : List ℕ} {o : List ℤ} where
-  pub gone_none : steps ≡ 0 → Gone y steps s t c o t c o
-  gone_none h = record { starts = sym (rw (eq-eqb steps 0 h)); counters = sym (rw (eq-eqb steps 0 h)); offsets = sym (rw (eq-eqb steps 0 h)) }
-
-  module _ (h : steps ≡ 0 → ⊥) {o' : List ℤ} (f : o' ≡ shifted y.operands y.axis (get_or c y.axis 0) (get_or c y.axis 0 + steps * y.by) s o) where
-    pub gone_inside : y.inside ≡ true → Gone y steps s t c o t (onward y c steps) o'
-    gone_inside i = record { starts = sym (rw (ne_eqb steps 0 h, i)); counters = sym (rw (ne_eqb steps 0 h)); offsets = f ∙ sym (rw (ne_eqb steps 0 h)) }
-
-    pub gone_tile : y.inside ≡ false → Gone y steps s t c o (set t y.axis (get_or c y.axis 0 + steps * y.by)) (onward y c steps) o'
-    gone_tile i = record { starts = sym (rw (ne_eqb steps 0 h, i)); counters = sym (rw (ne_eqb steps 0 h)); offsets = f ∙ sym (rw (ne_eqb steps 0 h)) }

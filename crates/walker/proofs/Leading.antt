@@ -1,9 +1,8 @@
--- Laws of finding a way, and of how far each operand moves along it.
+-- How far each operand moves along a way.
 -- Assumes nothing.
-use mathlib.Core.Path.{◌≡◌, refl, sym, ap, ap₂, ◌∙◌, subst}
-use mathlib.Core.Bool.{true, false, false≢true}
+use mathlib.Core.Path.{◌≡◌, sym, ap, ap₂, ◌∙◌, subst}
 use mathlib.Core.List.{List}
-use Prim.Native.Nat.{ℕ, ◌+◌, ◌-◌, ◌*◌, ◌^◌, ◌≤◌, ◌<◌, min}
+use Prim.Native.Nat.{ℕ, ◌+◌, ◌-◌, ◌*◌, ◌^◌, ◌≤◌, ◌<◌}
 use native.Mathlib.Nat.{lt_of_le_of_lt, mul-le-mul_right, zero-mul}
 use native.Mathlib.Omega.{arith}
 use lib.IntN.{ℤ, pos, nat_abs, sub_ℕ, ◌+ℤ◌, ◌*ℤ◌, +ℤ_idl}
@@ -12,69 +11,10 @@ use mir.Syntax.{w64}
 use mir.Val.{SFits}
 use Rattle.advance.specs.Filled.{by_lt}
 use Rattle.advance.specs.Moves.{after_move, Shifts}
-use Rattle.advance.specs.Carry.{Roomy, Single}
+use Rattle.advance.specs.Carry.{Roomy}
 use Rattle.advance.proofs.Signed as signed
 use Rattle.walker.specs.declared.Way.{Way}
 use Rattle.walker.specs.Way.{Leads}
-
--- one axis more that is as those before it
-pub one_more_lem : (P : ℕ → Type 0) (first i : ℕ) → ((j : ℕ) → first ≤ j → j < i → P j) → P i → (j : ℕ) → first ≤ j → j < i + 1 → P j
-one_more_lem P first i f p j a b = by_lt j i (λ h. f j a h) (λ h. subst P (let z : i ≡ j = omega arith in z) p)
-
-module _ {rank operands inner : ℕ} {e w : List ℕ} (few : rank ≤ 64) (single : Single inner rank w) {cut : ℕ} (f : (1 ≤ cut) × ((j : ℕ) → 1 ≤ j → j < cut → get_or w j 0 ≡ 1)) where
-  -- inside a tile
-  pub leads_inside : cut < rank → {by : ℕ} → by ≡ min 1 (get_or e cut 0 - 1)
-      → Leads (record { rank = rank; operands = operands; inner = inner; inside = true; axis = cut; by = by }) rank operands e w
-  leads_inside h {by} g = record {
-    rank_is = refl;
-    operands_is = refl;
-    single = single;
-    small = omega (arith, few, h);
-    there = λ p. h;
-    room = λ p. omega (arith, g, p);
-    inner_by = λ i p. omega (arith, g, p);
-    inner_axis = λ i p. f.0;
-    inner-still = λ i. f.1;
-    tile_by = λ i. absurd (false≢true (sym i));
-    tile_still = λ i. absurd (false≢true (sym i));
-    tile_whole = λ i. absurd (false≢true (sym i));
-  }
-
-  -- from tile to tile
-  pub leads_tiled : rank ≤ cut → {axis : ℕ} → (axis ≤ rank) × ((j : ℕ) → j < axis → get_or e j 0 ≤ get_or w j 0) × (axis < rank → get_or w axis 0 < get_or e axis 0) → axis < rank
-      → Leads (record { rank = rank; operands = operands; inner = inner; inside = false; axis = axis; by = get_or w axis 0 }) rank operands e w
-  leads_tiled h k l = record {
-    rank_is = refl;
-    operands_is = refl;
-    single = single;
-    small = omega (arith, few, l);
-    there = λ p. l;
-    room = λ p. k.2 l;
-    inner_by = λ i. absurd (false≢true i);
-    inner_axis = λ i. absurd (false≢true i);
-    inner-still = λ i. absurd (false≢true i);
-    tile_by = λ i p. refl;
-    tile_still = λ i p j a b. f.1 j a (let z : j < cut = omega (arith, b, h) in z);
-    tile_whole = λ i p. k.1;
-  }
-
--- nowhere
-pub leads_none : {rank operands inner : ℕ} {e w : List ℕ} → Single inner rank w
-    → Leads (record { rank = rank; operands = operands; inner = inner; inside = false; axis = 0; by = 0 }) rank operands e w
-leads_none single = record {
-  rank_is = refl;
-  operands_is = refl;
-  single = single;
-  small = omega arith;
-  there = λ p. absurd (let z : ⊥ = omega (arith, p) in z);
-  room = λ p. absurd (let z : ⊥ = omega (arith, p) in z);
-  inner_by = λ i. absurd (false≢true i);
-  inner_axis = λ i. absurd (false≢true i);
-  inner-still = λ i. absurd (false≢true i);
-  tile_by = λ i p. absurd (let z : ⊥ = omega (arith, p) in z);
-  tile_still = λ i p. absurd (let z : ⊥ = omega (arith, p) in z);
-  tile_whole = λ i p. absurd (let z : ⊥ = omega (arith, p) in z);
-}
 
 -- each operand's move stays within 64 bits
 pub moves_fit : {y : Way} {rank operands : ℕ} {e w : List ℕ} {s : List ℤ} {c : List ℕ} {o : List ℤ} → Roomy rank operands e s c o → Leads y rank operands e w

@@ -249,9 +249,6 @@ module _ {y : Way} {rank operands : ℕ} {e w : List ℕ} {s : List ℤ} {t c : 
       left_inside_at (home_tile i) (unmoved_at operands y.axis A (get_or t y.axis 0) s o (omega (arith, few, eight)) z) (λ u. absurd (false≢true (sym u ∙ i))) i k refl
 
 -- what `hop` leaves, by the way it went
-pub not_hopped : {y : Way} {limit : ℕ} {e w : List ℕ} {s : List ℤ} {t c : List ℕ} {o : List ℤ} → Hopped y limit e w s t c o false t c o
-not_hopped = record { past = λ b. absurd (false≢true b); kept = λ b. (refl, refl, refl) }
-
 pub hopped : {y : Way} {limit : ℕ} {e w : List ℕ} {s : List ℤ} {t c : List ℕ} {o : List ℤ} (m : Strides y e w s t c o) {left : ℕ} → left ≡ left_of y e w c → 0 < y.by → y.inside ≡ true → left ≤ limit
     → get_or c y.axis 0 ≡ get_or t y.axis 0 → y.axis + 1 < y.inner → {r : Bool} {t' c' : List ℕ} {o' : List ℤ} → WentAhead (y.axis + 1) y.rank y.operands e w s t c o r t' c' o'
     → Hopped y limit e w s t c o r t' c' o'

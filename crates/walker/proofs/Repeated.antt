@@ -12,7 +12,6 @@ use lib.IntN.{ℤ}
 use lib.ListN.{length, take, length-append, length-map, length-take}
 use lib.Seq.{take_all}
 use Rattle.strided.specs.Base.{over}
-use Rattle.strided.specs.Begin.{begun_at}
 use Rattle.strided.specs.Step.{walk_after}
 use Rattle.strided.specs.Bulk.{next_blocks}
 use Rattle.strided.specs.declared.Plan.{Plan}
@@ -30,6 +29,7 @@ use Rattle.walker.specs.declared.Way.{Way}
 use Rattle.walker.specs.Stretch.{laid, sizes, stretch_at, stretches, blocks_in}
 use Rattle.walker.specs.Way.{Leads}
 use Rattle.walker.proofs.Stretching.{At, Lies, some_here, lies_at}
+use Rattle.strided.specs.Begin.{started}
 
 -- a plan, and the way of its walks as `way_of` tells it
 module _ (p : Plan) (y : Way) (l : Leads y p.rank p.operands p.extents (sizes p)) where
@@ -116,9 +116,9 @@ module _ (p : Plan) (y : Way) (l : Leads y p.rank p.operands p.extents (sizes p)
 
   -- FROM A BEGINNING at the starts zs: the plan's blocks, in document 01's order
   pub stretches_plan : (zs : List ℤ) → Ready p zs → Sized p → (ns : List ℕ) → All (λ (n : ℕ). 1 ≤ n) ns → length (placed_walk p zs) < length ns
-      → (over (stretches ns y p (begun_at p zs).walk) laid ≡ placed_walk p zs) × ((walk_after p (blocks_in (stretches ns y p (begun_at p zs).walk)) (begun_at p zs).walk).ended ≡ true)
+      → (over (stretches ns y p (started p zs)) laid ≡ placed_walk p zs) × ((walk_after p (blocks_in (stretches ns y p (started p zs))) (started p zs)).ended ≡ true)
   stretches_plan zs r z ns ones many =
-      let w : Walk = (begun_at p zs).walk in
+      let w : Walk = (started p zs) in
       let e : placed (next_blocks (length ns) p w) ≡ take (length ns) (placed_walk p zs) = placed_part p zs r (length ns) 0 in
       let m = length-map (next_blocks (length ns) p w) (placed_of p.operands) in
       let t = length-take (length ns) (placed_walk p zs) in

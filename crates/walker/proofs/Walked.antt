@@ -11,7 +11,6 @@ use lib.ListN.{length, get_or, take, drop, replicate, length-append, length-map,
 use mir.Syntax.{w64}
 use mir.Val.{SFits}
 use Rattle.strided.specs.Base.{run}
-use Rattle.strided.specs.Begin.{begun_at}
 use Rattle.strided.specs.Step.{walk_after}
 use Rattle.strided.specs.Bulk.{next_blocks}
 use Rattle.strided.specs.declared.Plan.{Plan}
@@ -33,6 +32,7 @@ use Rattle.walker.specs.Way.{Leads, left_of, moves_of, MayStride, Strides, MayTe
 use Rattle.walker.proofs.Going.{may_tell}
 use Rattle.walker.proofs.Leading.{moves_fit}
 use Rattle.walker.proofs.Stretching.{At, Stands, asks, some_here, fits_on, steps_fit, moves_long, strode_stands, strode_stretch}
+use Rattle.strided.specs.Begin.{started}
 
 -- n blocks of the walk from u on are done: where the arrays stand
 pub record Walked (p : Plan) (u : Walk) (y : Way) (w : List ℕ) (n : ℕ) (more : Bool) (t c : List ℕ) (o : List ℤ) : Type 0 where
@@ -144,7 +144,7 @@ module _ {p : Plan} {u : Walk} {y : Way} {w : List ℕ} {n : ℕ} {t c : List �
       walked_fit = let z = x.count in subst (RowsFit r.count p.operands d') (sym x.offsets) (rows-here d-is (omega (arith, z)))
 
       -- in a walk from the starts zs they are the next of the plan's blocks
-      pub walked_part : {zs : List ℤ} → Ready p zs → u ≡ (begun_at p zs).walk
+      pub walked_part : {zs : List ℤ} → Ready p zs → u ≡ (started p zs)
           → drop n (placed_walk p zs) ≡ laid (told p.operands r first d') ++ drop (n + r.count) (placed_walk p zs)
       walked_part {zs} q b =
           placed-next p zs q r.count n
@@ -152,7 +152,7 @@ module _ {p : Plan} {u : Walk} {y : Way} {w : List ℕ} {n : ℕ} {t c : List �
           (ap (λ (v : Walk). map (placed_of p.operands) (next_blocks r.count p v)) (ap (walk_after p n) (sym b) ∙ sym k.state) ∙ walked_laid)
 
 -- in a walk from the starts zs there are as many
-pub walked_within : {p : Plan} {u : Walk} {y : Way} {w : List ℕ} {n : ℕ} {more : Bool} {t c : List ℕ} {o : List ℤ} → Walked p u y w n more t c o → {zs : List ℤ} → Ready p zs → u ≡ (begun_at p zs).walk
+pub walked_within : {p : Plan} {u : Walk} {y : Way} {w : List ℕ} {n : ℕ} {more : Bool} {t c : List ℕ} {o : List ℤ} → Walked p u y w n more t c o → {zs : List ℤ} → Ready p zs → u ≡ (started p zs)
     → n ≤ length (placed_walk p zs)
 walked_within {p} {u} {n = n} k {zs} q b =
     let e : map (placed_of p.operands) (next_blocks n p u) ≡ take n (placed_walk p zs) = ap (λ (v : Walk). map (placed_of p.operands) (next_blocks n p v)) b ∙ placed_part p zs q n 0 in
@@ -167,5 +167,5 @@ module _ {p : Plan} {u : Walk} {y : Way} {w : List ℕ} {n : ℕ} {t c : List �
       ∙ ap (λ (l : List Stepped). next_blocks n p u ++ l) (ap (next_blocks m p) (sym k.state) ∙ ended_none p (walk_of true c o) k.taken refl m)
       ∙ append-nil (next_blocks n p u)
 
-  pub walked_over : {zs : List ℤ} → Ready p zs → u ≡ (begun_at p zs).walk → drop n (placed_walk p zs) ≡ []
+  pub walked_over : {zs : List ℤ} → Ready p zs → u ≡ (started p zs) → drop n (placed_walk p zs) ≡ []
   walked_over {zs} q b = placed-over p zs q n (ap (λ (v : Walk). (walk_after p n v).ended) (sym b) ∙ ap (λ (v : Walk). v.ended) (sym k.state))

@@ -36,21 +36,19 @@ pub struct Next {
 }
 
 // A limit that no stretch passes, for whoever walks to the end.
-pub const ALL: u64 = 18446744073709551615;
+pub const ALL: u64 = u64::MAX;
 
 // The first axis from 1 on whose blocks are not 1; where there is none, a number from the rank on.
 fn first_cut(rank: usize, w: &[u64; 64]) -> usize
     requires { rank ≤ 64 }
     ensures { (1 ≤ result) × ((j : ℕ) → 1 ≤ j → j < result → get_or w.now j 0 ≡ 1) }
 {
-    let mut i: usize = 1;
-    while i < rank {
+    for i in 1..rank {
         if w[i] != 1 {
             return i;
         }
-        i += 1;
     }
-    i
+    rank.max(1)
 }
 
 // The first axis with more than one tile; the rank where there is none.
@@ -59,21 +57,19 @@ fn first_tiled<'a>(rank: usize, e: &'a [u64; 64], w: &'a [u64; 64]) -> usize
     ensures { (result ≤ rank) × ((j : ℕ) → j < result → get_or e.now j 0 ≤ get_or w.now j 0)
         × (result < rank → get_or w.now result 0 < get_or e.now result 0) }
 {
-    let mut i: usize = 0;
-    while i < rank {
+    for i in 0..rank {
         if w[i] < e[i] {
             return i;
         }
-        i += 1;
     }
-    i
+    rank
 }
 
 // How far it is to the next index of an axis; 0 if there is none.
 fn step_along(extent: u64) -> u64
     ensures { result ≡ min 1 (extent - 1) }
 {
-    if 1 < extent { 1 } else { 0 }
+    u64::from(1 < extent)
 }
 
 // The way of a walk's stretches: along the quickest axis that moves inside a tile; where none does, along the quickest that has a second tile.
@@ -85,9 +81,9 @@ pub fn way_of<'a>(rank: usize, operands: usize, e: &'a [u64; 64], w: &'a [u64; 6
     let cut = first_cut(rank, w);
     if cut < rank {
         return Way {
-            rank: rank,
-            operands: operands,
-            inner: inner,
+            rank,
+            operands,
+            inner,
             inside: true,
             axis: cut,
             by: step_along(e[cut]),
@@ -96,18 +92,18 @@ pub fn way_of<'a>(rank: usize, operands: usize, e: &'a [u64; 64], w: &'a [u64; 6
     let tiled = first_tiled(rank, e, w);
     if tiled < rank {
         return Way {
-            rank: rank,
-            operands: operands,
-            inner: inner,
+            rank,
+            operands,
+            inner,
             inside: false,
             axis: tiled,
             by: w[tiled],
         };
     }
     Way {
-        rank: rank,
-        operands: operands,
-        inner: inner,
+        rank,
+        operands,
+        inner,
         inside: false,
         axis: 0,
         by: 0,
@@ -134,12 +130,9 @@ fn blocks_left(y: Way, extent: u64, width: u64, start: u64, at: u64) -> u64
     }
     let left = extent - at;
     if y.inside {
-        let size = width - (at - start);
-        if size < left {
-            return size;
-        }
-        return left;
+        return left.min(width - (at - start));
     }
+    // Kept: the test, and not the greater of 1 and the quotient, which divides each time.
     if left < width {
         return 1;
     }
@@ -164,7 +157,7 @@ fn go_steps(
     let axis = y.axis;
     let at = c[axis];
     let to = at + steps * y.by;
-    shift(y.operands, axis, at, to, s, &mut *o);
+    shift(y.operands, axis, at, to, s, o);
     c[axis] = to;
     if y.inside {
         return;
@@ -178,13 +171,7 @@ fn ends_axis(y: Way, extent: u64, at: u64, left: u64) -> bool
     requires left_nonzero { (0 < left) × (extent < 2 ^ 64) }
     ensures { result ≡ true → (0 < y.by) × (y.inside ≡ false → extent - (at + (left - 1) * y.by) ≤ y.by) }
 {
-    if y.by == 0 {
-        return false;
-    }
-    if y.inside {
-        return true;
-    }
-    extent - (at + (left - 1) * y.by) <= y.by
+    y.by != 0 && (y.inside || extent - (at + (left - 1) * y.by) <= y.by)
 }
 
 // Leaves the stretch at the counters, all of it: its axis goes home, and the axes behind it carry on. Says whether there is a block.
@@ -207,44 +194,15 @@ fn leave<'a>(
     let at = c[axis];
     if y.inside {
         let start = t[axis];
-        shift(operands, axis, at, start, s, &mut *o);
+        shift(operands, axis, at, start, s, o);
         c[axis] = start;
-        let more = carry(
-            true,
-            axis + 1,
-            y.inner,
-            rank,
-            operands,
-            e,
-            w,
-            s,
-            &mut *t,
-            &mut *c,
-            &mut *o,
-        );
-        if more {
-            return true;
-        }
-        return carry(
-            false, 0, rank, rank, operands, e, w, s, &mut *t, &mut *c, &mut *o,
-        );
+        return carry(true, axis + 1, y.inner, rank, operands, e, w, s, t, c, o)
+            || carry(false, 0, rank, rank, operands, e, w, s, t, c, o);
     }
-    shift(operands, axis, at, 0, s, &mut *o);
+    shift(operands, axis, at, 0, s, o);
     c[axis] = 0;
     t[axis] = 0;
-    carry(
-        false,
-        axis + 1,
-        rank,
-        rank,
-        operands,
-        e,
-        w,
-        s,
-        &mut *t,
-        &mut *c,
-        &mut *o,
-    )
+    carry(false, axis + 1, rank, rank, operands, e, w, s, t, c, o)
 }
 
 // The stretch at the counters to its end: `left` blocks of `length` cells each.
@@ -266,12 +224,10 @@ pub fn stretch_here<'a>(
     ensures { (result.left ≡ left_of y e.now w.now c.now)
         × (result.length ≡ length_of y.rank e.now w.now c.now) × (get_or e.now y.axis 0 < 2 ^ 64) }
 {
-    let length = length_of(y.rank, e, w, c);
     let axis = y.axis;
-    let left = blocks_left(y, e[axis], w[axis], t[axis], c[axis]);
     Here {
-        left: left,
-        length: length,
+        left: blocks_left(y, e[axis], w[axis], t[axis], c[axis]),
+        length: length_of(y.rank, e, w, c),
     }
 }
 
@@ -279,7 +235,7 @@ pub fn stretch_here<'a>(
 pub fn least(limit: u64, left: u64) -> u64
     ensures { result ≡ min limit left }
 {
-    if limit < left { limit } else { left }
+    limit.min(left)
 }
 
 // Goes past the stretch at the counters, of at most `limit` blocks, in the case that comes most often: it began where its tile does and is
@@ -302,32 +258,10 @@ pub fn hop<'a>(
         result t.new c.new o.new }
 {
     let axis = y.axis;
-    if y.by == 0 {
+    if y.by == 0 || !y.inside || y.inner <= axis + 1 || limit < left || c[axis] != t[axis] {
         return false;
     }
-    if !y.inside {
-        return false;
-    }
-    if y.inner <= axis + 1 {
-        return false;
-    }
-    if limit < left {
-        return false;
-    }
-    if c[axis] != t[axis] {
-        return false;
-    }
-    go_ahead(
-        axis + 1,
-        y.rank,
-        y.operands,
-        e,
-        w,
-        s,
-        &mut *t,
-        &mut *c,
-        &mut *o,
-    )
+    go_ahead(axis + 1, y.rank, y.operands, e, w, s, t, c, o)
 }
 
 // Goes past the stretch at the counters, of at most `limit` blocks, in any case. Says whether there is a block behind it; if not, the
@@ -349,17 +283,15 @@ pub fn go_behind<'a>(
         result t.new c.new o.new }
 {
     if limit < left {
-        go_steps(y, limit, s, &mut *t, &mut *c, &mut *o);
+        go_steps(y, limit, s, t, c, o);
         return true;
     }
     let axis = y.axis;
     if ends_axis(y, e[axis], c[axis], left) {
-        return leave(y, e, w, s, &mut *t, &mut *c, &mut *o);
+        return leave(y, e, w, s, t, c, o);
     }
-    go_steps(y, left - 1, s, &mut *t, &mut *c, &mut *o);
-    advance(
-        y.rank, y.inner, y.operands, e, w, s, &mut *t, &mut *c, &mut *o,
-    )
+    go_steps(y, left - 1, s, t, c, o);
+    advance(y.rank, y.inner, y.operands, e, w, s, t, c, o)
 }
 
 // THE STRETCH at the counters, of at most `limit` blocks: the offsets of its first block go to `first`, and the walk goes past it.
@@ -378,14 +310,13 @@ pub fn take_stretch<'a>(
     ensures { Strode y limit e.now w.now s.now c.old o.old
         result first.new t.new c.new o.new }
 {
-    let x = stretch_here(y, e, w, &*t, &*c);
-    let here = *o;
-    *first = here;
-    let more = go_behind(y, limit, x.left, e, w, s, &mut *t, &mut *c, &mut *o);
+    let x = stretch_here(y, e, w, t, c);
+    *first = *o;
+    let more = go_behind(y, limit, x.left, e, w, s, t, c, o);
     Next {
-        count: least(limit, x.left),
+        count: limit.min(x.left),
         length: x.length,
-        more: more,
+        more,
     }
 }
 
@@ -394,11 +325,7 @@ pub fn move_by<'a>(operands: usize, d: &'a [i64; 8], o: &mut [i64; 8])
     requires { MayMove operands d.now o.old }
     ensures { o.new ≡ added operands d.now o.old }
 {
-    let mut k = 0;
-    while k < operands {
-        let x = o[k];
-        let z = d[k];
-        o[k] = x + z;
-        k += 1;
+    for k in 0..operands {
+        o[k] += d[k];
     }
 }

@@ -9,10 +9,9 @@ ghost use Rattle.strided.specs.Text.{Prints};
 ghost use Rattle.walklist.specs.Asking.{Asks};
 ghost use Rattle.walklist.specs.Printing.{Received, Printing};
 
-use layout::magnitude;
 use std::env::{Env, FillError};
 use std::fs::File;
-use std::io::Read;
+use std::io::{self, Read};
 use words::system_words;
 use writing::line::put_refusal;
 
@@ -25,26 +24,34 @@ const ROOM: usize = 65536;
 // The longest argument that is looked at: one byte more than the name of a file can have.
 const ARGUMENT: usize = 4096;
 
-// How many bytes were read, or that a read failed.
-#[derive(Clone, Copy)]
-enum Input {
-    Bytes(usize),
-    Failed,
-}
+// The form of the texts.
+const HELP: &[u8] = br"walklist [FILE]
+Prints the plan of a layout and the blocks of its walk. The layout is read from FILE, or from standard input:
+  L,purpose,rank,operands,chosen   P or F; the number of the chosen operand, or - for none (P only)
+  E,extents                        one for each axis
+  O,size,strides                   for each operand its bytes, and a stride in elements for each axis
+Numbers are decimal, lines end in LF, and a text has at most 16,384 bytes. It prints:
+  K,rank                           the axes of the plan
+  A,axis,extent,block,strides      for each axis, the innermost first; a stride for each operand
+  B,number,length,offsets          for each block; an offset for each operand
+  Z,blocks,cells                   how many there are
+  R,number                         and nothing else, if the layout is refused
+For instance: printf 'L,P,2,2,-\nE,2,3\nO,8,1,2\nO,8,3,1\n' | walklist
+";
 
-// Reads to the end, or until the bytes lent are full.
-fn read_input<R: Read>(reader: &mut R, text: &mut [u8]) -> Input
+// Reads to the end, or until the bytes lent are full. Answers how many bytes were read.
+fn read_input<R: Read>(reader: &mut R, text: &mut [u8]) -> io::Result<usize>
     ensures { Received (length text.old) result }
 {
     let mut n: usize = 0;
     while n < text.len() {
-        match reader.read(&mut text[n..]) {
-            Err(_) => return Input::Failed,
-            Ok(0) => return Input::Bytes(n),
-            Ok(got) => n += got,
+        let got = reader.read(&mut text[n..])?;
+        if got == 0 {
+            break;
         }
+        n += got;
     }
-    Input::Bytes(n)
+    Ok(n)
 }
 
 // What is printed for a text, in bytes of zeros. It answers how many.
@@ -54,7 +61,7 @@ fn list_text(text: &[u8], out: &mut [u8]) -> usize
 {
     let answer = text::walklist(text, out);
     if answer < 0 {
-        return put_refusal(out, 0, magnitude(answer));
+        return put_refusal(out, 0, answer.unsigned_abs());
     }
     answer as usize
 }
@@ -87,12 +94,13 @@ fn print_input<R: Read>(rt: &HostRuntime, reader: &mut R) {
     let mut text = [0u8; TEXT];
     let mut out = [0u8; ROOM];
     match read_input(reader, &mut text) {
-        Input::Bytes(n) => print_text(rt, &text[..n], &mut out),
-        Input::Failed => complain(rt, b"walklist: cannot read the layout\n"),
+        Ok(n) => print_text(rt, &text[..n], &mut out),
+        Err(_) => complain(rt, b"walklist: cannot read the layout\n"),
     }
 }
 
 // A line of help on standard output: of what is written there, all that is no listing.
+// Kept: beside write_lines, which does the same with a listing: one function for both would let any bytes be written.
 fn help_line(rt: &HostRuntime, line: &[u8]) {
     if rt.stdout().write_all(line).is_ok() {
         return;
@@ -100,71 +108,17 @@ fn help_line(rt: &HostRuntime, line: &[u8]) {
     complain(rt, b"walklist: cannot write standard output\n");
 }
 
-// The form of the texts.
 fn print_help(rt: &HostRuntime) {
-    help_line(rt, b"walklist [FILE]\n");
-    help_line(
-        rt,
-        b"Prints the plan of a layout and the blocks of its walk. The layout is read from FILE, or from standard input:\n",
-    );
-    help_line(
-        rt,
-        b"  L,purpose,rank,operands,chosen   P or F; the number of the chosen operand, or - for none (P only)\n",
-    );
-    help_line(
-        rt,
-        b"  E,extents                        one for each axis\n",
-    );
-    help_line(
-        rt,
-        b"  O,size,strides                   for each operand its bytes, and a stride in elements for each axis\n",
-    );
-    help_line(
-        rt,
-        b"Numbers are decimal, lines end in LF, and a text has at most 16,384 bytes. It prints:\n",
-    );
-    help_line(
-        rt,
-        b"  K,rank                           the axes of the plan\n",
-    );
-    help_line(
-        rt,
-        b"  A,axis,extent,block,strides      for each axis, the innermost first; a stride for each operand\n",
-    );
-    help_line(
-        rt,
-        b"  B,number,length,offsets          for each block; an offset for each operand\n",
-    );
-    help_line(
-        rt,
-        b"  Z,blocks,cells                   how many there are\n",
-    );
-    help_line(
-        rt,
-        b"  R,number                         and nothing else, if the layout is refused\n",
-    );
-    help_line(
-        rt,
-        b"For instance: printf 'L,P,2,2,-\\nE,2,3\\nO,8,1,2\\nO,8,3,1\\n' | walklist\n",
-    );
+    for line in HELP.split_inclusive(|byte| *byte == b'\n') {
+        help_line(rt, line);
+    }
 }
 
 // Whether an argument asks for help.
 fn is_help(word: &[u8]) -> bool
     ensures { Asks word.now result }
 {
-    let help = b"--help";
-    if word.len() != help.len() {
-        return false;
-    }
-    let mut i: usize = 0;
-    while i < help.len() {
-        if word[i] != help[i] {
-            return false;
-        }
-        i += 1;
-    }
-    true
+    word == b"--help".as_slice()
 }
 
 // Says why a file is not opened.

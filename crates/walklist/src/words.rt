@@ -14,8 +14,6 @@ pub fn system_words<'a>(error: &Error, room: &'a mut [u8]) -> &'a str {
 }
 
 fn before_number(text: &str) -> &str {
-    match text.split_once(" (os error ") {
-        Some((words, _)) => words,
-        None => text,
-    }
+    text.split_once(" (os error ")
+        .map_or(text, |(words, _)| words)
 }

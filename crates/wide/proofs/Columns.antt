@@ -1,7 +1,7 @@
 -- The product of two words from the products of their halves. Assumes nothing.
 use mathlib.Core.Path.{◌≡◌, refl, sym, ◌∙◌}
-use Prim.Native.Nat.{ℕ, ◌+◌, ◌*◌, ◌/◌, ◌%◌, ◌≤◌, ◌<◌}
-use native.Mathlib.Nat.{add_assoc, add_comm, add_left_comm, mul_assoc, mul_comm, mul_left_comm, mul-add, add-mul, mul-le-mul_left, mul-le-mul_right, le_trans, div-add-mod'}
+use Prim.Native.Nat.{ℕ, ◌+◌, ◌*◌, ◌/◌, ◌%◌, ◌<◌}
+use native.Mathlib.Nat.{suc-mul, le_of_lt, lt_of_le_of_lt, add_assoc, add_comm, add_left_comm, mul_assoc, mul_comm, mul_left_comm, mul-add, add-mul, mul-le-mul_left, mul-le-mul_right, div-add-mod'}
 use native.Mathlib.Omega.{arith}
 
 -- two numbers of two digits in base P: the outer products side by side, and the two in the middle
@@ -11,9 +11,6 @@ digits P a₀ a₁ b₀ b₁ = simp (mul-add, add-mul, mul_assoc, mul_comm, mul_
 pub by_halves : (P u v : ℕ) → u / P * (v / P) * (P * P) + u % P * (v % P) + u / P * (v % P) * P + u % P * (v / P) * P ≡ u * v
 by_halves P u v = sym (digits P (u % P) (u / P) (v % P) (v / P)) ∙ (λ i. div-add-mod' u P i * div-add-mod' v P i)
 
--- a product of two halves of words is a word
-pub half-top : (x y : ℕ) → x < 4294967296 → y < 4294967296 → x * y ≤ 18446744065119617025
-half-top x y f g =
-    let a : x ≤ 4294967295 = omega arith in
-    let b : y ≤ 4294967295 = omega arith in
-    le_trans (mul-le-mul_right y a) (mul-le-mul_left 4294967295 b)
+-- products of words have two words
+pub product_lt : (W a b : ℕ) → a < W → b < W → a * b < W * W
+product_lt W a b f g = lt_of_le_of_lt (mul-le-mul_left a (le_of_lt g)) (omega (arith, suc-mul a W, mul-le-mul_right W f))

@@ -1,3 +1,2 @@
-pub mod Words
 pub mod Columns
 pub mod Rests

@@ -4,10 +4,7 @@ use Prim.Native.Nat.{ℕ, suc, ◌+◌, ◌-◌, ◌*◌, ◌/◌, ◌%◌, ◌^
 use native.Mathlib.Nat.{mod-eq_of_lt, mod-eq-sub-mod, two-pow-succ, pow-suc, div-div-eq-div-mul, mul-add, mod-add-mod}
 use native.Mathlib.Omega.{arith}
 
--- a number below twice the divisor
-pub rest_under : (x by : ℕ) → x < by → x ≡ x % by
-rest_under x by h = sym (mod-eq_of_lt h)
-
+-- a number from the divisor up to twice of it
 pub rest_over : (x y by : ℕ) → y < by → x ≡ y + by → y ≡ x % by
 rest_over x y by h e =
     let d : x - by ≡ y = omega arith in

@@ -4,6 +4,9 @@
 ghost use Rattle.std.specs.Prelude.{◌≡◌, ◌+◌, ◌*◌, ◌%◌, ◌<◌, ◌≤◌, ltb};
 ghost use Rattle.wide.specs.Value.{word, value};
 
+// As many numbers as half a word has.
+const HALF: u64 = 1 << 32;
+
 // The number high * 2^64 + low.
 #[derive(Clone, Copy)]
 pub struct Wide {
@@ -16,8 +19,8 @@ fn middle(x: u64) -> Wide
     ensures { value result ≡ x * 4294967296 }
 {
     Wide {
-        high: x / 4294967296,
-        low: x % 4294967296 * 4294967296,
+        high: x >> 32,
+        low: x << 32,
     }
 }
 
@@ -41,19 +44,11 @@ impl Wide {
     pub fn product(u: u64, v: u64) -> Wide
         ensures { value result ≡ u * v }
     {
-        if u == 0 {
-            return Wide { high: 0, low: 0 };
+        if let Some(low) = u.checked_mul(v) {
+            return Wide { high: 0, low };
         }
-        if v <= 18446744073709551615 / u {
-            return Wide {
-                high: 0,
-                low: u * v,
-            };
-        }
-        let u0 = u % 4294967296;
-        let u1 = u / 4294967296;
-        let v0 = v % 4294967296;
-        let v1 = v / 4294967296;
+        let (u1, u0) = (u / HALF, u % HALF);
+        let (v1, v0) = (v / HALF, v % HALF);
         let outer = Wide {
             high: u1 * v1,
             low: u0 * v0,
@@ -66,21 +61,10 @@ impl Wide {
         requires { value self + value other < word * word }
         ensures { value result ≡ value self + value other }
     {
-        let room = 18446744073709551615 - self.low;
-        if room < other.low {
-            let high = self.high + other.high + 1;
-            let low = other.low - room - 1;
-            Wide {
-                high: high,
-                low: low,
-            }
-        } else {
-            let high = self.high + other.high;
-            let low = self.low + other.low;
-            Wide {
-                high: high,
-                low: low,
-            }
+        let (low, carry) = self.low.overflowing_add(other.low);
+        Wide {
+            high: self.high + other.high + u64::from(carry),
+            low,
         }
     }
 
@@ -88,11 +72,7 @@ impl Wide {
     pub fn below(self, other: Wide) -> bool
         ensures { result ≡ ltb (value self) (value other) }
     {
-        if self.high == other.high {
-            self.low < other.low
-        } else {
-            self.high < other.high
-        }
+        (self.high, self.low) < (other.high, other.low)
     }
 
     // The remainder by a word, which is not 0: that of the high word, and on with the bits of the low one.
@@ -104,9 +84,7 @@ impl Wide {
             return self.low % by;
         }
         let mut rest = self.high % by;
-        let mut i: u32 = 64;
-        while 0 < i {
-            i -= 1;
+        for i in (0..64u32).rev() {
             rest = twice(rest, (self.low >> i) % 2, by);
         }
         rest

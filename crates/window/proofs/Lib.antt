@@ -1,6 +1,5 @@
 -- Laws that belong to no one function.
 pub mod Outside
-pub mod Products
 pub mod Sums
 pub mod Row15
 pub mod Shifting

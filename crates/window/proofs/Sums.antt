@@ -1,20 +1,20 @@
 -- The sum of first times stride, from axis 0 up: no partial sum leaves 64 bits. Assumes nothing.
 use mathlib.Core.Path.{◌≡◌, refl, sym, ap, ◌∙◌, subst}
 use mathlib.Core.Bool.{Bool, true, false, cond}
-use mathlib.Core.List.{List, []}
+use mathlib.Core.List.{List}
 use Prim.Native.Nat.{ℕ, suc, ◌+◌, ◌-◌, ◌*◌, ◌^◌, ◌≤◌, ◌<◌}
 use native.Mathlib.Nat.{mul-le-mul_left, mul-one}
 use native.Mathlib.Numerals.{add-one}
 use native.Mathlib.Omega.{arith}
 use lib.Dec.{ltb}
-use lib.IntN.{ℤ, pos, negsuc, nat_abs, ◌+ℤ◌, ◌*ℤ◌, +ℤ_idl, +ℤ_idr, +ℤ_assoc, *ℤ-zero}
+use lib.IntN.{ℤ, pos, negsuc, nat_abs, ◌+ℤ◌, ◌*ℤ◌, +ℤ_assoc}
 use lib.ListN.{length, get_or, drop}
-use lib.Seq.{drop-cons, drop-length}
+use lib.Seq.{drop-cons}
 use mir.Syntax.{w64}
 use mir.Val.{SFits}
 use borrow.Author.Tests.{ltb-true}
 use Rattle.strided.specs.Layout.{dot, max_i}
-use Rattle.laws.specs.Base.Integers.{nat_abs_mul, nat_abs_zero, mag_size}
+use Rattle.laws.specs.Base.Integers.{nat_abs_mul, mag_size}
 use Rattle.window.specs.Indices.{spread}
 
 -- ---- sizes
@@ -37,9 +37,6 @@ size_fits z h = record { sfits = omega (arith, mag_size z) }
 
 -- ---- one term
 
-pub term_none : (f : ℕ) (t : ℤ) → nat_abs t ≡ 0 → pos 0 ≡ pos f *ℤ t
-term_none f t h = sym (ap (λ (z : ℤ). pos f *ℤ z) (nat_abs_zero t h) ∙ *ℤ-zero (pos f))
-
 pub term_fits_lem : (f : ℕ) (t : ℤ) → f * nat_abs t ≤ max_i → SFits w64 (pos f *ℤ t)
 term_fits_lem f t h = size_fits (pos f *ℤ t) (subst (λ (n : ℕ). n ≤ max_i) (sym (nat_abs_mul f t)) h)
 
@@ -55,9 +52,6 @@ first_small f t h p =
 abbrev pub Summed : List ℕ → List ℤ → ℤ → ℕ → Type 0
 Summed fs ts z i = (z +ℤ dot (drop i fs) (drop i ts) ≡ dot fs ts) × (nat_abs z + spread (drop i fs) (drop i ts) ≤ max_i)
 
-pub summed_start : (fs : List ℕ) (ts : List ℤ) → spread fs ts ≤ max_i → Summed fs ts (pos 0) 0
-summed_start fs ts h = (+ℤ_idl (dot fs ts), omega arith)
-
 module _ (fs : List ℕ) (ts : List ℤ) (z : ℤ) (i : ℕ) (h : i < length fs) (e : length ts ≡ length fs) (s : Summed fs ts z i) where
   abbrev v : ℤ
   v = pos (get_or fs i 0) *ℤ get_or ts i (pos 0)
@@ -67,10 +61,6 @@ module _ (fs : List ℕ) (ts : List ℤ) (z : ℤ) (i : ℕ) (h : i < length fs)
 
   spread-drop : spread (drop i fs) (drop i ts) ≡ get_or fs i 0 * nat_abs (get_or ts i (pos 0)) + spread (drop (i + 1) fs) (drop (i + 1) ts)
   spread-drop = let g : i < length ts = omega arith in rw (add-one i, drop-cons fs i 0 h, drop-cons ts i (pos 0) g)
-
-  -- the next term fits, and so does the sum with it
-  pub term_small : get_or fs i 0 * nat_abs (get_or ts i (pos 0)) ≤ max_i
-  term_small = omega (arith, spread-drop, s.1)
 
   sum_small : nat_abs (z +ℤ v) + spread (drop (i + 1) fs) (drop (i + 1) ts) ≤ max_i
   sum_small =
@@ -85,8 +75,3 @@ module _ (fs : List ℕ) (ts : List ℤ) (z : ℤ) (i : ℕ) (h : i < length fs)
   pub summed_turn : Summed fs ts (z +ℤ (pos (get_or fs i 0) *ℤ get_or ts i (pos 0))) (i + 1)
   summed_turn =
       (+ℤ_assoc z v (dot (drop (i + 1) fs) (drop (i + 1) ts)) ∙ ap (λ (d : ℤ). z +ℤ d) (sym dot-drop) ∙ s.0, sum_small)
-
-pub summed_end : (fs : List ℕ) (ts : List ℤ) (z : ℤ) (i : ℕ) → i ≡ length fs → Summed fs ts z i → z ≡ dot fs ts
-summed_end fs ts z i h s =
-    let d : drop i fs ≡ [] = ap (λ (n : ℕ). drop n fs) h ∙ drop-length fs in
-    sym (ap (λ (l : List ℕ). z +ℤ dot l (drop i ts)) d ∙ +ℤ_idr z) ∙ s.0

@@ -3,9 +3,8 @@
 use Rattle.std.proofs.Math.Path.{◌≡◌, refl, ap}
 use Rattle.std.proofs.Common.{sym, ◌∙◌, subst, mul-le-mul_left}
 use Rattle.std.proofs.Math.Bool.{Bool}
-use Rattle.std.specs.Prelude.{false, ◌||◌, not, ℕ, suc, ◌+◌, ◌*◌, ◌≤◌, ◌<◌, ltb, eqb, pos, drop}
+use Rattle.std.specs.Prelude.{false, ◌||◌, not, ℕ, suc, ◌+◌, ◌*◌, ◌≤◌, ◌<◌, ltb, eqb, pos, drop, None, Ok}
 use mathlib.Core.List.{List, [], ◌∷◌}
-use Rattle.std.proofs.Math.Option.{Option, none, some}
 use Rattle.std.proofs.Math.Nat.{mul_comm}
 use native.Mathlib.Omega.{arith}
 use Rattle.std.proofs.Math.IntN.{ℤ}
@@ -17,8 +16,7 @@ use Rattle.strided.specs.Machine.{Allowed}
 use Rattle.strided.specs.Refusals.{missing, layout_refused, planning_refused}
 use Rattle.strided.specs.declared.Machine.{Machine}
 use Rattle.strided.specs.declared.Purpose.{Purpose}
-use Rattle.strided.specs.declared.Refusal.{Refusal}
-use Rattle.strided.specs.declared.Answer.TheVariants.{Served}
+use Rattle.laws.specs.Refusals.Rows.{served_none}
 use Rattle.laws.specs.Base.Tests.{or_none}
 use Rattle.laws.specs.Base.Rows.{length_strides, length_over, row-over}
 use Rattle.laws.specs.Base.Refusals.{NoneApplies, none_applies}
@@ -30,7 +28,7 @@ use Rattle.laws.specs.Refusals.Zeros.{no_zero_of, no_zero_test}
 use Rattle.laws.specs.Refusals.Accepted.{Accepted, accepted, accepted_back, other_purpose, accepted_within}
 use Rattle.laws.specs.Refusals.Record.{planning_as}
 use Rattle.window.specs.declared.Windowed.{Windowed}
-use Rattle.window.specs.Window.{stepped_row, window_strides, shift_of, window_shifts, axis_wrong_at, stride_over, lists_wrong, window_rows, window_refused, windowed_or, windowed}
+use Rattle.window.specs.Window.{stepped_row, window_strides, shift_of, window_shifts, axis_wrong_at, stride_over, lists_wrong, window_rows, window_refused, windowed}
 use Rattle.window.specs.Indices.{Lies, all_lie, window_total, window_reach, parent_nozero}
 
 pub length-stepped : (ns : List ℕ) (st ts : List ℤ) → length st ≡ length ns → length ts ≡ length ns → length (stepped_row ns st ts) ≡ length ns
@@ -68,7 +66,7 @@ module _ (es sizes : List ℕ) (ss : List ℤ) (fs ns : List ℕ) (st : List ℤ
   abbrev far_at : ℕ → Bool
   far_at k = ltb max_i (reach es (stride_row ss (length es) k))
 
-  pub window_taken : window_refused es sizes ss fs ns st ≡ none → WindowTaken es sizes ss fs ns st
+  pub window_taken : window_refused es sizes ss fs ns st ≡ None → WindowTaken es sizes ss fs ns st
   unfolding window_refused NoneApplies
   window_taken h =
       let a : NoneApplies (window_rows es sizes ss fs ns st) = none_applies (window_rows es sizes ss fs ns st) h in
@@ -91,13 +89,9 @@ module _ (es sizes : List ℕ) (ss : List ℤ) (fs ns : List ℕ) (st : List ℤ
       }
 
   -- the entry serves exactly if it does not refuse
-  pub served_window : (windowed es sizes ss fs ns st).answer ≡ Served → window_refused es sizes ss fs ns st ≡ none
+  pub served_window : {w : Windowed} → windowed es sizes ss fs ns st ≡ Ok w → window_refused es sizes ss fs ns st ≡ None
   unfolding windowed
-  served_window h = go (window_refused es sizes ss fs ns st) _ h
-    where
-      go : (o : Option Refusal) (w : Windowed) → (windowed_or o w).answer ≡ Served → o ≡ none
-      go none w h = refl
-      go (some r) w h = let z : ◌≡◌ {A = ℕ} 0 1 = cc h in absurd (omega arith)
+  served_window h = served_none (window_refused es sizes ss fs ns st) _ h
 
   module _ (w : WindowTaken es sizes ss fs ns st) where
     abbrev M : ℕ
@@ -142,8 +136,8 @@ module _ (es sizes : List ℕ) (ss : List ℤ) (fs ns : List ℕ) (st : List ℤ
     window_accepted u a = accepted_within a ns ws w.counts window_count (window_total w.lies) operand_reach
 
     -- IT IS PLANNED, on every allowed machine and for every purpose whose chosen operand is there
-    pub window_planned : (u : Purpose) → layout_refused es sizes ss u ≡ none → (mc : Machine) (v : Purpose) → Allowed mc → missing (length sizes) (chosen v) ≡ false
-        → planning_refused mc ns sizes (window_strides ns st ss (length es) (length sizes)) v ≡ none
+    pub window_planned : (u : Purpose) → layout_refused es sizes ss u ≡ None → (mc : Machine) (v : Purpose) → Allowed mc → missing (length sizes) (chosen v) ≡ false
+        → planning_refused mc ns sizes (window_strides ns st ss (length es) (length sizes)) v ≡ None
     window_planned u h mc v m c =
         planning_as mc ns sizes ws v m ∙ accepted_back ns sizes ws v (window_accepted v (other_purpose (accepted es sizes ss u h) v c))
 

@@ -2,28 +2,28 @@
 -- its steps the products, its counts the inner counts. No hypothesis says that the products fit 64 bits: that is asked only of whoever calls
 -- the entry with them (a product can be too long where a count is 1, and there any step will do). Outer lists fs, ns, st; inner gs, ms, ut.
 -- Assumes nothing.
-use Rattle.std.specs.Prelude.{◌≡◌, refl, Bool, true, cond, List, [], ◌∷◌, ℕ, suc, ◌<◌, ℤ, pos, nat_abs, ◌+ℤ◌, ◌*ℤ◌, length, get_or}
+use Rattle.std.specs.Prelude.{◌≡◌, refl, Bool, true, cond, List, [], ◌∷◌, ℕ, suc, ◌<◌, ℤ, pos, nat_abs, ◌+ℤ◌, ◌*ℤ◌, length, get_or, Option, None, Ok}
 use Rattle.std.proofs.Common.{sym, ap₂, ◌∙◌, subst, mul-pos, arith}
 use Rattle.std.proofs.Math.Path.{ap}
 use Rattle.std.proofs.Math.Bool.{false}
-use Rattle.std.proofs.Math.Option.{Option, none}
 use Rattle.std.proofs.Math.IntN.{+ℤ_assoc}
 use borrow.Author.Tests.{eq-eqb, ne_eqb}
 use Rattle.strided.specs.Base.{some_of}
 use Rattle.strided.specs.Layout.{Within, NoZero, has_zero, dot, in_i64, stride_row}
 use Rattle.strided.specs.declared.Refusal.{Refusal}
-use Rattle.strided.specs.declared.Answer.TheVariants.{Served}
+use Rattle.window.specs.declared.Windowed.{Windowed}
 use Rattle.laws.specs.Base.Integers.{add-*ℤ, *ℤ-assoc, nat_abs_product}
 use Rattle.laws.specs.Base.Refusals.{NoneApplies, none_applies}
 use Rattle.laws.specs.Refusals.Operands.{some_of_none}
 use Rattle.laws.specs.Refusals.Rows.{none_refuses}
 use Rattle.laws.specs.Refusals.Zeros.{no_zero_test}
-use Rattle.window.specs.Window.{along, parent_index, window_strides, shift_of, window_shifts, on_axis, axis_wrong, axis_wrong_at, stride_over, lists_wrong, window_rows, window_refused, some_window, windowed_or, windowed}
+use Rattle.window.specs.Window.{along, parent_index, window_strides, shift_of, window_shifts, on_axis, axis_wrong, axis_wrong_at, stride_over, lists_wrong, window_rows, window_refused, some_window, windowed}
 use Rattle.window.specs.Axes.{AxisLies, spans, index_on, outside_exact, index_there, axis_within}
 use Rattle.window.specs.Indices.{Lies, no_axis_lem, one_more_lem, lies_at, parent_within, parent_dot, parent_nozero}
 use Rattle.window.specs.Layouts.{WindowTaken, window_taken, served_window, window_row}
 use Rattle.window.specs.Places.{no_stride_over}
 use Rattle.window.specs.Starts.{shift_at, window_offset}
+use Rattle.strided.specs.Refusals.{served_unless}
 
 abbrev pub nested_firsts : List ℕ → List ℤ → List ℕ → List ℕ
 nested_firsts fs st gs = parent_index fs st gs
@@ -88,7 +88,7 @@ right_axis_back e f n s a = rw (ne_eqb (nat_abs s) 0 (λ q. absurd (omega (arith
 
 pub record Nested (es sizes : List ℕ) (ss : List ℤ) (fs ns : List ℕ) (st ws : List ℤ) (gs ms : List ℕ) (ut : List ℤ) : Type 0 where
   -- the one window is not refused
-  pub taken : (windowed es sizes ss (nested_firsts fs st gs) ms (nested_steps st ut)).answer ≡ Served
+  pub taken : windowed es sizes ss (nested_firsts fs st gs) ms (nested_steps st ut) ≡ Ok (some_window es sizes ss (nested_firsts fs st gs) ms (nested_steps st ut))
   -- its parent indices are those of the two
   pub indices : (x : List ℕ) → Within ms x → parent_index (nested_firsts fs st gs) (nested_steps st ut) x ≡ parent_index fs st (parent_index gs ut x)
   -- its shifts are the sums
@@ -119,7 +119,7 @@ module _ (es sizes : List ℕ) (ss : List ℤ) (fs ns : List ℕ) (st : List ℤ
   abbrev vt : List ℤ
   vt = nested_steps st ut
 
-  module _ (outer : (windowed es sizes ss fs ns st).answer ≡ Served) (inner : (windowed ns sizes ws gs ms ut).answer ≡ Served) (nz : NoZero ms)
+  module _ {o i : Windowed} (outer : windowed es sizes ss fs ns st ≡ Ok o) (inner : windowed ns sizes ws gs ms ut ≡ Ok i) (nz : NoZero ms)
       (fits : (j : ℕ) → j < length ss → in_i64 (get_or ss j (pos 0)) ≡ true) where
     w : WindowTaken es sizes ss fs ns st
     w = window_taken es sizes ss fs ns st (served_window es sizes ss fs ns st outer)
@@ -135,7 +135,7 @@ module _ (es sizes : List ℕ) (ss : List ℤ) (fs ns : List ℕ) (st : List ℤ
         let l = lengths lies in
         no_stride_over lies ss M (record { counts = l.1; steps = l.2; strides = w.strides }) (w.near (no_zero_test es (parent_nozero lies nz))) fits
 
-    not-refused : window_refused es sizes ss hs ms vt ≡ none
+    not-refused : window_refused es sizes ss hs ms vt ≡ None
     unfolding window_refused NoneApplies
     not-refused =
         let a : NoneApplies (window_rows es sizes ss fs ns st) = none_applies (window_rows es sizes ss fs ns st) (served_window es sizes ss fs ns st outer) in
@@ -145,9 +145,9 @@ module _ (es sizes : List ℕ) (ss : List ℤ) (fs ns : List ℕ) (st : List ℤ
         some_of_none (axis_wrong_at es hs ms vt) rank (λ i h. right_axis_back (get_or es i 0) (get_or hs i 0) (get_or ms i 0) (get_or vt i (pos 0)) (lies_at lies i h)) in
         none_refuses (window_rows es sizes ss hs ms vt) (a.0, (a.1.0, (a.1.1.0, (a.1.1.1.0, (a.1.1.1.1.0, (rw (lists, axes) held, tt))))))
 
-    served : (windowed es sizes ss hs ms vt).answer ≡ Served
+    served : windowed es sizes ss hs ms vt ≡ Ok (some_window es sizes ss hs ms vt)
     unfolding windowed
-    served = ap (λ (o : Option Refusal). (windowed_or o (some_window es sizes ss hs ms vt)).answer) not-refused
+    served = ap (λ (r : Option Refusal). served_unless r (some_window es sizes ss hs ms vt)) not-refused
 
     t : WindowTaken es sizes ss hs ms vt
     t = window_taken es sizes ss hs ms vt not-refused

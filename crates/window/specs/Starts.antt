@@ -1,31 +1,30 @@
 -- STARTS: a start that the parent's walk takes is taken, shifted, by the window's walk. Assumes nothing.
-use Rattle.std.specs.Prelude.{◌≡◌, refl, Bool, true, false, cond, List, [], ◌∷◌, ℕ, zero, suc, ◌+◌, ◌<◌, ℤ, pos, ◌+ℤ◌, length, get_or}
+use Rattle.std.specs.Prelude.{◌≡◌, refl, Bool, true, false, cond, List, [], ◌∷◌, ℕ, zero, suc, ◌+◌, ◌<◌, ℤ, pos, ◌+ℤ◌, length, get_or, None, Ok, Option}
 use Rattle.std.proofs.Common.{sym, ap₂, ◌∙◌}
 use Rattle.std.proofs.Math.Path.{ap}
-use Rattle.std.proofs.Math.Option.{none}
 use native.Mathlib.Omega.{arith}
 use Rattle.std.proofs.Math.IntN.{+ℤ_assoc}
 use Rattle.strided.specs.Base.{some_of}
 use Rattle.strided.specs.Layout.{Within, has_zero, dot, in_i64, stride_row}
-use Rattle.strided.specs.Refusals.{leaves, row9, planning_refused}
-use Rattle.strided.specs.Plan.{planned}
-use Rattle.strided.specs.Begin.{begin_refused, begun_at}
+use Rattle.strided.specs.Refusals.{leaves, row9, planning_refused, served_unless}
+use Rattle.strided.specs.Begin.{begin_refused, begun_at, started}
 use Rattle.strided.specs.Demand3.{replaced}
 use Rattle.strided.specs.declared.Machine.{Machine}
 use Rattle.strided.specs.declared.Purpose.{Purpose}
-use Rattle.strided.specs.declared.Answer.TheVariants.{Served}
 use Rattle.laws.specs.Base.Lists.{get_d_run}
 use Rattle.laws.specs.Base.Rows.{length_strides}
 use Rattle.laws.specs.Refusals.Operands.{some_of_at, some_of_none}
-use Rattle.laws.specs.Refusals.Rows.{passes-unless, unless-passes}
+use Rattle.laws.specs.Refusals.Rows.{served_none, passes-unless, unless-passes}
 use Rattle.laws.specs.Base.Layouts.{total_nozero, within-total}
 use Rattle.laws.specs.Refusals.Zeros.{no_zero_of, no_zero_test}
 use Rattle.laws.specs.Plan.Begins.{begins_to, begins_from}
 use Rattle.laws.specs.Walk.Row9.{row9_exact}
-use Rattle.laws.specs.Walk.Steps.{served_walk}
 use Rattle.window.specs.Window.{parent_index, window_strides, shift_of, window_shifts, shifted}
 use Rattle.window.specs.Indices.{parent_within, parent_dot}
 use Rattle.window.specs.Layouts.{WindowTaken, length-stepped, window_row, parent_zero, length_shifts}
+use Rattle.strided.specs.Plan.{the_plan}
+use Rattle.strided.specs.declared.Refusal.{Refusal}
+use Rattle.strided.specs.declared.Walk.{Walk}
 
 pub length-shifted : (zs ds : List ℤ) → length (shifted zs ds) ≡ length zs
 length-shifted [] ds = refl
@@ -111,13 +110,15 @@ module _ (es sizes : List ℕ) (ss : List ℤ) (fs ns : List ℕ) (st : List ℤ
 
   -- AND SO DOES THE WALK: where a walk of the parent's plan begins, a walk of the window's plan begins at the shifted starts, whatever the
   -- machines, the purposes and the block sizes
-  module _ (mc : Machine) (u : Purpose) (h : planning_refused mc es sizes ss u ≡ none) (bs : List ℕ) where
-    pub window_begins : (mc' : Machine) (v : Purpose) → planning_refused mc' ns sizes (window_strides ns st ss (length es) (length sizes)) v ≡ none → (cs : List ℕ) (zs : List ℤ)
-        → (begun_at (replaced (planned mc es sizes ss u).plan bs) zs).answer ≡ Served
-        → (begun_at (replaced (planned mc' ns sizes (window_strides ns st ss (length es) (length sizes)) v).plan cs)
-        (shifted zs (window_shifts fs ns ss (length es) (length sizes)))).answer
-        ≡ Served
+  module _ (mc : Machine) (u : Purpose) (h : planning_refused mc es sizes ss u ≡ None) (bs : List ℕ) where
+    pub window_begins : (mc' : Machine) (v : Purpose) → planning_refused mc' ns sizes (window_strides ns st ss (length es) (length sizes)) v ≡ None → (cs : List ℕ) (zs : List ℤ)
+        → {w : Walk} → begun_at (replaced (the_plan mc es sizes ss u) bs) zs ≡ Ok w
+        → begun_at (replaced (the_plan mc' ns sizes (window_strides ns st ss (length es) (length sizes)) v) cs)
+        (shifted zs (window_shifts fs ns ss (length es) (length sizes)))
+        ≡ Ok (started (replaced (the_plan mc' ns sizes (window_strides ns st ss (length es) (length sizes)) v) cs)
+        (shifted zs (window_shifts fs ns ss (length es) (length sizes))))
     unfolding begun_at
     window_begins mc' v g cs zs s =
-        let b = begins_to mc es sizes ss u h bs zs (served_walk (begin_refused (replaced (planned mc es sizes ss u).plan bs) zs) _ s) in
-        rw (begins_from mc' ns sizes ws v g cs (shifted zs ds) (length-shifted zs ds ∙ b.0) (window_row9 zs b.0 b.1))
+        let b = begins_to mc es sizes ss u h bs zs (served_none (begin_refused (replaced (the_plan mc es sizes ss u) bs) zs) _ s) in
+        ap (λ (o : Option Refusal). served_unless o (started (replaced (the_plan mc' ns sizes ws v) cs) (shifted zs ds)))
+        (begins_from mc' ns sizes ws v g cs (shifted zs ds) (length-shifted zs ds ∙ b.0) (window_row9 zs b.0 b.1))

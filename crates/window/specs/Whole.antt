@@ -1,18 +1,16 @@
 -- A WINDOW THAT IS SERVED, WHOLE: what document 02 asks of its indices, its offsets, its layout and its starts, and that the entry hands out
 -- just these lists. The walk is in Walks. Assumes nothing.
-use Rattle.std.specs.Prelude.{◌≡◌, false, List, ℕ, ◌*◌, ◌≤◌, ◌<◌, ℤ, pos, ◌+ℤ◌, length, get_or, take}
+use Rattle.std.specs.Prelude.{◌≡◌, false, List, ℕ, ◌*◌, ◌≤◌, ◌<◌, ℤ, pos, ◌+ℤ◌, length, get_or, take, None, Ok}
 use Rattle.std.proofs.Math.Path.{ap}
 use Rattle.std.proofs.Common.{◌∙◌}
-use Rattle.std.proofs.Math.Option.{Option, none}
 use Rattle.strided.specs.Layout.{Within, dot, total, reach, chosen, stride_row}
 use Rattle.strided.specs.Machine.{Allowed}
 use Rattle.strided.specs.Refusals.{missing, layout_refused, planning_refused, row9}
 use Rattle.strided.specs.declared.Machine.{Machine}
 use Rattle.strided.specs.declared.Purpose.{Purpose}
-use Rattle.strided.specs.declared.Refusal.{Refusal}
-use Rattle.strided.specs.declared.Answer.TheVariants.{Served}
+use Rattle.laws.specs.Refusals.Rows.{served_is}
 use Rattle.window.specs.declared.Windowed.{Windowed}
-use Rattle.window.specs.Window.{parent_index, window_strides, window_shifts, shifted, some_window, windowed_or, windowed}
+use Rattle.window.specs.Window.{parent_index, window_strides, window_shifts, shifted, window_refused, some_window, windowed}
 use Rattle.window.specs.Indices.{parent_within, parent_once, window_total}
 use Rattle.window.specs.Layouts.{WindowTaken, window_taken, served_window, operand_reach, window_planned, handed-extents, handed_strides_lem, handed_shifts_lem}
 use Rattle.window.specs.Starts.{window_offset, window_row9}
@@ -30,8 +28,8 @@ pub record WindowRight (es sizes : List ℕ) (ss : List ℤ) (fs ns : List ℕ) 
   pub cells : total ns ≤ total es
   pub reaches : (k : ℕ) → k < length sizes → reach ns (stride_row ws (length ns) k) ≤ reach es (stride_row ss (length es) k)
   -- where planning takes the parent for one purpose, it takes the window on every allowed machine, for every purpose whose chosen operand is there
-  pub planned : (u : Purpose) → layout_refused es sizes ss u ≡ none → (mc : Machine) (v : Purpose) → Allowed mc → missing (length sizes) (chosen v) ≡ false
-      → planning_refused mc ns sizes ws v ≡ none
+  pub planned : (u : Purpose) → layout_refused es sizes ss u ≡ None → (mc : Machine) (v : Purpose) → Allowed mc → missing (length sizes) (chosen v) ≡ false
+      → planning_refused mc ns sizes ws v ≡ None
   -- starts that the parent takes are taken, shifted
   pub starts : (zs : List ℤ) → length zs ≡ length sizes → (row9 es (length sizes) (stride_row ss (length es)) zs).applies ≡ false
       → (row9 ns (length sizes) (stride_row ws (length ns)) (shifted zs ds)).applies ≡ false
@@ -46,7 +44,7 @@ handed_strides r = take (r.rank * r.operands) r.strides
 abbrev pub handed_shifts : Windowed → List ℤ
 handed_shifts r = take r.operands r.shifts
 
-module _ (es sizes : List ℕ) (ss : List ℤ) (fs ns : List ℕ) (st : List ℤ) (h : (windowed es sizes ss fs ns st).answer ≡ Served) where
+module _ (es sizes : List ℕ) (ss : List ℤ) (fs ns : List ℕ) (st : List ℤ) {r : Windowed} (h : windowed es sizes ss fs ns st ≡ Ok r) where
   w : WindowTaken es sizes ss fs ns st
   w = window_taken es sizes ss fs ns st (served_window es sizes ss fs ns st h)
 
@@ -62,16 +60,16 @@ module _ (es sizes : List ℕ) (ss : List ℤ) (fs ns : List ℕ) (st : List ℤ
         starts = window_row9 es sizes ss fs ns st w;
       }
 
-  is_window : windowed es sizes ss fs ns st ≡ some_window es sizes ss fs ns st
+  is_window : r ≡ some_window es sizes ss fs ns st
   unfolding windowed
-  is_window = ap (λ (o : Option Refusal). windowed_or o (some_window es sizes ss fs ns st)) (served_window es sizes ss fs ns st h)
+  is_window = served_is (window_refused es sizes ss fs ns st) _ h
 
   -- the window's extents are the counts, and its strides and shifts are those of `window_right`
-  pub hands_extents : handed_extents (windowed es sizes ss fs ns st) ≡ ns
+  pub hands_extents : handed_extents r ≡ ns
   hands_extents = ap handed_extents is_window ∙ handed-extents es sizes ss fs ns st w
 
-  pub hands_strides : handed_strides (windowed es sizes ss fs ns st) ≡ window_strides ns st ss (length es) (length sizes)
+  pub hands_strides : handed_strides r ≡ window_strides ns st ss (length es) (length sizes)
   hands_strides = ap handed_strides is_window ∙ handed_strides_lem es sizes ss fs ns st w
 
-  pub hands_shifts : handed_shifts (windowed es sizes ss fs ns st) ≡ window_shifts fs ns ss (length es) (length sizes)
+  pub hands_shifts : handed_shifts r ≡ window_shifts fs ns ss (length es) (length sizes)
   hands_shifts = ap handed_shifts is_window ∙ handed_shifts_lem es sizes ss fs ns st w

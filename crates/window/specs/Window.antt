@@ -1,14 +1,12 @@
 -- "Windows, steps and reversed axes" (document 02, ask 1). "A window gives per axis a first index, a count and a signed nonzero step. It
 -- yields a layout and a shift of each operand's start." Three lists: firsts fs, counts ns, steps st.
 -- Assumes nothing.
-use Rattle.std.specs.Prelude.{Bool, false, cond, ◌&&◌, ◌||◌, not, List, [], ◌∷◌, map, ℕ, zero, suc, ltb, eqb, ℤ, pos, negsuc, nat_abs, ◌+ℤ◌, ◌*ℤ◌, length, get_or, replicate}
-use Rattle.std.proofs.Math.Option.{Option, none, some}
+use Rattle.std.specs.Prelude.{Bool, false, cond, ◌&&◌, ◌||◌, not, List, [], ◌∷◌, map, ℕ, zero, suc, ltb, eqb, ℤ, pos, negsuc, nat_abs, ◌+ℤ◌, ◌*ℤ◌, length, get_or, Option, Result}
 use Rattle.strided.specs.Base.{padded, over, run, some_of}
 use Rattle.strided.specs.Layout.{stride_row, has_zero, dot, in_i64}
-use Rattle.strided.specs.Refusals.{Row, refused_by, row1, row2, row3, row5, row6}
+use Rattle.strided.specs.Refusals.{Row, refused_by, served_unless, row1, row2, row3, row5, row6}
 use Rattle.strided.specs.declared.Refusal.{Refusal}
 use Rattle.strided.specs.declared.Refusal.TheVariants.{Window}
-use Rattle.strided.specs.declared.Answer.TheVariants.{Served, Refused}
 use Rattle.window.specs.declared.Windowed.{Windowed}
 
 -- ---- the parent index
@@ -102,18 +100,10 @@ window_refused es sizes ss fs ns st = refused_by (window_rows es sizes ss fs ns 
 
 -- ---- the entry
 
-abbrev pub no_window : Refusal → Windowed
-no_window r = record { answer = Refused r; rank = 0; operands = 0; extents = replicate 64 0; strides = replicate 512 (pos 0); shifts = replicate 8 (pos 0) }
-
-abbrev pub windowed_or : Option Refusal → Windowed → Windowed
-windowed_or none w = w
-windowed_or (some r) w = no_window r
-
 -- "It yields a layout and a shift of each operand's start."
 abbrev pub some_window : List ℕ → List ℕ → List ℤ → List ℕ → List ℕ → List ℤ → Windowed
 some_window es sizes ss fs ns st =
     record {
-      answer = Served;
       rank = length es;
       operands = length sizes;
       extents = padded 64 0 ns;
@@ -122,5 +112,5 @@ some_window es sizes ss fs ns st =
     }
 
 -- A WINDOW: rows 1, 2, 3, 5, 6 and 15, else the window. "A refusal carries its number and nothing else."
-unfoldable pub windowed : List ℕ → List ℕ → List ℤ → List ℕ → List ℕ → List ℤ → Windowed
-windowed es sizes ss fs ns st = windowed_or (window_refused es sizes ss fs ns st) (some_window es sizes ss fs ns st)
+unfoldable pub windowed : List ℕ → List ℕ → List ℤ → List ℕ → List ℕ → List ℤ → Result Windowed Refusal
+windowed es sizes ss fs ns st = served_unless (window_refused es sizes ss fs ns st) (some_window es sizes ss fs ns st)

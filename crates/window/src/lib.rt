@@ -12,7 +12,7 @@ ghost use Rattle.window.specs.Made.{Zeros, Made};
 use layout::{operands_wrong, rank_over, reach_over, strides_wrong, total_over};
 use rows::window_wrong;
 use shifts::shifts_into;
-use strided::{Answer, Refusal};
+use strided::Refusal;
 use strides::strides_into;
 
 pub mod axis;
@@ -24,7 +24,6 @@ pub mod strides;
 // behind the counts are 0. `shifts` is to be added to the starts, one for each operand.
 #[derive(Clone, Copy)]
 pub struct Windowed {
-    pub answer: Answer,
     pub rank: usize,
     pub operands: usize,
     pub extents: [u64; 64],
@@ -40,31 +39,31 @@ pub fn check_window<'a>(
     firsts: &'a [u64],
     counts: &'a [u64],
     steps: &'a [i64],
-) -> Answer
+) -> Result<(), Refusal>
     ensures { result ≡ answered (window_refused extents.now sizes.now strides.now
         firsts.now counts.now steps.now) }
 {
     let rank = extents.len();
     let operands = sizes.len();
     if rank_over(rank) {
-        return Answer::Refused(Refusal::Rank);
+        return Err(Refusal::Rank);
     }
     if operands_wrong(operands) {
-        return Answer::Refused(Refusal::Operands);
+        return Err(Refusal::Operands);
     }
     if strides_wrong(rank, operands, strides) {
-        return Answer::Refused(Refusal::StrideCount);
+        return Err(Refusal::StrideCount);
     }
     if total_over(extents) {
-        return Answer::Refused(Refusal::Total);
+        return Err(Refusal::Total);
     }
     if reach_over(extents, strides, rank, operands) {
-        return Answer::Refused(Refusal::Reach);
+        return Err(Refusal::Reach);
     }
     if window_wrong(extents, strides, operands, firsts, counts, steps) {
-        return Answer::Refused(Refusal::Window);
+        return Err(Refusal::Window);
     }
-    Answer::Served
+    Ok(())
 }
 
 // The counts, written into an array of zeros: the window's extents.
@@ -73,11 +72,7 @@ fn counts_into(counts: &[u64], es: &mut [u64; 64])
     requires es_value { es.old ≡ replicate 64 0 }
     ensures { es.new ≡ padded 64 0 counts.now }
 {
-    let mut i: usize = 0;
-    while i < counts.len() {
-        es[i] = counts[i];
-        i += 1;
-    }
+    es[..counts.len()].copy_from_slice(counts);
 }
 
 // A window that is not refused, made in arrays of zeros: for whoever has checked it.
@@ -104,7 +99,7 @@ pub fn window_into<'a>(
     shifts_into(firsts, counts, strides, operands, shifts);
 }
 
-// A WINDOW of a layout: its own layout, and the shifts. A refusal has zeros beside it.
+// A WINDOW of a layout: its own layout, and the shifts.
 pub fn window<'a>(
     extents: &'a [u64],
     sizes: &'a [u64],
@@ -112,42 +107,29 @@ pub fn window<'a>(
     firsts: &'a [u64],
     counts: &'a [u64],
     steps: &'a [i64],
-) -> Windowed
+) -> Result<Windowed, Refusal>
     ensures { result ≡ windowed extents.now sizes.now strides.now firsts.now counts.now steps.now }
 {
+    check_window(extents, sizes, strides, firsts, counts, steps)?;
     let mut es = [0u64; 64];
     let mut table = [0i64; 512];
     let mut shifts = [0i64; 8];
-    let answer = check_window(extents, sizes, strides, firsts, counts, steps);
-    match answer {
-        Answer::Served => {
-            window_into(
-                extents,
-                sizes,
-                strides,
-                firsts,
-                counts,
-                steps,
-                &mut es,
-                &mut table,
-                &mut shifts,
-            );
-            Windowed {
-                answer,
-                rank: extents.len(),
-                operands: sizes.len(),
-                extents: es,
-                strides: table,
-                shifts,
-            }
-        }
-        Answer::Refused(refusal) => Windowed {
-            answer,
-            rank: 0,
-            operands: 0,
-            extents: es,
-            strides: table,
-            shifts,
-        },
-    }
+    window_into(
+        extents,
+        sizes,
+        strides,
+        firsts,
+        counts,
+        steps,
+        &mut es,
+        &mut table,
+        &mut shifts,
+    );
+    Ok(Windowed {
+        rank: extents.len(),
+        operands: sizes.len(),
+        extents: es,
+        strides: table,
+        shifts,
+    })
 }

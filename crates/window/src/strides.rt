@@ -1,54 +1,9 @@
 // The strides of a window, and row 15 on them: place j of the flat slice belongs to axis j % rank.
-ghost use Rattle.std.specs.Prelude.{◌≡◌, true, false, not, ◌&&◌, ◌+◌, ◌%◌, ◌<◌, ltb, pos, ◌*ℤ◌, length, replicate};
+ghost use Rattle.std.specs.Prelude.{◌≡◌, true, false, not, ◌+◌, ◌%◌, ◌<◌, ltb, pos, ◌*ℤ◌, length, replicate};
 ghost use Rattle.strided.specs.Base.{padded, some_of};
 ghost use Rattle.strided.specs.Layout.{in_i64};
 ghost use Rattle.window.specs.Window.{stepped_stride, window_strides, stride_over};
-ghost use Rattle.window.specs.Counted.{Counted, Few, product_room};
-
-use layout::magnitude;
-
-// The greatest size that a product of these signs can have.
-fn product_room(a: i64, b: i64) -> u64
-    ensures { result ≡ product_room a b }
-{
-    if a < 0 {
-        if b < 0 {
-            9223372036854775807
-        } else {
-            9223372036854775808
-        }
-    } else {
-        if b < 0 {
-            9223372036854775808
-        } else {
-            9223372036854775807
-        }
-    }
-}
-
-// Whether both sizes are so small that their product fits: then nothing is divided.
-fn both_small(m: u64, n: u64) -> bool
-    ensures { result ≡ (ltb m 4294967296 && ltb n 2147483648) }
-{
-    if m < 4294967296 {
-        n < 2147483648
-    } else {
-        false
-    }
-}
-
-// Whether a product leaves 64 bits.
-fn product_over(a: i64, b: i64) -> bool
-    ensures { result ≡ not (in_i64 (a *ℤ b)) }
-{
-    if both_small(magnitude(a), magnitude(b)) {
-        return false;
-    }
-    if b == 0 {
-        return false;
-    }
-    product_room(a, b) / magnitude(b) < magnitude(a)
-}
+ghost use Rattle.window.specs.Counted.{Counted, Few};
 
 // Whether the stride is kept.
 fn kept(count: u64) -> bool
@@ -61,10 +16,7 @@ fn kept(count: u64) -> bool
 fn stride_over(count: u64, step: i64, stride: i64) -> bool
     ensures { result ≡ not (in_i64 (stepped_stride count step stride)) }
 {
-    if kept(count) {
-        return false;
-    }
-    product_over(step, stride)
+    !kept(count) && step.checked_mul(stride).is_none()
 }
 
 // The window's stride.
@@ -72,10 +24,7 @@ fn new_stride(count: u64, step: i64, stride: i64) -> i64
     requires { in_i64 (stepped_stride count step stride) ≡ true }
     ensures { result ≡ stepped_stride count step stride }
 {
-    if kept(count) {
-        return stride;
-    }
-    step * stride
+    if kept(count) { stride } else { step * stride }
 }
 
 // The axis of the next place: the one after i, or axis 0 of the next operand.
@@ -100,13 +49,11 @@ pub fn some_stride_over<'a>(
         0 (length (window_strides counts.now steps.now strides.now rank operands)) }
 {
     let mut i: usize = 0;
-    let mut j: usize = 0;
-    while j < strides.len() {
+    for j in 0..strides.len() {
         if stride_over(counts[i], steps[i], strides[j]) {
             return true;
         }
         i = axis_after(i, rank);
-        j += 1;
     }
     false
 }
@@ -128,10 +75,8 @@ pub fn strides_into<'a>(
     ensures { table.new ≡ padded 512 (pos 0) (window_strides counts.now steps.now strides.now rank operands) }
 {
     let mut i: usize = 0;
-    let mut j: usize = 0;
-    while j < strides.len() {
+    for j in 0..strides.len() {
         table[j] = new_stride(counts[i], steps[i], strides[j]);
         i = axis_after(i, rank);
-        j += 1;
     }
 }

@@ -19,23 +19,22 @@ use Rattle.laws.specs.Base.Ranges.{below_or}
 use Rattle.laws.specs.Base.Lists.{length_run, get_d_run}
 use Rattle.advance.specs.Filled.{filled_length, filled_at}
 use Rattle.writing.specs.Plan.{measured, stride_on, column_to, axis_at, rest_from, listed_in}
-use Rattle.writing.specs.declared.plan.Measured.{Measured}
-use Rattle.writing.specs.declared.plan.Measured.TheVariants.{Fits, More}
+use Rattle.std.specs.Prelude.{Option, Some, None}
 
 -- ---- what is answered
 
-pub measured_more : (n limit : ℕ) → limit < n → More ≡ measured n limit
+pub measured_more : (n limit : ℕ) → limit < n → None ≡ measured n limit
 measured_more n limit h = rw (lt-ltb limit n h)
 
-pub measured_fits : (n limit : ℕ) → n ≤ limit → Fits n ≡ measured n limit
+pub measured_fits : (n limit : ℕ) → n ≤ limit → Some n ≡ measured n limit
 measured_fits n limit h = rw (le-ltb limit n h)
 
 -- the answer read back
-pub more_measured : (n limit : ℕ) {m : Measured} → m ≡ measured n limit → m ≡ More → limit < n
+pub more_measured : (n limit : ℕ) {m : Option ℕ} → m ≡ measured n limit → m ≡ None → limit < n
 more_measured n limit e f =
     ⊎_elim (λ h. h) (λ h. (let q = measured_fits n limit h in let z : ◌≡◌ {A = ℕ} 0 1 = cc in absurd (omega arith))) (below_or limit n)
 
-pub fits_measured : (n limit k : ℕ) {m : Measured} → m ≡ measured n limit → m ≡ Fits k → (n ≤ limit) × (k ≡ n)
+pub fits_measured : (n limit k : ℕ) {m : Option ℕ} → m ≡ measured n limit → m ≡ Some k → (n ≤ limit) × (k ≡ n)
 fits_measured n limit k e f =
     ⊎_elim
     (λ h. (let q = measured_more n limit h in let z : ◌≡◌ {A = ℕ} 0 1 = cc in absurd (omega arith)))

@@ -3,7 +3,7 @@
 use mathlib.Core.Path.{◌≡◌, refl, sym, ap, ap₂, ◌∙◌}
 use mathlib.Core.Bool.{Bool, true, false}
 use mathlib.Core.List.{List, [], ◌∷◌, ◌++◌, map, append_assoc, append-nil}
-use mathlib.Core.Option.{none}
+use Rattle.std.specs.Prelude.{None}
 use Prim.Native.Nat.{ℕ, zero, suc, ◌+◌, ◌-◌, ◌*◌, ◌^◌, ◌≤◌, ◌<◌}
 use native.Mathlib.Nat.{add-zero, zero-mul, suc-mul}
 use native.Mathlib.Omega.{arith}
@@ -13,7 +13,7 @@ use borrow.Author.Tests.{ltb-false}
 use Rattle.strided.specs.Base.{padded, run}
 use Rattle.strided.specs.Layout.{has_zero, total, max_u}
 use Rattle.strided.specs.Walk.{counters, Block, block_at}
-use Rattle.strided.specs.Begin.{plan_extents, begin_rows, begin_refused, begun_at}
+use Rattle.strided.specs.Begin.{plan_extents, begin_rows, begin_refused, started}
 use Rattle.strided.specs.Step.{plan_cut_axes}
 use Rattle.strided.specs.Text.{block_line, block_lines, end_line, cells_of, plan_walk, zero_starts}
 use Rattle.strided.specs.declared.Plan.{Plan}
@@ -38,8 +38,7 @@ use Rattle.walker.proofs.Walked.{Walked, walked_none, walked_asks, walked_some, 
 use Rattle.writing.specs.Line.{figures_line}
 use Rattle.writing.specs.Plan.{Printable, measured, lines_from, rest_from}
 use Rattle.writing.specs.Put.{Wrote}
-use Rattle.writing.specs.declared.plan.Measured.{Measured}
-use Rattle.writing.specs.declared.plan.Measured.TheVariants.{Fits, More}
+use Rattle.std.specs.Prelude.{Option, Some, None}
 use Rattle.writing.proofs.Axes.{measured_more, more_measured, fits_measured}
 use Rattle.writing.proofs.Putting.{Doing, doing_room, doing_next, doing_end}
 
@@ -105,7 +104,7 @@ module _ (p : Plan) where
       rest_lines n ∙ ap (λ (l : List Placed). lines_from n l ++ end_line (plan_walk p)) e ∙ ap₂ figures_line a (cells_are (counters (plan_cut_axes p)) ∙ sym k)
 
   -- the walk has at most 2^64 - 1 cells, and no more blocks
-  module _ (may : begin_refused p (zero_starts p) ≡ none) where
+  module _ (may : begin_refused p (zero_starts p) ≡ None) where
     total_fits : total (plan_extents p) < 2 ^ 64
     unfolding begin_refused NoneApplies
     total_fits =
@@ -138,9 +137,8 @@ module _ {p : Plan} (h : Printable p) where
       let l = length-take p.rank p.extents in
       ready p (zero_starts p) (omega arith) h.begins
 
-  begun : {ended : Bool} → ended ≡ has_zero (plan_extents p) → first ended ≡ (begun_at p (zero_starts p)).walk
-  unfolding begun_at
-  begun e = rw h.begins (λ i. record { ended = e i; counters = replicate 64 0; offsets = sym (padded-zeros 8 p.operands) i })
+  begun : {ended : Bool} → ended ≡ has_zero (plan_extents p) → first ended ≡ started p (zero_starts p)
+  begun e = (λ i. record { ended = e i; counters = replicate 64 0; offsets = sym (padded-zeros 8 p.operands) i })
 
   -- it has no block
   pub no_lines : true ≡ has_zero (plan_extents p) → rest_from p 0 ≡ figures_line 0 0
@@ -204,14 +202,14 @@ module _ {p : Plan} {y : Way} {w : List ℕ} {n sum : ℕ} {t c : List ℕ} {o :
     walks_length = ap length walks_lines ∙ length-append (lines_from n (laid S)) (rest_from p (n + r.count))
 
     -- measured behind `used` bytes, of which the walk took what is before it: they are within the room, or the output is not
-    module _ (used room : ℕ) {whole : ℕ} (e : used + length (rest_from p n) ≡ whole) {m : Measured} (f : m ≡ measured (used + length (lines_from n (laid S))) room) where
-      pub walks_within : (k : ℕ) → m ≡ Fits k → (k + length (rest_from p (n + r.count)) ≡ whole) × (k ≤ room)
+    module _ (used room : ℕ) {whole : ℕ} (e : used + length (rest_from p n) ≡ whole) {m : Option ℕ} (f : m ≡ measured (used + length (lines_from n (laid S))) room) where
+      pub walks_within : (k : ℕ) → m ≡ Some k → (k + length (rest_from p (n + r.count)) ≡ whole) × (k ≤ room)
       walks_within k g =
           let a = fits_measured (used + length (lines_from n (laid S))) room k f g in
           let b = walks_length in
           (omega (arith, a.1, b, e), omega (arith, a.0, a.1))
 
-      pub walks_over : m ≡ More → More ≡ measured whole room
+      pub walks_over : m ≡ None → None ≡ measured whole room
       walks_over g =
           let a = more_measured (used + length (lines_from n (laid S))) room f g in
           let b = walks_length in
@@ -261,7 +259,7 @@ walks_end {p} {n = n} {sum = sum} k =
 
 -- the Z line is the last
 module _ (p : Plan) (n sum : ℕ) (e : rest_from p n ≡ figures_line n sum) where
-  pub end_measured : (used room : ℕ) {whole : ℕ} → used + length (rest_from p n) ≡ whole → {m : Measured} → m ≡ measured (used + length (figures_line n sum)) room → m ≡ measured whole room
+  pub end_measured : (used room : ℕ) {whole : ℕ} → used + length (rest_from p n) ≡ whole → {m : Option ℕ} → m ≡ measured (used + length (figures_line n sum)) room → m ≡ measured whole room
   end_measured used room f g = g ∙ ap (λ (k : ℕ). measured k room) (ap (λ (l : List ℕ). used + length l) (sym e) ∙ f)
 
   module _ {old : List ℕ} {at : ℕ} {whole new : List ℕ} {next : ℕ} (v : Doing old at whole new next (rest_from p n)) where

@@ -1,7 +1,6 @@
 -- What the functions on a whole plan ask and answer, and the parts of its output as the plan's arrays have them.
 -- Assumes nothing.
-use Rattle.std.specs.Prelude.{◌≡◌, cond, List, [], ◌∷◌, ◌++◌, map, ℕ, suc, ◌+◌, ◌*◌, ltb, ℤ, pos, length, get_or, drop, replicate}
-use Rattle.std.proofs.Math.Option.{none}
+use Rattle.std.specs.Prelude.{◌≡◌, cond, List, [], ◌∷◌, ◌++◌, map, ℕ, suc, ◌+◌, ◌*◌, ltb, ℤ, pos, length, get_or, drop, replicate, Option, Some, None}
 use Rattle.strided.specs.Base.{run}
 use Rattle.strided.specs.Begin.{begin_refused}
 use Rattle.strided.specs.Refusals.{refused_by}
@@ -10,18 +9,16 @@ use Rattle.strided.specs.declared.Plan.{Plan}
 use Rattle.laws.specs.Walk.Placed.{Placed}
 use Rattle.advance.specs.Filled.{filled_to}
 use Rattle.advance.specs.Sized.{Sized}
-use Rattle.writing.specs.declared.plan.Measured.{Measured}
-use Rattle.writing.specs.declared.plan.Measured.TheVariants.{Fits, More}
 
 -- what is asked: a plan as a value has it, whose walk begins at the starts 0. So its axes and operands are within the limits, and every
 -- number of its walk fits. Planning hands out such plans (crate laws, Text/Begins)
 pub record Printable (p : Plan) : Type 0 where
   pub sized : Sized p
-  pub begins : begin_refused p (zero_starts p) ≡ none
+  pub begins : begin_refused p (zero_starts p) ≡ None
 
 -- what is answered: a length, where it is at most the limit
-abbrev pub measured : ℕ → ℕ → Measured
-measured n limit = cond (ltb limit n) More (Fits n)
+abbrev pub measured : ℕ → ℕ → Option ℕ
+measured n limit = cond (ltb limit n) None (Some n)
 
 -- and what becomes of lent bytes where of all rows only 14 may apply
 abbrev pub listed_in : Plan → List ℕ → Listing

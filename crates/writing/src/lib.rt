@@ -7,4 +7,4 @@ pub mod number;
 pub mod plan;
 pub mod stretch;
 
-pub use plan::{Measured, list, measure, write};
+pub use plan::{list, measure, write};

@@ -3,23 +3,29 @@
 ghost use Rattle.std.specs.Prelude.{◌≡◌, ◌+◌, ◌*◌, ◌≤◌, length};
 ghost use Rattle.strided.specs.Base.{over};
 ghost use Rattle.strided.specs.Text.{field, signed_field, line_of, rank_line, axis_line, block_line};
+ghost use Rattle.laws.specs.Text.Once.{celled};
 ghost use Rattle.writing.specs.Put.{Wrote};
 ghost use Rattle.writing.specs.Line.{fields_of, figures_line, longest};
 
-use super::number::{i64_len, put_byte, put_i64, put_u64, u64_len};
+use super::number::{Figure, put_byte};
 
 // How many bytes a field for each number takes.
+fn fields_len<T: Figure>(numbers: &[T]) -> usize
+    requires { length numbers.now ≤ 64 }
+    ensures { (result ≡ length (over numbers.now (celled T.text))) × (result ≤ 21 * length numbers.now) }
+{
+    let mut k: usize = 0;
+    for n in numbers {
+        k += 1 + n.text_len();
+    }
+    k
+}
+
 pub fn numbers_len(numbers: &[u64]) -> usize
     requires { length numbers.now ≤ 64 }
     ensures { (result ≡ length (over numbers.now field)) × (result ≤ 21 * length numbers.now) }
 {
-    let mut k: usize = 0;
-    let mut i: usize = 0;
-    while i < numbers.len() {
-        k += 1 + u64_len(numbers[i]);
-        i += 1;
-    }
-    k
+    fields_len(numbers)
 }
 
 // The same for signed numbers.
@@ -27,55 +33,26 @@ pub fn signed_len(numbers: &[i64]) -> usize
     requires { length numbers.now ≤ 64 }
     ensures { (result ≡ length (over numbers.now signed_field)) × (result ≤ 21 * length numbers.now) }
 {
-    let mut k: usize = 0;
-    let mut i: usize = 0;
-    while i < numbers.len() {
-        k += 1 + i64_len(numbers[i]);
-        i += 1;
-    }
-    k
+    fields_len(numbers)
 }
 
 // A comma and a number.
-fn put_field(out: &mut [u8], at: usize, n: u64) -> usize
-    requires { at + length (field n) ≤ length out.old }
-    ensures { Wrote out.old at (field n) out.new result }
+fn put_field<T: Figure>(out: &mut [u8], at: usize, n: T) -> usize
+    requires { at + length (celled T.text n) ≤ length out.old }
+    ensures { Wrote out.old at (celled T.text n) out.new result }
 {
-    let next = put_byte(out, at, 44);
-    put_u64(out, next, n)
-}
-
-fn put_signed_field(out: &mut [u8], at: usize, z: i64) -> usize
-    requires { at + length (signed_field z) ≤ length out.old }
-    ensures { Wrote out.old at (signed_field z) out.new result }
-{
-    let next = put_byte(out, at, 44);
-    put_i64(out, next, z)
+    let next = put_byte(out, at, b',');
+    n.put(out, next)
 }
 
 // A field for each number.
-fn put_numbers(out: &mut [u8], at: usize, numbers: &[u64]) -> usize
-    requires { at + length (over numbers.now field) ≤ length out.old }
-    ensures { Wrote out.old at (over numbers.now field) out.new result }
+fn put_fields<T: Figure>(out: &mut [u8], at: usize, numbers: &[T]) -> usize
+    requires { at + length (over numbers.now (celled T.text)) ≤ length out.old }
+    ensures { Wrote out.old at (over numbers.now (celled T.text)) out.new result }
 {
     let mut next = at;
-    let mut i: usize = 0;
-    while i < numbers.len() {
-        next = put_field(out, next, numbers[i]);
-        i += 1;
-    }
-    next
-}
-
-fn put_signed(out: &mut [u8], at: usize, numbers: &[i64]) -> usize
-    requires { at + length (over numbers.now signed_field) ≤ length out.old }
-    ensures { Wrote out.old at (over numbers.now signed_field) out.new result }
-{
-    let mut next = at;
-    let mut i: usize = 0;
-    while i < numbers.len() {
-        next = put_signed_field(out, next, numbers[i]);
-        i += 1;
+    for n in numbers {
+        next = put_field(out, next, *n);
     }
     next
 }
@@ -100,9 +77,9 @@ pub fn put_line<'a>(
     ensures { Wrote out.old at (line_of letter (fields_of numbers.now signed.now)) out.new result }
 {
     let a = put_byte(out, at, letter);
-    let b = put_numbers(out, a, numbers);
-    let c = put_signed(out, b, signed);
-    put_byte(out, c, 10)
+    let b = put_fields(out, a, numbers);
+    let c = put_fields(out, b, signed);
+    put_byte(out, c, b'\n')
 }
 
 // "K,plan rank"
@@ -120,7 +97,7 @@ pub fn put_rank(out: &mut [u8], at: usize, rank: u64) -> usize
 {
     let numbers = [rank];
     let none = [0i64; 0];
-    put_line(out, at, 75, &numbers, &none)
+    put_line(out, at, b'K', &numbers, &none)
 }
 
 // "A,axis,extent,block,one stride per operand"
@@ -144,7 +121,7 @@ pub fn put_axis(
     ensures { Wrote out.old at (axis_line axis extent block strides.now) out.new result }
 {
     let numbers = [axis, extent, block];
-    put_line(out, at, 65, &numbers, strides)
+    put_line(out, at, b'A', &numbers, strides)
 }
 
 // "B,number,length,one offset per operand"
@@ -161,7 +138,7 @@ pub fn put_block(out: &mut [u8], at: usize, number: u64, len: u64, offsets: &[i6
     ensures { Wrote out.old at (block_line number len offsets.now) out.new result }
 {
     let numbers = [number, len];
-    put_line(out, at, 66, &numbers, offsets)
+    put_line(out, at, b'B', &numbers, offsets)
 }
 
 // "Z,blocks,cells"
@@ -179,7 +156,7 @@ pub fn put_end(out: &mut [u8], at: usize, blocks: u64, cells: u64) -> usize
 {
     let numbers = [blocks, cells];
     let none = [0i64; 0];
-    put_line(out, at, 90, &numbers, &none)
+    put_line(out, at, b'Z', &numbers, &none)
 }
 
 // "R,number"
@@ -189,5 +166,5 @@ pub fn put_refusal(out: &mut [u8], at: usize, number: u64) -> usize
 {
     let numbers = [number];
     let none = [0i64; 0];
-    put_line(out, at, 82, &numbers, &none)
+    put_line(out, at, b'R', &numbers, &none)
 }

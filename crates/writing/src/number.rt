@@ -1,9 +1,7 @@
 // Numbers in decimal, measured and written.
-ghost use Rattle.std.specs.Prelude.{◌≡◌, ◌+◌, ◌≤◌, ◌<◌, [], ◌∷◌, length};
+ghost use Rattle.std.specs.Prelude.{◌≡◌, ◌+◌, ◌≤◌, ◌<◌, List, [], ◌∷◌, ℕ, length};
 ghost use Rattle.strided.specs.Digits.{digits_of, signed_of};
 ghost use Rattle.writing.specs.Put.{Wrote};
-
-use layout::magnitude;
 
 // How many digits a number has.
 pub fn u64_len(n: u64) -> usize
@@ -28,10 +26,10 @@ pub fn put_u64(out: &mut [u8], at: usize, n: u64) -> usize
     let mut rest = n;
     while rest > 9 {
         i -= 1;
-        out[i] = 48 + (rest % 10) as u8;
+        out[i] = b'0' + (rest % 10) as u8;
         rest /= 10;
     }
-    out[at] = 48 + rest as u8;
+    out[at] = b'0' + rest as u8;
     end
 }
 
@@ -48,7 +46,7 @@ pub fn put_byte(out: &mut [u8], at: usize, b: u8) -> usize
 pub fn i64_len(z: i64) -> usize
     ensures { result ≡ length (signed_of z) }
 {
-    let k = u64_len(magnitude(z));
+    let k = u64_len(z.unsigned_abs());
     if z < 0 { k + 1 } else { k }
 }
 
@@ -58,8 +56,47 @@ pub fn put_i64(out: &mut [u8], at: usize, z: i64) -> usize
     ensures { Wrote out.old at (signed_of z) out.new result }
 {
     if z < 0 {
-        let next = put_byte(out, at, 45);
-        return put_u64(out, next, magnitude(z));
+        let next = put_byte(out, at, b'-');
+        return put_u64(out, next, z.unsigned_abs());
     }
-    put_u64(out, at, magnitude(z))
+    put_u64(out, at, z.unsigned_abs())
+}
+
+// A kind of number, as text.
+pub trait Figure: Copy {
+    ghost text: { Self → List ℕ };
+
+    // How many bytes it takes: no more than 20.
+    fn text_len(self) -> usize
+        ensures value { result ≡ length (text self) }
+        ensures most { result ≤ 20 };
+
+    // Writes it at `at`, and answers the place behind it.
+    fn put(self, out: &mut [u8], at: usize) -> usize
+        requires { at + length (text self) ≤ length out.old }
+        ensures { Wrote out.old at (text self) out.new result };
+}
+
+impl Figure for u64 {
+    ghost text = { digits_of };
+
+    fn text_len(self) -> usize {
+        u64_len(self)
+    }
+
+    fn put(self, out: &mut [u8], at: usize) -> usize {
+        put_u64(out, at, self)
+    }
+}
+
+impl Figure for i64 {
+    ghost text = { signed_of };
+
+    fn text_len(self) -> usize {
+        i64_len(self)
+    }
+
+    fn put(self, out: &mut [u8], at: usize) -> usize {
+        put_i64(out, at, self)
+    }
 }

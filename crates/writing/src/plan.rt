@@ -16,27 +16,20 @@ use states::no_block;
 use strided::Refusal;
 use walker::{ALL, moves_of, take_stretch, way_of};
 
-// A text's length, or that it is more than the limit.
-#[derive(Clone, Copy)]
-pub enum Measured {
-    Fits(usize),
-    More,
-}
-
 // The strides of an axis, one for each operand.
 fn column(axis: usize, operands: usize, s: &[i64; 512]) -> [i64; 8]
     requires { (axis < 64) × (operands ≤ 8) }
     ensures { result ≡ column_to axis s.now operands }
 {
     let mut strides = [0i64; 8];
-    let mut k: usize = 0;
-    while k < operands {
-        let x = s[k * 64 + axis];
-        strides[k] = x;
-        k += 1;
+    for k in 0..operands {
+        strides[k] = s[k * 64 + axis];
     }
     strides
 }
+
+// Kept: rank, operands and the three arrays one by one, here and below: of a struct that lends the arrays a contract has to say at which
+// moment it speaks of each, so it is no plainer.
 
 // The A line of an axis.
 fn axis_at_len<'a>(
@@ -82,10 +75,8 @@ fn axes_len<'a>(
     ensures { (result ≡ length (over (run 0 rank) (axis_at operands e.now b.now s.now))) × (result ≤ longest * rank) }
 {
     let mut k: usize = 0;
-    let mut i: usize = 0;
-    while i < rank {
+    for i in 0..rank {
         k += axis_at_len(i, operands, e, b, s);
-        i += 1;
     }
     k
 }
@@ -104,24 +95,22 @@ fn put_axes<'a>(
     ensures { Wrote out.old at (over (run 0 rank) (axis_at operands e.now b.now s.now)) out.new result }
 {
     let mut next = at;
-    let mut i: usize = 0;
-    while i < rank {
+    for i in 0..rank {
         next = put_axis_at(out, next, i, operands, e, b, s);
-        i += 1;
     }
     next
 }
 
-// The Z line behind `used` bytes.
-fn end_within(blocks: u64, cells: u64, used: usize, limit: usize) -> Measured
+// The Z line behind `used` bytes, or that it is more than the limit.
+fn end_within(blocks: u64, cells: u64, used: usize, limit: usize) -> Option<usize>
     requires { used ≤ limit }
     ensures { result ≡ measured (used + length (figures_line blocks cells)) limit }
 {
     let line = end_len(blocks, cells);
     if limit - used < line {
-        return Measured::More;
+        return None;
     }
-    Measured::Fits(used + line)
+    Some(used + line)
 }
 
 // The B and Z lines behind `used` bytes. The Z figures are what the loop has counted. With a zero extent there is no block, and how far a
@@ -134,7 +123,7 @@ fn walk_len<'a>(
     s: &'a [i64; 512],
     used: usize,
     limit: usize,
-) -> Measured
+) -> Option<usize>
     requires printable { Printable (plan_of rank operands e.now b.now s.now) }
     requires used_le_limit { used ≤ limit }
     ensures { result ≡ measured (used + length (rest_from (plan_of rank operands e.now b.now s.now) 0)) limit }
@@ -155,10 +144,7 @@ fn walk_len<'a>(
     let mut cells: u64 = 0;
     while more {
         let x = take_stretch(y, ALL, e, &w, s, &mut t, &mut c, &mut o, &mut first);
-        let Measured::Fits(n) = stretch_len(x, blocks, operands, &d, first, total, limit) else {
-            return Measured::More;
-        };
-        total = n;
+        total = stretch_len(x, blocks, operands, &d, first, total, limit)?;
         blocks += x.count;
         cells += x.count * x.length;
         more = x.more;
@@ -211,13 +197,13 @@ pub fn measure<'a>(
     b: &'a [u64; 64],
     s: &'a [i64; 512],
     limit: usize,
-) -> Measured
+) -> Option<usize>
     requires { Printable (plan_of rank operands e.now b.now s.now) }
     ensures { result ≡ measured (length (printed_plan (plan_of rank operands e.now b.now s.now))) limit }
 {
     let head = rank_len(rank as u64) + axes_len(rank, operands, e, b, s);
     if limit < head {
-        return Measured::More;
+        return None;
     }
     walk_len(rank, operands, e, b, s, head, limit)
 }
@@ -254,7 +240,7 @@ pub fn list<'a>(
     ensures value { result ≡ (listed_in (plan_of rank operands e.now b.now s.now) room.old).answer }
     ensures room_after { room.new ≡ (listed_in (plan_of rank operands e.now b.now s.now) room.old).room }
 {
-    let Measured::Fits(n) = measure(rank, operands, e, b, s, room.len()) else {
+    let Some(n) = measure(rank, operands, e, b, s, room.len()) else {
         return negated(Refusal::Room);
     };
     write(rank, operands, e, b, s, room);

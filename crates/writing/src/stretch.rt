@@ -6,10 +6,9 @@ ghost use Rattle.writing.specs.Put.{Wrote};
 ghost use Rattle.writing.specs.Plan.{measured, lines_from};
 
 use super::line::{block_len, put_block};
-use super::plan::Measured;
 use walker::{Next, move_by};
 
-// Behind `used` bytes, numbered from `number` on.
+// Behind `used` bytes, numbered from `number` on; or that they pass the limit.
 pub fn stretch_len(
     x: Next,
     number: u64,
@@ -18,7 +17,7 @@ pub fn stretch_len(
     first: [i64; 8],
     used: usize,
     limit: usize,
-) -> Measured
+) -> Option<usize>
     requires rows_fit { RowsFit x.count operands d.now first }
     requires count_bound { (number + x.count < 2 ^ 64) × (used ≤ limit) }
     ensures { result ≡ measured (used + length (lines_from number (laid (told operands x first d.now)))) limit }
@@ -27,19 +26,17 @@ pub fn stretch_len(
     let size = x.length;
     let mut o = first;
     let mut total = used;
-    let mut j: u64 = 0;
-    while j < count {
+    for j in 0..count {
         let line = block_len(number + j, size, &o[..operands]);
         if limit - total < line {
-            return Measured::More;
+            return None;
         }
         total += line;
-        j += 1;
-        if j < count {
+        if j + 1 < count {
             move_by(operands, d, &mut o);
         }
     }
-    Measured::Fits(total)
+    Some(total)
 }
 
 pub fn put_stretch(
@@ -60,11 +57,9 @@ pub fn put_stretch(
     let size = x.length;
     let mut o = first;
     let mut next = at;
-    let mut j: u64 = 0;
-    while j < count {
+    for j in 0..count {
         next = put_block(out, next, number + j, size, &o[..operands]);
-        j += 1;
-        if j < count {
+        if j + 1 < count {
             move_by(operands, d, &mut o);
         }
     }

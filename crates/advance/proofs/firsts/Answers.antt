@@ -1,5 +1,4 @@
 -- `advance::firsts` meets its contract. Assumes nothing.
-use borrow.Author.Rules.{sfits_of}
 use borrow.Author.Tests.{eq-eqb, ne_eqb}
 use mathlib.Core.Path.{◌≡◌, sym, ap, ◌∙◌}
 use native.Mathlib.Nat.{le_antisymm}
@@ -26,7 +25,7 @@ loop-k-preserved c =
     let a = c.args in
     let k = c.loop-k.k in
     let x = get_or a.s.now (k * 64) (pos 0) in
-    let f : to_z w64 (of_z w64 x) ≡ x = to_z-of_z {w = w64} (sfits_of c.x-1.given) in (
+    let f : to_z w64 (of_z w64 x) ≡ x = search (arith, to_z-of_z) in (
       omega arith,
       filled_more _ (first_at a.s.now) k _ _ c.loop-k.invariant.1 f,
     )

@@ -7,6 +7,6 @@ pub returns-then-inside : goal.returns-then-inside
 unfolding goal_of
 returns-then-inside c = c.inside_goal.ensures ∙ simp c.if-inside.true
 
-pub returns : goal.returns
+pub returns-else-inside : goal.returns-else-inside
 unfolding goal_of
-returns c = c.tile_goal.ensures ∙ simp c.if-inside.false
+returns-else-inside c = c.tile_goal.ensures ∙ simp c.if-inside.false

@@ -1,6 +1,8 @@
 -- `advance::length_of` meets its contract. Assumes nothing.
 use lib.ListN.{get_or}
-use Prim.Native.Nat.{◌<◌}
+use mathlib.Core.Path.{◌≡◌, ◌∙◌}
+use Rattle.advance.specs.Filled.{by_lt}
+use Prim.Native.Nat.{ℕ, ◌-◌, ◌<◌, ◌≤◌}
 use Rattle.advance.proofs.Axis.{length_cut, length-left}
 use Rattle.advance.specs.Blocks.{length_of}
 use native.Mathlib.Omega.{arith}
@@ -11,14 +13,11 @@ pub returns-then-rank-eq0 : goal.returns-then-rank-eq0
 unfolding length_of
 returns-then-rank-eq0 c = simp (eq-eqb _ _ c.if-rank-eq0.true)
 
-pub overflow_sub-left : goal.overflow_sub-left
-overflow_sub-left c =
-    let a = c.args in
-    let h : get_or a.c.now 0 0 < get_or a.e.now 0 0 = c.requires (omega (arith, c.if-rank-eq0.false)) in
-    omega (arith, h)
-
-pub returns-then-size-left : goal.returns-then-size-left
-returns-then-size-left c = length_cut _ _ _ _ c.if-rank-eq0.false c.if-size-left.true
-
 pub returns : goal.returns
-returns c = length-left _ _ _ _ c.if-rank-eq0.false c.if-size-left.false
+returns c =
+    let a = c.args in
+    let size : ℕ = get_or a.w.now 0 0 in
+    let left : ℕ = get_or a.e.now 0 0 - get_or a.c.now 0 0 in
+    by_lt size left
+    (λ (l : size < left). let m : c.min.result ≡ size = omega (arith, c.min.ensures) in m ∙ length_cut _ _ _ _ c.if-rank-eq0.false l)
+    (λ (l : left ≤ size). let m : c.min.result ≡ left = omega (arith, c.min.ensures) in m ∙ length-left _ _ _ _ c.if-rank-eq0.false l)

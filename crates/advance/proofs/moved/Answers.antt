@@ -1,21 +1,12 @@
 -- `walk::moved` meets its contract, by the laws of `Signed.antt`: one for each way, at the tests that led there. Assumes nothing.
-use Rattle.advance.proofs.Signed.{stays, ahead_cast, ahead-mul, ahead-add, ahead_is, behind_cast, behind_mul, behind_sub, behind_is}
+use Rattle.advance.proofs.Signed.{stays, ahead-add, ahead_is, behind_mul, behind_sub, behind_is}
 use Rattle.advance.proofs.moved.Goals as goal
 
 pub returns-then-s-eq0 : goal.returns-then-s-eq0
 returns-then-s-eq0 c = stays _ _ _ _ c.ranges.o c.ranges.s c.requires c.if-s-eq0.true
 
-pub overflow_cast-d : goal.overflow_cast-d
-overflow_cast-d c = ahead_cast _ _ _ _ c.ranges.o c.ranges.s c.requires c.if-s-eq0.false c.if-from-to.true
-
-pub overflow_mul-result : goal.overflow_mul-result
-overflow_mul-result c = ahead-mul _ _ _ _ c.ranges.o c.ranges.s c.requires c.if-s-eq0.false c.if-from-to.true
-
 pub overflow_add-result : goal.overflow_add-result
 overflow_add-result c = ahead-add _ _ _ _ c.ranges.o c.ranges.s c.requires c.if-s-eq0.false c.if-from-to.true
-
-pub overflow_cast-d-else-from-to : goal.overflow_cast-d-else-from-to
-overflow_cast-d-else-from-to c = behind_cast _ _ _ _ c.ranges.o c.ranges.s c.requires c.if-s-eq0.false c.if-from-to.false
 
 pub overflow_mul-result-else-from-to : goal.overflow_mul-result-else-from-to
 overflow_mul-result-else-from-to c = behind_mul _ _ _ _ c.ranges.o c.ranges.s c.requires c.if-s-eq0.false c.if-from-to.false

@@ -1,8 +1,8 @@
 -- `advance::shift` meets its contract. Assumes nothing.
-use borrow.Author.Rules.{sfits_of}
+use borrow.Author.Rules.{rules, sfits_of}
 use native.Mathlib.Omega.{arith}
 use mathlib.Core.Path.{sym, ap, ◌∙◌, subst}
-use native.Mathlib.Nat.{le_refl, le_antisymm}
+use native.Mathlib.Nat.{le_refl}
 use lib.IntN.{ℤ, pos}
 use lib.ListN.{get_or}
 use mathlib.Core.List.{List}
@@ -11,7 +11,7 @@ use Rattle.advance.proofs.Signed.{moves_read, after_read}
 use Rattle.advance.proofs.Dot.{unmoved_at}
 use Rattle.advance.specs.Filled.{filled_none, filled_more, filled_above}
 use Prim.Native.Nat.{ℕ, zero-le, ◌≤◌, ◌+◌, ◌*◌}
-use Rattle.advance.specs.Moves.{shifted, moved_at, after_move, Moves}
+use Rattle.advance.specs.Moves.{moved_at, after_move, Moves}
 use Rattle.advance.proofs.shift.Goals as goal
 use mir.Syntax.{w64}
 
@@ -23,11 +23,11 @@ returns-then-from-to c =
 pub loop-k-init : goal.loop-k-init
 loop-k-init c = (zero-le, filled_none _ _)
 
-pub moved-c-requires : goal.moved-c-requires
-moved-c-requires c =
+pub moved-requires : goal.moved-requires
+moved-requires c =
     let a = c.args in
     let k = c.loop-k.k in
-    moves_read _ _ _ _ (sfits_of c.a-1.given) (sfits_of c.b-1.given)
+    moves_read _ _ _ _ (search rules) (search rules)
     (subst (λ (z : ℤ). Moves z (get_or a.s.now (k * 64 + a.axis) (pos 0)) a.from a.to)
     (sym (ap (λ (l : List ℤ). get_or l k (pos 0)) c.loop-k.invariant.1 ∙ filled_above a.o.now (moved_at a.axis a.from a.to a.s.now a.o.now) (pos 0) k k (le_refl k)))
     (c.requires.each k c.loop-k-test.true))
@@ -39,12 +39,7 @@ loop-k-preserved c =
     let e = c.loop-k.invariant.1 in (
       omega arith,
       filled_more a.o.now (moved_at a.axis a.from a.to a.s.now a.o.now) k _ _ e
-          (to_z-of_z {w = w64} (sfits_of c.moved-c.type_inv) ∙ c.moved-c.ensures ∙ after_read _ _ _ _ (sfits_of c.a-1.given) (sfits_of c.b-1.given)
+          (to_z-of_z {w = w64} (sfits_of c.moved.type_inv) ∙ c.moved.ensures ∙ after_read _ _ _ _ (search rules) (search rules)
           ∙ ap (λ (z : ℤ). after_move z (get_or a.s.now (k * 64 + a.axis) (pos 0)) a.from a.to)
           (ap (λ (l : List ℤ). get_or l k (pos 0)) e ∙ filled_above a.o.now (moved_at a.axis a.from a.to a.s.now a.o.now) (pos 0) k k (le_refl k))),
     )
-
-pub returns : goal.returns
-returns c =
-    let a = c.args in
-    c.loop-k.invariant.1 ∙ ap (λ (n : ℕ). shifted n a.axis a.from a.to a.s.now a.o.now) (le_antisymm c.loop-k.invariant.0 c.loop-k-test.false)

@@ -1,11 +1,8 @@
 -- The invariants of `shift`.
 use mathlib.Core.Path.{◌≡◌}
-use Prim.Native.Nat.{◌≤◌, ◌-◌}
+use Prim.Native.Nat.{◌≤◌}
 use Rattle.advance.specs.Moves.{shifted}
 use Rattle.advance.proofs.shift.Given as goal
 
 abbrev pub invariant-loop-k : goal.invariant-loop-k
 invariant-loop-k l = (l.k ≤ l.operands) × (l.o ≡ shifted l.k l.axis l.from l.to l.s l.initial.o)
-
-abbrev pub decreases-loop-k : goal.decreases-loop-k
-decreases-loop-k l = l.operands - l.k

@@ -1,25 +1,16 @@
 -- `advance::tile_starts_into` meets its contract. Assumes nothing.
-use Rattle.advance.specs.Axis.{tile_at, starts_to}
+use Rattle.advance.specs.Axis.{tile_at}
 use Rattle.advance.specs.Filled.{filled_none, filled_more}
-use Prim.Native.Nat.{ℕ, zero-le}
+use Prim.Native.Nat.{zero-le}
 use native.Mathlib.Omega.{arith}
-use native.Mathlib.Nat.{le_antisymm}
-use mathlib.Core.Path.{ap, ◌∙◌}
+use mathlib.Core.Path.{◌∙◌}
 use Rattle.advance.proofs.tile_starts_into.Goals as goal
 
 pub loop-i-init : goal.loop-i-init
 loop-i-init c = (zero-le, c.requires.t_value ∙ filled_none _ _)
 
-pub tile_start-x-requires : goal.tile_start-x-requires
-tile_start-x-requires c = c.requires.rank_bound.1 _ c.loop-i-test.true
-
 pub loop-i-preserved : goal.loop-i-preserved
 loop-i-preserved c =
     let a = c.args in
     let l = c.loop-i in
-    (omega arith, filled_more _ (tile_at a.w.now a.c.now) l.i _ _ l.invariant.1 c.tile_start-x.ensures)
-
-pub returns : goal.returns
-returns c =
-    let a = c.args in
-    c.loop-i.invariant.1 ∙ ap (λ (n : ℕ). starts_to a.w.now a.c.now n) (le_antisymm c.loop-i.invariant.0 c.loop-i-test.false)
+    (omega arith, filled_more _ (tile_at a.w.now a.c.now) l.i _ _ l.invariant.1 c.tile_start.ensures)

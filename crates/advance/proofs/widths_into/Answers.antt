@@ -1,10 +1,9 @@
 -- `advance::widths_into` meets its contract. Assumes nothing.
-use Rattle.advance.specs.Axis.{width_at, widths_to}
+use Rattle.advance.specs.Axis.{width_at}
 use Rattle.advance.specs.Filled.{filled_none, filled_more}
-use Prim.Native.Nat.{ℕ, zero-le}
+use Prim.Native.Nat.{zero-le}
 use native.Mathlib.Omega.{arith}
-use native.Mathlib.Nat.{le_antisymm}
-use mathlib.Core.Path.{ap, ◌∙◌}
+use mathlib.Core.Path.{◌∙◌}
 use Rattle.advance.proofs.widths_into.Goals as goal
 
 pub loop-i-init : goal.loop-i-init
@@ -14,9 +13,4 @@ pub loop-i-preserved : goal.loop-i-preserved
 loop-i-preserved c =
     let a = c.args in
     let l = c.loop-i in
-    (omega arith, filled_more _ (width_at a.rank a.e.now a.b.now) l.i _ _ l.invariant.1 c.width_of-x.ensures)
-
-pub returns : goal.returns
-returns c =
-    let a = c.args in
-    c.loop-i.invariant.1 ∙ ap (λ (n : ℕ). widths_to a.rank a.e.now a.b.now n) (le_antisymm c.loop-i.invariant.0 c.loop-i-test.false)
+    (omega arith, filled_more _ (width_at a.rank a.e.now a.b.now) l.i _ _ l.invariant.1 c.width_of.ensures)

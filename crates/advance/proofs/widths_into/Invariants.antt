@@ -1,11 +1,8 @@
 -- The invariants of `widths_into`.
 use Rattle.advance.specs.Axis.{widths_to}
-use Prim.Native.Nat.{◌≤◌, ◌-◌}
+use Prim.Native.Nat.{◌≤◌}
 use mathlib.Core.Path.{◌≡◌}
 use Rattle.advance.proofs.widths_into.Given as goal
 
 abbrev pub invariant-loop-i : goal.invariant-loop-i
 invariant-loop-i l = (l.i ≤ l.rank) × (l.w ≡ widths_to l.rank l.e l.b l.i)
-
-abbrev pub decreases-loop-i : goal.decreases-loop-i
-decreases-loop-i l = l.rank - l.i

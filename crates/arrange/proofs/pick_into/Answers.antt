@@ -16,13 +16,6 @@ loop-j-init c =
     let p = c.requires.out in
     (omega arith, sym (padded-take blank-ℕ 64 c.args.count c.args.out.now p.0 p.1))
 
-pub offset_bounds-xs-a : goal.offset_bounds-xs-a
-offset_bounds-xs-a c =
-    omega (arith, c.requires.inside c.loop-j.j c.loop-j-test.true)
-
-pub bounds-xs-a : goal.bounds-xs-a
-bounds-xs-a c = c.requires.inside c.loop-j.j c.loop-j-test.true
-
 pub loop-j-preserved : goal.loop-j-preserved
 loop-j-preserved c =
     -- what stood in the places that are counted

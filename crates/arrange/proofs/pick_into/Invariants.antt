@@ -1,7 +1,7 @@
 -- The invariants of `pick_into`.
 use mathlib.Core.Path.{◌≡◌}
 use mathlib.Core.List.{◌++◌}
-use Prim.Native.Nat.{◌-◌, ◌≤◌}
+use Prim.Native.Nat.{◌≤◌}
 use lib.ListN.{take, drop}
 use Rattle.strided.specs.Base.{padded}
 use Rattle.strided.specs.Order.{pick}
@@ -9,6 +9,3 @@ use Rattle.arrange.proofs.pick_into.Given as goal
 
 abbrev pub invariant-loop-j : goal.invariant-loop-j
 invariant-loop-j l = (l.j ≤ l.count) × (l.out ≡ padded 64 0 (take l.j (pick 0 l.xs (take l.count l.order)) ++ drop l.j (take l.count l.initial.out)))
-
-abbrev pub decreases-loop-j : goal.decreases-loop-j
-decreases-loop-j l = l.count - l.j

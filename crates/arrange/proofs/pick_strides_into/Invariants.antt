@@ -1,6 +1,6 @@
 -- The invariants of `pick_strides_into`.
 use mathlib.Core.Path.{◌≡◌}
-use Prim.Native.Nat.{◌-◌, ◌≤◌}
+use Prim.Native.Nat.{◌≤◌}
 use lib.IntN.{pos}
 use lib.ListN.{take}
 use Rattle.strided.specs.Base.{padded}
@@ -9,6 +9,3 @@ use Rattle.arrange.proofs.pick_strides_into.Given as goal
 
 abbrev pub invariant-loop-k : goal.invariant-loop-k
 invariant-loop-k l = (l.k ≤ l.operands) × (l.table ≡ padded 512 (pos 0) (pick_rows l.strides l.pitch (take l.count l.order) l.k))
-
-abbrev pub decreases-loop-k : goal.decreases-loop-k
-decreases-loop-k l = l.operands - l.k

@@ -8,6 +8,7 @@ use lib.IntN.{ℤ, pos}
 use mir.Syntax.{w64}
 use mir.Val.{SFits}
 use mir.Facts.{to_z-of_z}
+use Rattle.std.proofs.Common.{rules}
 use Rattle.arrange.proofs.Turns.{row_turn, row_start, row_done}
 use Rattle.arrange.proofs.put_row.Goals as goal
 
@@ -17,27 +18,11 @@ overflow_mul-from c = omega (arith, c.requires.operand.1)
 pub loop-j-init : goal.loop-j-init
 loop-j-init c = (omega arith, c.requires.table ∙ row_start c.args.order.now c.args.count c.args.strides.now c.args.pitch c.args.k)
 
-pub overflow_cast-a : goal.overflow_cast-a
-overflow_cast-a c =
-    omega (arith, c.requires.operand.1, c.requires.inside c.loop-j.j c.loop-j-test.true)
-
-pub overflow_add-s : goal.overflow_add-s
-overflow_add-s c =
-    omega (arith, c.requires.operand.1, c.requires.inside c.loop-j.j c.loop-j-test.true)
-
-pub offset_bounds-strides-from : goal.offset_bounds-strides-from
-offset_bounds-strides-from c =
-    omega (arith, c.requires.operand.1, c.requires.inside c.loop-j.j c.loop-j-test.true)
-
-pub bounds-strides-from : goal.bounds-strides-from
-bounds-strides-from c =
-    omega (arith, c.requires.operand.1, c.requires.inside c.loop-j.j c.loop-j-test.true)
-
 pub loop-j-preserved : goal.loop-j-preserved
 loop-j-preserved c =
     let i : ℕ = c.args.k * c.args.pitch + get_or c.args.order.now c.loop-j.j 0 in
-    let f : SFits w64 (get_or c.args.strides.now i (pos 0)) = record { sfits = c.s-1.given } in (
-      omega (arith, c.loop-j-test),
+    let f : SFits w64 (get_or c.args.strides.now i (pos 0)) = search rules in (
+      omega arith,
       rw (to_z-of_z {w = w64} f)
           (ap (λ (r : List ℤ). set r (c.args.k * 64 + c.loop-j.j) (get_or c.args.strides.now i (pos 0))) c.loop-j.invariant.1
           ∙ row_turn c.args.order.now c.args.count c.requires.order.0 c.requires.order.1 c.args.strides.now c.args.pitch c.args.k c.requires.operand.0 c.loop-j.j c.loop-j-test.true),

@@ -1,7 +1,7 @@
 -- The invariants of `put_row`.
 use mathlib.Core.Path.{◌≡◌}
 use mathlib.Core.List.{◌++◌}
-use Prim.Native.Nat.{◌-◌, ◌≤◌}
+use Prim.Native.Nat.{◌≤◌}
 use lib.ListN.{take}
 use lib.IntN.{pos}
 use Rattle.strided.specs.Base.{padded}
@@ -10,6 +10,3 @@ use Rattle.arrange.proofs.put_row.Given as goal
 
 abbrev pub invariant-loop-j : goal.invariant-loop-j
 invariant-loop-j l = (l.j ≤ l.count) × (l.table ≡ padded 512 (pos 0) (pick_rows l.strides l.pitch (take l.count l.order) l.k ++ take l.j (pick_row l.strides l.pitch (take l.count l.order) l.k)))
-
-abbrev pub decreases-loop-j : goal.decreases-loop-j
-decreases-loop-j l = l.count - l.j

@@ -11,7 +11,7 @@ use Rattle.block.proofs.keeps_first.Goals as goal
 use Rattle.block.proofs.keeps_first.Invariants.{firstIs}
 
 pub loop-k-init : goal.loop-k-init
-loop-k-init c = (omega arith, every_none _)
+loop-k-init c = every_none _
 
 pub returns-then-table-k : goal.returns-then-table-k
 unfolding keeps_first
@@ -25,7 +25,7 @@ pub loop-k-preserved : goal.loop-k-preserved
 loop-k-preserved c = let a = c.args in
     let l = c.loop-k in
     let m : ℕ = c.least_rank-m.result in
-    (omega arith, every_more (firstIs a.table.now a.tail.offset m) l.k (eq-eqb _ _ c.if-table-k.false) ∙ l.invariant.1)
+    every_more (firstIs a.table.now a.tail.offset m) l.k (eq-eqb _ _ c.if-table-k.false) ∙ l.invariant
 
 pub returns : goal.returns
 unfolding keeps_first
@@ -34,4 +34,4 @@ returns c = let a = c.args in
     let q = c.least_rank-m in
     let e : l.k ≡ a.tail.operands = omega arith in
     sym (ap (λ (m : ℕ). every (firstIs a.table.now a.tail.offset m) 0 a.tail.operands) (sym q.ensures)
-    ∙ ap (every (firstIs a.table.now a.tail.offset q.result) 0) (sym e) ∙ l.invariant.1)
+    ∙ ap (every (firstIs a.table.now a.tail.offset q.result) 0) (sym e) ∙ l.invariant)

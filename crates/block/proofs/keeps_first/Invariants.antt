@@ -2,7 +2,7 @@
 use mathlib.Core.Path.{◌≡◌}
 use mathlib.Core.Bool.{Bool, true}
 use mathlib.Core.List.{List}
-use Prim.Native.Nat.{ℕ, ◌-◌, ◌≤◌}
+use Prim.Native.Nat.{ℕ}
 use lib.Dec.{eqb}
 use Rattle.strided.specs.Base.{every}
 use Rattle.strided.specs.Cut.{rank_at}
@@ -13,7 +13,4 @@ abbrev pub firstIs : List (List ℕ) → ℕ → ℕ → ℕ → Bool
 firstIs ranks offset m j = eqb (rank_at ranks j offset) m
 
 abbrev pub invariant-loop-k : goal.invariant-loop-k
-invariant-loop-k l = (l.k ≤ l.tail.operands) × (every (firstIs l.table l.tail.offset l.m) 0 l.k ≡ true)
-
-abbrev pub decreases-loop-k : goal.decreases-loop-k
-decreases-loop-k l = l.tail.operands - l.k
+invariant-loop-k l = (every (firstIs l.table l.fn.tail.offset l.m) 0 l.k ≡ true)

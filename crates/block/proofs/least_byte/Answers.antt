@@ -6,24 +6,20 @@ use Rattle.strided.specs.Base.{least}
 use Rattle.strided.specs.Cut.{least_byte}
 use Rattle.laws.specs.Cut.Ranges.{least_first, least_more}
 use Rattle.block.proofs.least_byte.Goals as goal
-use Rattle.block.proofs.least_byte.Goals.{then-x-m, else-x-m}
 use Rattle.block.proofs.least_byte.Invariants.{leastOf}
 
 pub loop-k-init : goal.loop-k-init
-loop-k-init c = (omega arith, omega arith, c.least_byte_at-m.ensures ∙ sym (least_first _))
+loop-k-init c = c.least_byte_at-m.ensures ∙ sym (least_first _)
 
 pub loop-k-preserved : goal.loop-k-preserved
 loop-k-preserved c = let a = c.args in
     let l = c.loop-k in
-    let st = least_more (leastOf a.bytes.now a.tail.offset a.tail.rank) l.k l.invariant.0 in
-    elim c.if-x-m.branch [
-      | then-x-m w ↦ omega (arith, c.least_byte_at-x.ensures)
-      | else-x-m w ↦ omega (arith, c.least_byte_at-x.ensures)
-    ]
+    let st = least_more (leastOf a.bytes.now a.tail.offset a.tail.rank) l.k l.auto.k in
+    omega (arith, c.min-m.ensures, c.least_byte_at.ensures)
 
 pub returns : goal.returns
 unfolding least_byte
 returns c = let a = c.args in
     let l = c.loop-k in
     let e : l.k ≡ a.tail.operands = omega arith in
-    l.invariant.2 ∙ ap (least (leastOf a.bytes.now a.tail.offset a.tail.rank) 0) e
+    l.invariant ∙ ap (least (leastOf a.bytes.now a.tail.offset a.tail.rank) 0) e

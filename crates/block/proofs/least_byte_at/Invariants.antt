@@ -1,12 +1,9 @@
 -- The invariants of `least_byte_at`.
 use mathlib.Core.Path.{◌≡◌}
-use Prim.Native.Nat.{◌-◌, ◌≤◌, ◌<◌}
+use Prim.Native.Nat.{◌-◌}
 use Rattle.strided.specs.Base.{least}
 use Rattle.strided.specs.Region.{byte_at}
 use Rattle.block.proofs.least_byte_at.Given as goal
 
 abbrev pub invariant-loop-i : goal.invariant-loop-i
-invariant-loop-i l = (l.tail.offset < l.i) × (l.i ≤ l.tail.rank) × (l.m ≡ least (byte_at l.bytes l.k) l.tail.offset (l.i - l.tail.offset))
-
-abbrev pub decreases-loop-i : goal.decreases-loop-i
-decreases-loop-i l = l.tail.rank - l.i
+invariant-loop-i l = (l.m ≡ least (byte_at l.bytes l.k) l.fn.tail.offset (l.i - l.fn.tail.offset))

@@ -1,12 +1,9 @@
 -- The invariants of `least_in_row`.
 use mathlib.Core.Path.{◌≡◌}
-use Prim.Native.Nat.{◌-◌, ◌≤◌, ◌<◌}
+use Prim.Native.Nat.{◌-◌}
 use lib.ListN.{get_or}
 use Rattle.strided.specs.Base.{least}
 use Rattle.block.proofs.least_in_row.Given as goal
 
 abbrev pub invariant-loop-i : goal.invariant-loop-i
-invariant-loop-i l = (l.tail.offset < l.i) × (l.i ≤ l.tail.rank) × (l.m ≡ least (λ j. get_or l.row j 0) l.tail.offset (l.i - l.tail.offset))
-
-abbrev pub decreases-loop-i : goal.decreases-loop-i
-decreases-loop-i l = l.tail.rank - l.i
+invariant-loop-i l = (l.m ≡ least (λ j. get_or l.row j 0) l.fn.tail.offset (l.i - l.fn.tail.offset))

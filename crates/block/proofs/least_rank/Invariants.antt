@@ -1,7 +1,7 @@
 -- The invariants of `least_rank`.
 use mathlib.Core.Path.{◌≡◌}
 use mathlib.Core.List.{List}
-use Prim.Native.Nat.{ℕ, ◌-◌, ◌≤◌, ◌<◌}
+use Prim.Native.Nat.{ℕ, ◌-◌}
 use Rattle.strided.specs.Base.{least}
 use Rattle.strided.specs.Cut.{rank_at}
 use Rattle.block.proofs.least_rank.Given as goal
@@ -11,7 +11,4 @@ abbrev pub leastOf : List (List ℕ) → ℕ → ℕ → ℕ → ℕ
 leastOf ranks offset rank j = least (rank_at ranks j) offset (rank - offset)
 
 abbrev pub invariant-loop-k : goal.invariant-loop-k
-invariant-loop-k l = (0 < l.k) × (l.k ≤ l.tail.operands) × (l.m ≡ least (leastOf l.table l.tail.offset l.tail.rank) 0 l.k)
-
-abbrev pub decreases-loop-k : goal.decreases-loop-k
-decreases-loop-k l = l.tail.operands - l.k
+invariant-loop-k l = (l.m ≡ least (leastOf l.table l.fn.tail.offset l.fn.tail.rank) 0 l.k)

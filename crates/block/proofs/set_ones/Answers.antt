@@ -9,15 +9,15 @@ use Rattle.laws.specs.Cut.Cases.{ones_start, ones_step}
 use Rattle.block.proofs.set_ones.Goals as goal
 
 pub loop-i-init : goal.loop-i-init
-loop-i-init c = (omega arith, omega arith, sym (ones_start _ _))
+loop-i-init c = sym (ones_start _ _)
 
 pub loop-i-preserved : goal.loop-i-preserved
 loop-i-preserved c = let a = c.args in
     let l = c.loop-i in
-    (omega arith, omega arith, ap (λ (b : List ℕ). set b l.i 1) l.invariant.2 ∙ sym (ones_step a.tail.offset l.i a.blocks.now l.invariant.0))
+    ap (λ (b : List ℕ). set b l.i 1) l.invariant ∙ sym (ones_step a.tail.offset l.i a.blocks.now l.auto.i)
 
 pub returns : goal.returns
 returns c = let a = c.args in
     let l = c.loop-i in
     let e : l.i ≡ a.tail.rank = omega arith in
-    l.invariant.2 ∙ ap (λ (i : ℕ). ones a.tail.offset (i - a.tail.offset) a.blocks.now) e
+    l.invariant ∙ ap (λ (i : ℕ). ones a.tail.offset (i - a.tail.offset) a.blocks.now) e

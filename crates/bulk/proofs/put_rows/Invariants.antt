@@ -1,7 +1,7 @@
 -- The invariants of `put_rows`.
 use Rattle.bulk.specs.Blocks.{rows_for}
 use mathlib.Core.Path.{◌≡◌}
-use Prim.Native.Nat.{◌-◌, ◌*◌, ◌≤◌}
+use Prim.Native.Nat.{◌*◌, ◌≤◌}
 use lib.ListN.{length}
 use lib.Seq.{paste}
 use Rattle.bulk.proofs.put_rows.Given as goal
@@ -9,6 +9,3 @@ use Rattle.bulk.proofs.put_rows.Given as goal
 abbrev pub invariant-loop-j : goal.invariant-loop-j
 invariant-loop-j l =
     (l.j ≤ l.count) × (length l.offsets ≡ length l.initial.offsets) × (l.offsets ≡ paste l.initial.offsets (l.at * l.operands) (rows_for l.j l.operands l.d l.o) (l.j * l.operands))
-
-abbrev pub decreases-loop-j : goal.decreases-loop-j
-decreases-loop-j l = l.count - l.j

@@ -1,7 +1,7 @@
 -- `cells::copy_patch` meets its contract. Assumes nothing.
 use mathlib.Core.Path.{◌≡◌, sym, ◌∙◌}
 use native.Mathlib.Omega.{arith}
-use lib.IntN.{pos, neg_ℤ}
+use lib.IntN.{pos}
 use lib.ListN.{length}
 use mir.Syntax.{w64}
 use mir.Val.{SFits, to_z, of_z}
@@ -10,12 +10,16 @@ use Rattle.cells.specs.Reaching.{PatchIn}
 use Rattle.cells.proofs.Lying.{lies_in, no_cell, no_run}
 use borrow.Author.Rules.{rules}
 use Rattle.cells.proofs.copy_patch.Goals as goal
+use Rattle.cells.proofs.copy_patch.Goals.{then-n0-eq0-via-then-n0-eq0, then-n0-eq0-via-else-n0-eq0+then-n1-eq0}
 
+-- without a cell or without a run there is nothing to copy
 pub returns-then-n0-eq0 : goal.returns-then-n0-eq0
-returns-then-n0-eq0 c = let a = c.args in no_cell a.width a.n0 a.n1 a.to a.from a.destination.now a.source.now c.if-n0-eq0.true
-
-pub returns-then-n1-eq0 : goal.returns-then-n1-eq0
-returns-then-n1-eq0 c = let a = c.args in no_run a.width a.n0 a.n1 a.to a.from a.destination.now a.source.now c.if-n1-eq0.true
+returns-then-n0-eq0 c =
+    let a = c.args in
+    elim c.then-n0-eq0.branch [
+      | then-n0-eq0-via-then-n0-eq0 w ↦ no_cell a.width a.n0 a.n1 a.to a.from a.destination.now a.source.now w.if-n0-eq0.true
+      | then-n0-eq0-via-else-n0-eq0+then-n1-eq0 w ↦ no_run a.width a.n0 a.n1 a.to a.from a.destination.now a.source.now w.if-n1-eq0.true
+    ]
 
 pub copy_packed-requires : goal.copy_packed-requires
 copy_packed-requires c =
@@ -31,14 +35,6 @@ copy_packed-requires c =
     let g : SFits w64 a.from.step0 = search rules in
     let p : to_z w64 (of_z w64 a.to.step0) ≡ pos a.width = (c.both_step.ensures c.if-both_step.true).0 in
     let q : to_z w64 (of_z w64 a.from.step0) ≡ pos a.width = (c.both_step.ensures c.if-both_step.true).1 in record { n0_nonzero = (omega arith, omega arith, sym (to_z-of_z {w = w64} f) ∙ p, sym (to_z-of_z {w = w64} g) ∙ q); patch_in = to_in; patch_in_2 = from_in }
-
-pub copy_down-requires : goal.copy_down-requires
-copy_down-requires c =
-    let a = c.args in
-    let f : SFits w64 a.to.step0 = search rules in
-    let g : SFits w64 a.from.step0 = search rules in
-    let p : to_z w64 (of_z w64 a.to.step0) ≡ neg_ℤ (pos a.width) = (c.both_down.ensures c.if-both_down.true).0 in
-    let q : to_z w64 (of_z w64 a.from.step0) ≡ neg_ℤ (pos a.width) = (c.both_down.ensures c.if-both_down.true).1 in record { n0_nonzero = (omega arith, omega arith, sym (to_z-of_z {w = w64} f) ∙ p, sym (to_z-of_z {w = w64} g) ∙ q); width_bound = (c.requires.le_width.1, c.requires.n0_bound.0, c.requires.n0_bound.1); lies = c.requires.lies; lies_2 = c.requires.lies_2; apart = c.requires.apart }
 
 pub copy_fours_by_width-requires : goal.copy_fours_by_width-requires
 copy_fours_by_width-requires c =

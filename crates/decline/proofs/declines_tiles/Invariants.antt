@@ -1,13 +1,9 @@
 -- The invariants of `declines_tiles`.
 use mathlib.Core.Path.{◌≡◌}
 use mathlib.Core.Bool.{true}
-use Prim.Native.Nat.{◌-◌, ◌≤◌}
 use Rattle.strided.specs.Base.{every}
 use Rattle.decline.proofs.Passes.{unshared}
 use Rattle.decline.proofs.declines_tiles.Given as goal
 
 abbrev pub invariant-loop-k : goal.invariant-loop-k
-invariant-loop-k l = (l.k ≤ l.operands) × (every (unshared l.machine l.sizes l.strides l.extents l.cut l.rank) 0 l.k ≡ true)
-
-abbrev pub decreases-loop-k : goal.decreases-loop-k
-decreases-loop-k l = l.operands - l.k
+invariant-loop-k l = (every (unshared l.machine.numbers l.sizes l.strides l.extents l.cut l.rank) 0 l.k ≡ true)

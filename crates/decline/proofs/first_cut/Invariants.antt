@@ -2,7 +2,7 @@
 use mathlib.Core.Bool.{Bool}
 use mathlib.Core.List.{List}
 use mathlib.Core.Path.{◌≡◌}
-use Prim.Native.Nat.{ℕ, ◌-◌, ◌≤◌}
+use Prim.Native.Nat.{ℕ, ◌-◌}
 use lib.Dec.{ltb}
 use lib.ListN.{get_or}
 use Rattle.strided.specs.Base.{seek}
@@ -14,7 +14,4 @@ abbrev pub cut_at : List ℕ → List ℕ → ℕ → Bool
 cut_at extents blocks j = ltb (get_or blocks j 0) (get_or extents j 0)
 
 abbrev pub invariant-loop-i : goal.invariant-loop-i
-invariant-loop-i l = (l.i ≤ l.rank) × (seek (cut_at l.extents l.blocks) l.i (l.rank - l.i) ≡ first_cut l.extents l.blocks l.rank)
-
-abbrev pub decreases-loop-i : goal.decreases-loop-i
-decreases-loop-i l = l.rank - l.i
+invariant-loop-i l = (seek (cut_at l.extents l.blocks) l.i (l.rank - l.i) ≡ first_cut l.extents l.blocks l.rank)

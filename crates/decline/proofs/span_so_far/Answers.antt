@@ -13,35 +13,35 @@ use Rattle.decline.proofs.span_so_far.Goals.{then-comes_before, else-comes_befor
 
 pub loop-j-init : goal.loop-j-init
 loop-j-init c = let a = c.args in
-    (omega arith, omega arith, omega (arith, sum_start (adds (stride_size a.strides.now a.slabs.operand) a.extents.now a.i) a.slabs.cut))
+    (omega (arith, sum_start (adds (stride_size a.strides.now a.slabs.operand) a.extents.now a.i) a.slabs.cut))
 
 pub way_at-s-requires : goal.way_at-s-requires
 way_at-s-requires c =
     -- the axis's way fits beside the span
     let room : let a = c.args in let l = c.loop-j in l.s + way_of (stride_size a.strides.now a.slabs.operand) a.extents.now l.j ≤ 2 ^ 63 = let l = c.loop-j in
-    omega (arith, tail-room c.args.slabs c.args.strides.now c.args.extents.now c.args.i l.j c.requires.0 l.invariant.0 (omega arith)) in
+    omega (arith, tail-room c.args.slabs c.args.strides.now c.args.extents.now c.args.i l.j c.requires.0 l.auto.j (omega arith)) in
     (omega arith, omega (arith, room))
 
 pub overflow_add-s : goal.overflow_add-s
 overflow_add-s c =
     let room : let a = c.args in let l = c.loop-j in l.s + way_of (stride_size a.strides.now a.slabs.operand) a.extents.now l.j ≤ 2 ^ 63 = let l = c.loop-j in
-    omega (arith, tail-room c.args.slabs c.args.strides.now c.args.extents.now c.args.i l.j c.requires.0 l.invariant.0 (omega arith)) in
+    omega (arith, tail-room c.args.slabs c.args.strides.now c.args.extents.now c.args.i l.j c.requires.0 l.auto.j (omega arith)) in
     omega (arith, room, c.way_at-s.ensures)
 
 pub loop-j-preserved : goal.loop-j-preserved
 loop-j-preserved c = let a = c.args in
     let l = c.loop-j in
     let f : ℕ → ℕ = stride_size a.strides.now a.slabs.operand in
-    let st = sum_step (adds f a.extents.now a.i) a.slabs.cut l.j l.invariant.0 in
+    let st = sum_step (adds f a.extents.now a.i) a.slabs.cut l.j l.auto.j in
     let way : ℕ = way_of f a.extents.now l.j in
     let t = c.comes_before.ensures in
     elim c.if-comes_before.branch [
-      | then-comes_before w ↦ (omega arith, omega arith, omega (arith, st, w.way_at-s.ensures, cond_true (before f a.i l.j) way 0 (sym t ∙ w.if-comes_before.true)))
-      | else-comes_before w ↦ (omega arith, omega arith, omega (arith, st, cond_false (before f a.i l.j) way 0 (sym t ∙ w.if-comes_before.false)))
+      | then-comes_before w ↦ (omega (arith, st, w.way_at-s.ensures, cond_true (before f a.i l.j) way 0 (sym t ∙ w.if-comes_before.true)))
+      | else-comes_before w ↦ (omega (arith, st, cond_false (before f a.i l.j) way 0 (sym t ∙ w.if-comes_before.false)))
     ]
 
 pub returns : goal.returns
 returns c = let a = c.args in
     let l = c.loop-j in
     let e : l.j ≡ a.slabs.rank = omega arith in
-    l.invariant.2 ∙ ap (λ (j : ℕ). span_to j a.slabs a.strides.now a.extents.now a.i) e
+    l.invariant ∙ ap (λ (j : ℕ). span_to j a.slabs a.strides.now a.extents.now a.i) e

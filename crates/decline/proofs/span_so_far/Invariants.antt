@@ -1,11 +1,7 @@
 -- The invariants of `span_so_far`.
 use mathlib.Core.Path.{◌≡◌}
-use Prim.Native.Nat.{◌-◌, ◌≤◌}
 use Rattle.decline.specs.Slabs.{span_to}
 use Rattle.decline.proofs.span_so_far.Given as goal
 
 abbrev pub invariant-loop-j : goal.invariant-loop-j
-invariant-loop-j l = (l.slabs.cut ≤ l.j) × (l.j ≤ l.slabs.rank) × (l.s ≡ span_to l.j l.slabs l.strides l.extents l.i)
-
-abbrev pub decreases-loop-j : goal.decreases-loop-j
-decreases-loop-j l = l.slabs.rank - l.j
+invariant-loop-j l = (l.s ≡ span_to l.j l.slabs l.strides l.extents l.i)

@@ -9,24 +9,24 @@ use Rattle.decline.specs.Slabs.{apart_at, apart_to}
 use Rattle.decline.proofs.tail_separated.Goals as goal
 
 pub loop-i-init : goal.loop-i-init
-loop-i-init c = (omega arith, omega arith, every_start _ _)
+loop-i-init c = every_start _ _
 
 pub loop-i-preserved : goal.loop-i-preserved
 loop-i-preserved c =
     -- the test at one axis
-    let test : ℕ → Bool = apart_at c.args.machine c.args.slabs c.args.strides.now c.args.extents.now in
+    let test : ℕ → Bool = apart_at c.args.machine.numbers c.args.slabs c.args.strides.now c.args.extents.now in
     let l = c.loop-i in
-    (omega arith, omega arith, every-step test c.args.slabs.cut l.i l.invariant.0 (sym c.keeps_apart.ensures ∙ c.if-keeps_apart.true) ∙ l.invariant.2)
+    (every-step test c.args.slabs.cut l.i l.auto.i (sym c.keeps_apart.ensures ∙ c.if-not-keeps_apart.false) ∙ l.invariant)
 
-pub returns-else-keeps_apart : goal.returns-else-keeps_apart
-returns-else-keeps_apart c =
-    let test : ℕ → Bool = apart_at c.args.machine c.args.slabs c.args.strides.now c.args.extents.now in
+pub returns-then-not-keeps_apart : goal.returns-then-not-keeps_apart
+returns-then-not-keeps_apart c =
+    let test : ℕ → Bool = apart_at c.args.machine.numbers c.args.slabs c.args.strides.now c.args.extents.now in
     let l = c.loop-i in
     let b = c.args.slabs in
-    sym (every_fails_at test b.cut l.i (b.rank - b.cut) l.invariant.0 (omega arith) (sym c.keeps_apart.ensures ∙ c.if-keeps_apart.false))
+    sym (every_fails_at test b.cut l.i (b.rank - b.cut) l.auto.i (omega arith) (sym c.keeps_apart.ensures ∙ c.if-not-keeps_apart.true))
 
 pub returns : goal.returns
 returns c = let a = c.args in
     let l = c.loop-i in
     let e : a.slabs.rank ≡ l.i = omega arith in
-    sym (ap (λ (i : ℕ). apart_to i a.machine a.slabs a.strides.now a.extents.now) e ∙ l.invariant.2)
+    sym (ap (λ (i : ℕ). apart_to i a.machine.numbers a.slabs a.strides.now a.extents.now) e ∙ l.invariant)

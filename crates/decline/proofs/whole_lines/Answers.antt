@@ -16,10 +16,10 @@ rest_is mc h n = subst (λ (l : ℕ). bit_and n (l - 1) ≡ n % l) (sym h.power.
 
 pub overflow_mul-result : goal.overflow_mul-result
 overflow_mul-result c = let a = c.args in
-    let low : ℕ = a.machine.line - 1 in
+    let low : ℕ = a.machine.numbers.line - 1 in
     let p : bit_and a.n low ≤ 255 = omega (arith, and_le_r a.n low) in
     let q : bit_and a.size low ≤ 255 = omega (arith, and_le_r a.size low) in
     omega (arith, mul-le-mul p q)
 
 pub returns : goal.returns
-returns c = simp (rest_is c.args.machine c.requires, mod_both)
+returns c = simp (rest_is c.args.machine.numbers c.args.machine.allowed, mod_both)

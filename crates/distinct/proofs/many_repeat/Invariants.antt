@@ -7,6 +7,3 @@ use Rattle.distinct.proofs.many_repeat.Given as goal
 
 abbrev pub invariant-loop-i : goal.invariant-loop-i
 invariant-loop-i l = Behind 4096 l.extents l.strides l.list l.n l.i × (length l.spare ≡ 4096) × Rising (take l.n l.list)
-
-abbrev pub decreases-loop-i : goal.decreases-loop-i
-decreases-loop-i l = l.i

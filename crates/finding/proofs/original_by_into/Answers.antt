@@ -1,5 +1,5 @@
 -- `finding::original_by_into` meets its contract: row 11 is judged on the plan's extents, then the index is told. Assumes nothing.
-use mathlib.Core.Path.{refl, sym, ◌∙◌}
+use mathlib.Core.Path.{refl, sym}
 use mathlib.Core.List.{List}
 use Prim.Native.Nat.{ℕ}
 use lib.ListN.{length, take}
@@ -16,17 +16,17 @@ pub unravel_index-requires : goal.unravel_index-requires
 unravel_index-requires c =
     -- the plan's extents, and what is to be told
     let K : List ℕ = kept_extents (take (length c.args.extents.now) c.args.fused.now) in
-    record { arrays = c.requires; extents = c.requires.positive c.args.counters.now (true_within K c.args.counters.now (sym c.plan_within.ensures ∙ c.if-plan_within.true)); zeros = refl }
-
-pub returns-then-plan_within : goal.returns-then-plan_within
-returns-then-plan_within c =
-    let K : List ℕ = kept_extents (take (length c.args.extents.now) c.args.fused.now) in
-    let X : List ℕ = unraveled c.args.extents.now c.args.order.now c.args.fused.now c.args.counters.now in
-    let a = c.args in
-    leaves K a.counters.now X c.plan_within.ensures c.if-plan_within.true (length a.extents.now) _ (unraveled_long c.requires a.counters.now) c.unravel_index.ensures
+    record { arrays = c.requires; extents = c.requires.positive c.args.counters.now (true_within K c.args.counters.now (sym c.if-not-plan_within.ensures)); zeros = refl }
 
 pub returns : goal.returns
 returns c =
     let K : List ℕ = kept_extents (take (length c.args.extents.now) c.args.fused.now) in
     let X : List ℕ = unraveled c.args.extents.now c.args.order.now c.args.fused.now c.args.counters.now in
-    leaves_none K c.args.counters.now X c.plan_within.ensures c.if-plan_within.false
+    let a = c.args in
+    leaves K a.counters.now X c.if-not-plan_within.ensures refl (length a.extents.now) _ (unraveled_long c.requires a.counters.now) c.unravel_index.ensures
+
+pub returns-then-not-plan_within : goal.returns-then-not-plan_within
+returns-then-not-plan_within c =
+    let K : List ℕ = kept_extents (take (length c.args.extents.now) c.args.fused.now) in
+    let X : List ℕ = unraveled c.args.extents.now c.args.order.now c.args.fused.now c.args.counters.now in
+    leaves_none K c.args.counters.now X c.if-not-plan_within.ensures refl

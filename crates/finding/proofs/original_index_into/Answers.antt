@@ -1,36 +1,26 @@
 -- `finding::original_index_into` meets its contract. Assumes nothing.
-use mathlib.Core.Path.{◌≡◌, refl, sym, ◌∙◌}
-use mathlib.Core.Option.{none}
+use Rattle.std.proofs.Common.{◌≡◌, sym, ◌∙◌}
+use Rattle.std.proofs.lemmas.Result.{err_from_is_err_and}
+use Rattle.std.specs.Prelude.{None}
 use Rattle.strided.specs.Refusals.{layout_refused}
 use Rattle.laws.specs.Refusals.Rows.{served_none, refused_some}
-use Rattle.finding.specs.Mapped.{Sound}
-use Rattle.finding.proofs.Maps.{sound}
-use Rattle.finding.proofs.Answers.{same-told, fitting, cells-few, tells_original, original_passed, original_refused}
+use Rattle.finding.proofs.Answers.{same-told, fitting, cells-few, original_passed, original_refused}
 use Rattle.finding.proofs.original_index_into.Goals as goal
 
-pub returns-in-Refused : goal.returns-in-Refused
-returns-in-Refused c =
+pub returns-in_err-check_layout : goal.returns-in_err-check_layout
+returns-in_err-check_layout c =
     let a = c.args in
-    original_refused a.extents.now a.sizes.now a.strides.now a.purpose a.counters.now _ (refused_some _ (sym c.check_layout-answer.ensures ∙ c.in-Refused.is))
+    let p = err_from_is_err_and c.from_residual.result c.from_residual.ensures.1 in
+    rw (p.1, p.2) (original_refused a.extents.now a.sizes.now a.strides.now a.purpose a.counters.now _ (refused_some _ _ (sym c.check_layout.ensures ∙ c.in_err-check_layout.was)))
 
-pub map_into-requires : goal.map_into-requires
-map_into-requires c =
+pub original_of_into-requires : goal.original_of_into-requires
+original_of_into-requires c =
     -- rows 1 to 6 let the layout through
-    let passed : let a = c.args in layout_refused a.extents.now a.sizes.now a.strides.now a.purpose ≡ none = served_none _ (sym c.check_layout-answer.ensures ∙ c.in-Served.is) in
-    let a = c.args in record { layout = fitting a.extents.now a.sizes.now a.strides.now a.purpose passed; zeros = (refl, refl) }
+    let passed : let a = c.args in layout_refused a.extents.now a.sizes.now a.strides.now a.purpose ≡ None = served_none _ _ (sym c.check_layout.ensures ∙ c.in_ok-check_layout.was) in
+    let a = c.args in record { layout = fitting a.extents.now a.sizes.now a.strides.now a.purpose passed; total = cells-few a.extents.now a.sizes.now a.strides.now a.purpose passed }
 
-pub original_by_into-requires : goal.original_by_into-requires
-original_by_into-requires c =
-    let passed : let a = c.args in layout_refused a.extents.now a.sizes.now a.strides.now a.purpose ≡ none = served_none _ (sym c.check_layout-answer.ensures ∙ c.in-Served.is) in
-    -- and so the map serves
-    let serves : let a = c.args in Sound a.extents.now c.map_into.new.order c.map_into.new.fused = let a = c.args in
-    sound (fitting a.extents.now a.sizes.now a.strides.now a.purpose passed) c.map_into.ensures (cells-few a.extents.now a.sizes.now a.strides.now a.purpose passed) in
-    serves
-
-pub returns-in-Served : goal.returns-in-Served
-returns-in-Served c =
-    let passed : let a = c.args in layout_refused a.extents.now a.sizes.now a.strides.now a.purpose ≡ none = served_none _ (sym c.check_layout-answer.ensures ∙ c.in-Served.is) in
-    let serves : let a = c.args in Sound a.extents.now c.map_into.new.order c.map_into.new.fused = let a = c.args in
-    sound (fitting a.extents.now a.sizes.now a.strides.now a.purpose passed) c.map_into.ensures (cells-few a.extents.now a.sizes.now a.strides.now a.purpose passed) in
+pub returns : goal.returns
+returns c =
+    let passed : let a = c.args in layout_refused a.extents.now a.sizes.now a.strides.now a.purpose ≡ None = served_none _ _ (sym c.check_layout.ensures ∙ c.in_ok-check_layout.was) in
     let a = c.args in
-    same-told (tells_original serves c.map_into.ensures a.counters.now ∙ original_passed a.extents.now a.sizes.now a.strides.now a.purpose a.counters.now passed) c.original_by_into.ensures
+    same-told (original_passed a.extents.now a.sizes.now a.strides.now a.purpose a.counters.now passed) c.original_of_into.ensures

@@ -1,15 +1,10 @@
 -- The invariants of `all_join`.
 use mathlib.Core.Path.{◌≡◌}
-use Prim.Native.Nat.{◌≤◌}
 use Rattle.strided.specs.Layout.{stride_column}
 use Rattle.strided.specs.Fuse.{all_join}
 use Rattle.fuse.proofs.all_join.Given as goal
 
 abbrev pub invariant-loop-k : goal.invariant-loop-k
 invariant-loop-k l =
-    (l.k ≤ l.operands)
-    × (all_join l.e (stride_column l.strides l.pitch l.h 0 l.k) (stride_column l.strides l.pitch l.i 0 l.k)
-    ≡ all_join l.e (stride_column l.strides l.pitch l.h 0 l.operands) (stride_column l.strides l.pitch l.i 0 l.operands))
-
-abbrev pub decreases-loop-k : goal.decreases-loop-k
-decreases-loop-k l = l.k
+    all_join l.e (stride_column l.strides l.pitch l.h 0 l.k) (stride_column l.strides l.pitch l.i 0 l.k)
+    ≡ all_join l.e (stride_column l.strides l.pitch l.h 0 l.operands) (stride_column l.strides l.pitch l.i 0 l.operands)

@@ -1,6 +1,6 @@
 -- The invariants of `compute_costs`.
 use mathlib.Core.Path.{◌≡◌}
-use Prim.Native.Nat.{◌-◌, ◌≤◌}
+use Prim.Native.Nat.{◌≤◌}
 use lib.ListN.{take}
 use Rattle.strided.specs.Base.{padded}
 use Rattle.strided.specs.Costs.{costs}
@@ -8,6 +8,3 @@ use Rattle.fuse.proofs.compute_costs.Given as goal
 
 abbrev pub invariant-loop-i : goal.invariant-loop-i
 invariant-loop-i l = (l.i ≤ l.rank) × (l.found ≡ padded 64 0 (take l.i (costs l.strides l.operands l.rank)))
-
-abbrev pub decreases-loop-i : goal.decreases-loop-i
-decreases-loop-i l = l.rank - l.i

@@ -16,20 +16,20 @@ returns-in_default c =
 
 pub returns-then-cells-gt-MAX_CELLS : goal.returns-then-cells-gt-MAX_CELLS
 returns-then-cells-gt-MAX_CELLS c =
-    refuses c.args.extents.now c.args.text.now c.args.marks.now TextTotal (cells-refused c.args.extents.now (length c.args.marks.now) (sym c.rank_over.ensures ∙ c.if-rank_over.false) (sym c.total_len.ensures ∙ c.in-Fits.is) c.if-cells-gt-MAX_CELLS.true)
+    refuses c.args.extents.now c.args.text.now c.args.marks.now TextTotal (cells-refused c.args.extents.now (length c.args.marks.now) (sym c.rank_over.ensures ∙ c.if-rank_over.false) (sym c.total_len.ensures ∙ c.in-Some.is) c.if-cells-gt-MAX_CELLS.true)
 
 pub returns-then-rank-eq0 : goal.returns-then-rank-eq0
 returns-then-rank-eq0 c =
-    refuses c.args.extents.now c.args.text.now c.args.marks.now Visits (none_refused c.args.extents.now (length c.args.marks.now) (sym c.rank_over.ensures ∙ c.if-rank_over.false) (sym c.total_len.ensures ∙ c.in-Fits.is) c.if-cells-gt-MAX_CELLS.false c.if-rank-eq0.true)
+    refuses c.args.extents.now c.args.text.now c.args.marks.now Visits (none_refused c.args.extents.now (length c.args.marks.now) (sym c.rank_over.ensures ∙ c.if-rank_over.false) (sym c.total_len.ensures ∙ c.in-Some.is) c.if-cells-gt-MAX_CELLS.false c.if-rank-eq0.true)
 
 pub returns-then-marks-cells : goal.returns-then-marks-cells
 returns-then-marks-cells c =
-    refuses c.args.extents.now c.args.text.now c.args.marks.now Visits (buffer_refused c.args.extents.now (length c.args.marks.now) (sym c.rank_over.ensures ∙ c.if-rank_over.false) (sym c.total_len.ensures ∙ c.in-Fits.is) c.if-cells-gt-MAX_CELLS.false c.if-rank-eq0.false c.if-marks-cells.true)
+    refuses c.args.extents.now c.args.text.now c.args.marks.now Visits (buffer_refused c.args.extents.now (length c.args.marks.now) (sym c.rank_over.ensures ∙ c.if-rank_over.false) (sym c.total_len.ensures ∙ c.in-Some.is) c.if-cells-gt-MAX_CELLS.false c.if-rank-eq0.false c.if-marks-cells.true)
 
 pub judge_text-requires : goal.judge_text-requires
 judge_text-requires c =
-    none_refuses c.args.extents.now (length c.args.marks.now) (sym c.rank_over.ensures ∙ c.if-rank_over.false) (sym c.total_len.ensures ∙ c.in-Fits.is) c.if-cells-gt-MAX_CELLS.false c.if-rank-eq0.false c.if-marks-cells.false
+    none_refuses c.args.extents.now (length c.args.marks.now) (sym c.rank_over.ensures ∙ c.if-rank_over.false) (sym c.total_len.ensures ∙ c.in-Some.is) c.if-cells-gt-MAX_CELLS.false c.if-rank-eq0.false c.if-marks-cells.false
 
 pub returns : goal.returns
 returns c =
-    judges c.args.extents.now c.args.text.now c.args.marks.now (none_refuses c.args.extents.now (length c.args.marks.now) (sym c.rank_over.ensures ∙ c.if-rank_over.false) (sym c.total_len.ensures ∙ c.in-Fits.is) c.if-cells-gt-MAX_CELLS.false c.if-rank-eq0.false c.if-marks-cells.false) c.judge_text.ensures
+    judges c.args.extents.now c.args.text.now c.args.marks.now (none_refuses c.args.extents.now (length c.args.marks.now) (sym c.rank_over.ensures ∙ c.if-rank_over.false) (sym c.total_len.ensures ∙ c.in-Some.is) c.if-cells-gt-MAX_CELLS.false c.if-rank-eq0.false c.if-marks-cells.false) c.judge_text.ensures

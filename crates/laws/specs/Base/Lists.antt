@@ -1,8 +1,7 @@
 -- Lists: a claim on each element, the elements by number, lists joined, and runs of numbers.
 -- Assumes nothing.
-use Rattle.std.specs.Prelude.{◌≡◌, refl, ◌↔◌, List, [], ◌∷◌, ◌++◌, map, ℕ, zero, suc, ◌+◌, ◌≤◌, ◌<◌, length, get_or, take, drop}
+use Rattle.std.specs.Prelude.{◌≡◌, refl, ◌↔◌, List, [], ◌∷◌, ◌++◌, map, ℕ, zero, suc, ◌+◌, ◌≤◌, ◌<◌, length, get_or, take, drop, None, Some}
 use Rattle.std.proofs.Common.{sym, ap, ◌∙◌, append_assoc, append-nil, zero-add, add-zero, suc-add, arith}
-use Rattle.std.proofs.Math.Option.{none, some}
 use Rattle.strided.specs.Base.{over, nth, run}
 
 -- ---- P holds of each element
@@ -30,17 +29,17 @@ module _ {A B : Type 0} (P : A → Type 0) (Q : B → Type 0) where
 
 -- ---- the element of a number
 
-pub nth-map : {A B : Type 0} (f : A → B) (l : List A) (j : ℕ) (x : A) → nth l j ≡ some x → nth (map f l) j ≡ some (f x)
+pub nth-map : {A B : Type 0} (f : A → B) (l : List A) (j : ℕ) (x : A) → nth l j ≡ Some x → nth (map f l) j ≡ Some (f x)
 nth-map f [] j x e = let z : ◌≡◌ {A = ℕ} 0 1 = cc in absurd (omega arith)
-nth-map f (a ∷ l) zero x e = let q : a ≡ x = cc in ap (λ b. some (f b)) q
+nth-map f (a ∷ l) zero x e = let q : a ≡ x = cc in ap (λ b. Some (f b)) q
 nth-map f (a ∷ l) (suc j) x e = nth-map f l j x e
 
-pub nth_none : {A : Type 0} (l : List A) (n : ℕ) → (nth l n ≡ none) ↔ (length l ≤ n)
+pub nth_none : {A : Type 0} (l : List A) (n : ℕ) → (nth l n ≡ None) ↔ (length l ≤ n)
 nth_none [] n = (λ h. omega arith, λ h. refl)
 nth_none (x ∷ l) zero = (λ h. let z : ◌≡◌ {A = ℕ} 0 1 = cc in absurd (omega arith), λ h. absurd (omega arith))
 nth_none (x ∷ l) (suc n) = (λ h. let q = (nth_none l n).0 h in omega arith, λ h. (nth_none l n).1 (omega arith))
 
-pub nth-before : {A : Type 0} (l : List A) (m i : ℕ) (x : A) → nth l m ≡ none → nth l i ≡ some x → i < m
+pub nth-before : {A : Type 0} (l : List A) (m i : ℕ) (x : A) → nth l m ≡ None → nth l i ≡ Some x → i < m
 nth-before [] m i x p q = let z : ◌≡◌ {A = ℕ} 0 1 = cc in absurd (omega arith)
 nth-before (a ∷ l) zero i x p q = let z : ◌≡◌ {A = ℕ} 0 1 = cc in absurd (omega arith)
 nth-before (a ∷ l) (suc m) zero x p q = omega arith
@@ -52,7 +51,7 @@ nth-take [] (suc n) m h = refl
 nth-take (x ∷ l) (suc n) zero h = refl
 nth-take (x ∷ l) (suc n) (suc m) h = nth-take l n m (omega arith)
 
-pub nth_drop : {A : Type 0} (l : List A) (n : ℕ) (x : A) → nth l n ≡ some x → drop n l ≡ x ∷ drop (suc n) l
+pub nth_drop : {A : Type 0} (l : List A) (n : ℕ) (x : A) → nth l n ≡ Some x → drop n l ≡ x ∷ drop (suc n) l
 nth_drop [] n x e = let z : ◌≡◌ {A = ℕ} 0 1 = cc in absurd (omega arith)
 nth_drop (y ∷ l) zero x e = let q : y ≡ x = cc in ap (λ a. a ∷ l) q
 nth_drop (y ∷ l) (suc n) x e = nth_drop l n x e

@@ -1,10 +1,9 @@
 -- Where an element stands in a list, counted by weights: what the elements before it weigh together. Loops over loops keep this simple:
 -- an element of an inner loop stands behind all that the outer loop has passed, and what its own has.
 -- Assumes nothing.
-use Rattle.std.specs.Prelude.{◌≡◌, refl, List, [], ◌∷◌, ◌++◌, map, ℕ, ◌+◌, ◌*◌, length}
+use Rattle.std.specs.Prelude.{◌≡◌, refl, List, [], ◌∷◌, ◌++◌, map, ℕ, ◌+◌, ◌*◌, length, Some}
 use Rattle.std.proofs.Common.{sym, ap, ◌∙◌, append_assoc}
 use Rattle.std.proofs.lemmas.List.{map-append}
-use Rattle.std.proofs.Math.Option.{some}
 use Rattle.strided.specs.Base.{over, nth}
 use Rattle.laws.specs.Base.Lists.{over-append}
 use Rattle.laws.specs.Base.Sums.{sum, sum-append, sum_cong, sum_ones, sum_scale, sum_scale_right, sum_over, sum-map}
@@ -37,12 +36,12 @@ module _ {A : Type 0} where
   stands_scale_right f l n a x p =
       record { before = p.before; behind = p.behind; split = p.split; weighs = sum_scale_right p.before f a ∙ ap (λ k. k * a) p.weighs }
 
-  nth_split : (xs ys : List A) (x : A) → nth (xs ++ (x ∷ ys)) (length xs) ≡ some x
+  nth_split : (xs ys : List A) (x : A) → nth (xs ++ (x ∷ ys)) (length xs) ≡ Some x
   nth_split [] ys x = refl
   nth_split (y ∷ xs) ys x = nth_split xs ys x
 
   -- with weights of 1 it is the element of that number
-  pub stands_nth : (l : List A) (n : ℕ) (x : A) → Stands (λ y. 1) l n x → nth l n ≡ some x
+  pub stands_nth : (l : List A) (n : ℕ) (x : A) → Stands (λ y. 1) l n x → nth l n ≡ Some x
   stands_nth l n x p =
       let e : length p.before ≡ n = sym (sum_ones p.before) ∙ p.weighs in
       ap (λ k. nth l k) (sym e) ∙ ap (λ k. nth k (length p.before)) p.split ∙ nth_split p.before p.behind x

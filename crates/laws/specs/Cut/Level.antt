@@ -1,9 +1,8 @@
 -- THE SCORE TO JUMP TO: the least at which the clipped blocks are still too large, a search that halves the way to it, and how many single
 -- steps are left from there, at most one an axis. A jump from any score is right (Cut/Jump); this one makes it short. Assumes nothing.
-use Rattle.std.specs.Prelude.{◌≡◌, refl, List, ℕ, zero, suc, ◌+◌, ◌-◌, ◌*◌, ◌/◌, ◌<◌, ◌≤◌, get_or, set, length}
+use Rattle.std.specs.Prelude.{◌≡◌, refl, List, ℕ, zero, suc, ◌+◌, ◌-◌, ◌*◌, ◌/◌, ◌<◌, ◌≤◌, get_or, set, length, Option}
 use Rattle.std.proofs.Common.{sym, subst, ap, ◌∙◌, ⊎_elim, eq-zero-or-pos, suc-mul, mul-le-mul_left, div-lt_iff_lt-mul, mul-div_cancel, le_refl, add-one, arith, set-set}
 use Rattle.std.proofs.Math.Path.{subst⁻¹}
-use Rattle.std.proofs.Math.Option.{Option}
 use Rattle.std.proofs.Math.Nat.{zero-div}
 use Rattle.std.proofs.lemmas.List.{set_comm}
 use Rattle.strided.specs.Base.{sum}

@@ -1,10 +1,9 @@
 -- The block to shorten: over one axis more, and what it is: its block is above 1 and its axis has a cost, its score is no less than any, and
 -- greater than any behind it. Assumes nothing.
-use Rattle.std.specs.Prelude.{◌≡◌, refl, List, ◌⊎◌, true, false, cond, ltb, get_or, length}
+use Rattle.std.specs.Prelude.{◌≡◌, refl, List, ◌⊎◌, true, false, cond, ltb, get_or, length, Option, None, Some}
 use Rattle.std.proofs.Common.{sym, subst, ap, ◌∙◌, inl, inr, le_of_eq, eq-or-lt_of_le, eq-zero-or-pos, mul-zero, zero-mul, mul-pos, arith, lt-ltb, ltb-true}
 use Rattle.std.proofs.Math.Path.{subst⁻¹}
 use Rattle.std.proofs.Math.Logic.{⊎_elim}
-use Rattle.std.proofs.Math.Option.{Option, none, some}
 use Prim.Native.Nat.{ℕ, zero, suc, ◌+◌, ◌-◌, ◌*◌, ◌<◌, ◌≤◌}
 use Rattle.std.proofs.Math.ListN.{get_or-eq_default}
 use Rattle.strided.specs.Cut.{score, weighed, later, greatest_score}
@@ -44,20 +43,20 @@ module _ (b costs : List ℕ) (i : ℕ) where
 
 -- the score of the pick; and the score to reach, at which an axis is picked in its place
 abbrev pub top_of : (ℕ → ℕ) → Option ℕ → ℕ
-top_of s none = 0
-top_of s (some j) = s j
+top_of s None = 0
+top_of s (Some j) = s j
 
 abbrev pub bar_of : (ℕ → ℕ) → Option ℕ → ℕ
-bar_of s none = 1
-bar_of s (some j) = s j
+bar_of s None = 1
+bar_of s (Some j) = s j
 
-later_wins : (s : ℕ → ℕ) (i : ℕ) (p : Option ℕ) → top_of s p ≤ s i → later s i p ≡ some i
-later_wins s i none h = refl
-later_wins s i (some j) h = cond_le (s i) (s j) (some j) (some i) h
+later_wins : (s : ℕ → ℕ) (i : ℕ) (p : Option ℕ) → top_of s p ≤ s i → later s i p ≡ Some i
+later_wins s i None h = refl
+later_wins s i (Some j) h = cond_le (s i) (s j) (Some j) (Some i) h
 
 later_loses : (s : ℕ → ℕ) (i : ℕ) (p : Option ℕ) → s i < top_of s p → later s i p ≡ p
-later_loses s i none h = absurd (omega arith)
-later_loses s i (some j) h = cond_lt (s i) (s j) (some j) (some i) h
+later_loses s i None h = absurd (omega arith)
+later_loses s i (Some j) h = cond_lt (s i) (s j) (Some j) (Some i) h
 
 -- ---- what is picked is an axis of the tail that is weighed
 
@@ -68,16 +67,16 @@ pub record Pickable (b costs : List ℕ) (o n i : ℕ) : Type 0 where
   pub cost : 0 < get_or costs i 0
   pub score_above : 0 < score b costs i
 
-later_cases : (s : ℕ → ℕ) (i : ℕ) (p : Option ℕ) → (later s i p ≡ some i) ⊎ (later s i p ≡ p)
-later_cases s i none = inl refl
-later_cases s i (some j) = ⊎_elim
-    (λ (h : s j ≤ s i). inl (cond_le (s i) (s j) (some j) (some i) h))
-    (λ (h : s i < s j). inr (cond_lt (s i) (s j) (some j) (some i) h))
+later_cases : (s : ℕ → ℕ) (i : ℕ) (p : Option ℕ) → (later s i p ≡ Some i) ⊎ (later s i p ≡ p)
+later_cases s i None = inl refl
+later_cases s i (Some j) = ⊎_elim
+    (λ (h : s j ≤ s i). inl (cond_le (s i) (s j) (Some j) (Some i) h))
+    (λ (h : s i < s j). inr (cond_lt (s i) (s j) (Some j) (Some i) h))
     (le_or_lt (s j) (s i))
 
 -- over one axis more the pick is that axis, or as it was
 pick_cases : (b costs : List ℕ) (o n : ℕ)
-    → ((weighed b costs (o + n) ≡ true) × (greatest_score b costs o (suc n) ≡ some (o + n))) ⊎ (greatest_score b costs o (suc n) ≡ greatest_score b costs o n)
+    → ((weighed b costs (o + n) ≡ true) × (greatest_score b costs o (suc n) ≡ Some (o + n))) ⊎ (greatest_score b costs o (suc n) ≡ greatest_score b costs o n)
 unfolding greatest_score
 pick_cases b costs o n =
     let w = weighed b costs (o + n) in
@@ -91,14 +90,14 @@ pick_cases b costs o n =
     (λ (h : w ≡ false). inr (cond_false w new old h))
     (true_or_false w)
 
-some_inj : (i j : ℕ) (p : Option ℕ) → p ≡ some i → p ≡ some j → i ≡ j
+some_inj : (i j : ℕ) (p : Option ℕ) → p ≡ Some i → p ≡ Some j → i ≡ j
 some_inj i j p e e' = cc
 
-none_picked : (b costs : List ℕ) (o i : ℕ) → greatest_score b costs o zero ≡ some i → ⊥
+none_picked : (b costs : List ℕ) (o i : ℕ) → greatest_score b costs o zero ≡ Some i → ⊥
 unfolding greatest_score
 none_picked b costs o i e = let z : ◌≡◌ {A = ℕ} 0 1 = cc in omega arith
 
-pub pick_is : (b costs : List ℕ) (o n i : ℕ) → greatest_score b costs o n ≡ some i → Pickable b costs o n i
+pub pick_is : (b costs : List ℕ) (o n i : ℕ) → greatest_score b costs o n ≡ Some i → Pickable b costs o n i
 pick_is b costs o zero i e = absurd (none_picked b costs o i e)
 pick_is b costs o (suc n) i e = ⊎_elim
     (λ w. let q : i ≡ o + n = some_inj i (o + n) (greatest_score b costs o (suc n)) e w.1 in
@@ -123,7 +122,7 @@ above_there b i h = ⊎_elim
 
 -- ---- as a loop picks: it holds the score to reach, which is above 0
 
-pub pick_start : (b costs : List ℕ) (o : ℕ) → greatest_score b costs o (o - o) ≡ none
+pub pick_start : (b costs : List ℕ) (o : ℕ) → greatest_score b costs o (o - o) ≡ None
 unfolding greatest_score
 pick_start b costs o = none_yet (greatest_score b costs o) o
 
@@ -136,23 +135,23 @@ pick-step b costs o i h =
     one_more_lem (greatest_score b costs o) o i h
     ∙ ap (λ (x : ℕ). cond (weighed b costs x) (later (score b costs) x old) old) (at_end o i h)
 
-bar_above : (s : ℕ → ℕ) (p : Option ℕ) → ((j : ℕ) → p ≡ some j → 0 < s j) → 0 < bar_of s p
-bar_above s none f = omega arith
-bar_above s (some j) f = f j refl
+bar_above : (s : ℕ → ℕ) (p : Option ℕ) → ((j : ℕ) → p ≡ Some j → 0 < s j) → 0 < bar_of s p
+bar_above s None f = omega arith
+bar_above s (Some j) f = f j refl
 
 top_bar : (s : ℕ → ℕ) (p : Option ℕ) → top_of s p ≤ bar_of s p
-top_bar s none = omega arith
-top_bar s (some j) = le_of_eq refl
+top_bar s None = omega arith
+top_bar s (Some j) = le_of_eq refl
 
 bar_top : (s : ℕ → ℕ) (p : Option ℕ) (x : ℕ) → 0 < x → x < bar_of s p → x < top_of s p
-bar_top s none x h l = absurd (omega arith)
-bar_top s (some j) x h l = l
+bar_top s None x h l = absurd (omega arith)
+bar_top s (Some j) x h l = l
 
 module _ (b costs : List ℕ) (o i : ℕ) (h : o ≤ i) where
   old : Option ℕ
   old = greatest_score b costs o (i - o)
 
-  pub pick_wins : bar_of (score b costs) (greatest_score b costs o (i - o)) ≤ score b costs i → greatest_score b costs o (i + 1 - o) ≡ some i
+  pub pick_wins : bar_of (score b costs) (greatest_score b costs o (i - o)) ≤ score b costs i → greatest_score b costs o (i + 1 - o) ≡ Some i
   unfolding old
   pick_wins l =
       let s : ℕ → ℕ = score b costs in
@@ -176,13 +175,13 @@ module _ (b costs : List ℕ) (o i : ℕ) (h : o ≤ i) where
 
 pub record Best (b costs : List ℕ) (o n i : ℕ) : Type 0 where
   pub at : ℕ
-  pub is : greatest_score b costs o n ≡ some at
+  pub is : greatest_score b costs o n ≡ Some at
   pub most : score b costs i ≤ score b costs at
   pub last : at < i → score b costs i < score b costs at
 
-top-at : (s : ℕ → ℕ) (p : Option ℕ) (x : ℕ) → x < top_of s p → (j : ℕ) × (p ≡ some j) × (x < s j)
-top-at s none x h = absurd (omega arith)
-top-at s (some j) x h = (j, refl, h)
+top-at : (s : ℕ → ℕ) (p : Option ℕ) (x : ℕ) → x < top_of s p → (j : ℕ) × (p ≡ Some j) × (x < s j)
+top-at s None x h = absurd (omega arith)
+top-at s (Some j) x h = (j, refl, h)
 
 -- against each axis that is weighed
 pub pick_best : (b costs : List ℕ) (o n i : ℕ) → o ≤ i → i < o + n → 0 < score b costs i → Best b costs o n i

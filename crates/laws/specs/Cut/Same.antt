@@ -1,12 +1,11 @@
 -- Cutting and the fit look at byte strides, costs and ranks of the plan's axes only, and of a byte stride they look at its side of the line and
 -- of the cache, at its remainder by the way, and at itself where it is below the line. Tables that agree in this give the same.
 -- Assumes nothing.
-use Rattle.std.specs.Prelude.{◌≡◌, Bool, ◌&&◌, ◌||◌, get_or, set}
+use Rattle.std.specs.Prelude.{◌≡◌, Bool, ◌&&◌, ◌||◌, get_or, set, Option, None, Some}
 use Rattle.std.proofs.Math.Path.{refl, ap, ap₂}
 use Rattle.std.proofs.Common.{◌∙◌, arith}
 use Rattle.std.proofs.Math.Bool.{cond, not}
 use mathlib.Core.List.{List}
-use Rattle.std.proofs.Math.Option.{Option, none, some}
 use Prim.Native.Nat.{ℕ, zero, suc, ◌+◌, ◌-◌, ◌*◌, ◌/◌, ◌≤◌, ◌<◌}
 use Rattle.std.proofs.Math.Dec.{ltb, leb, eqb}
 use Rattle.strided.specs.Base.{product, least, greatest, until}
@@ -53,9 +52,9 @@ module _ (mc : Machine) (operands rank : ℕ) (bytes bytes' : List ℕ) (same : 
     score-same : (b : List ℕ) (i : ℕ) → i < rank → score b costs i ≡ score b costs' i
     score-same b i h = ap (λ (c : ℕ). (get_or b i 0 - 1) * c) (even i h)
 
-    later_same : (s s' : ℕ → ℕ) (i : ℕ) (p : Option ℕ) → s i ≡ s' i → ((j : ℕ) → p ≡ some j → s j ≡ s' j) → later s i p ≡ later s' i p
-    later_same s s' i none e f = refl
-    later_same s s' i (some j) e f = ap₂ (λ (x y : ℕ). cond (ltb x y) (some j) (some i)) e (f j refl)
+    later_same : (s s' : ℕ → ℕ) (i : ℕ) (p : Option ℕ) → s i ≡ s' i → ((j : ℕ) → p ≡ Some j → s j ≡ s' j) → later s i p ≡ later s' i p
+    later_same s s' i None e f = refl
+    later_same s s' i (Some j) e f = ap₂ (λ (x y : ℕ). cond (ltb x y) (Some j) (Some i)) e (f j refl)
 
     pick_same : (b : List ℕ) (o n : ℕ) → o + n ≤ rank → greatest_score b costs o n ≡ greatest_score b costs' o n
     unfolding greatest_score
@@ -71,12 +70,12 @@ module _ (mc : Machine) (operands rank : ℕ) (bytes bytes' : List ℕ) (same : 
     halving-same : (o n : ℕ) → o + n ≤ rank → (b : List ℕ) → halving mc bytes operands costs o n b ≡ halving mc bytes' operands costs' o n b
     unfolding halving
     halving-same o n h b =
-        ap₂ (λ (r : ℕ) (p : Option ℕ). cond (leb (2 * mc.cache) r) (shorten (λ x. (x + 1) / 2) b p) none) (region-same b o n h) (pick_same b o n h)
+        ap₂ (λ (r : ℕ) (p : Option ℕ). cond (leb (2 * mc.cache) r) (shorten (λ x. (x + 1) / 2) b p) None) (region-same b o n h) (pick_same b o n h)
 
     lessening-same : (o n : ℕ) → o + n ≤ rank → (b : List ℕ) → lessening mc bytes operands costs o n b ≡ lessening mc bytes' operands costs' o n b
     unfolding lessening
     lessening-same o n h b =
-        ap₂ (λ (r : ℕ) (p : Option ℕ). cond (ltb mc.cache r) (shorten (λ x. x - 1) b p) none) (region-same b o n h) (pick_same b o n h)
+        ap₂ (λ (r : ℕ) (p : Option ℕ). cond (ltb mc.cache r) (shorten (λ x. x - 1) b p) None) (region-same b o n h) (pick_same b o n h)
 
     shrunk-same : (o n : ℕ) → o + n ≤ rank → (b : List ℕ) → shrunk mc bytes operands costs o n b ≡ shrunk mc bytes' operands costs' o n b
     unfolding shrunk halved lessened

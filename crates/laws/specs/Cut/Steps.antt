@@ -1,10 +1,9 @@
 -- A step of `halving` or `lessening`: which block it shortens, that the tail has fewer cells after it, that no block falls below 1, that
 -- scores still fit 64 bits, and that the counts of `halved` and `lessened` never run out. Assumes nothing.
-use Rattle.std.specs.Prelude.{◌≡◌, refl, List, ◌⊎◌, Bool, true, false, ℕ, zero, suc, ◌+◌, ◌-◌, ◌*◌, ◌/◌, ◌<◌, ◌≤◌, ◌^◌, ltb, leb, get_or, set, length}
+use Rattle.std.specs.Prelude.{◌≡◌, refl, List, ◌⊎◌, Bool, true, false, ℕ, zero, suc, ◌+◌, ◌-◌, ◌*◌, ◌/◌, ◌<◌, ◌≤◌, ◌^◌, ltb, leb, get_or, set, length, Option, None, Some}
 use Rattle.std.proofs.Common.{sym, subst, ap₂, ◌∙◌, ⊎_elim, inl, inr, mul-le-mul_right, le_of_eq, le_refl, le_trans, lt_of_le_of_lt, eq-or-lt_of_le, length-set, get_or-set_same, get_or-set_other, le-leb, lt-ltb, le-ltb}
 use Rattle.std.proofs.Math.Path.{subst⁻¹, ap}
 use Rattle.std.proofs.Math.Bool.{cond}
-use Rattle.std.proofs.Math.Option.{Option, none, some}
 use native.Mathlib.Omega.{arith}
 use Rattle.std.proofs.Math.Decide.{ℕ_discrete}
 use Rattle.std.proofs.Math.Seq.{set_out}
@@ -72,10 +71,10 @@ scores_le n costs b b' le fit j hj =
 
 -- ---- a step, whatever it makes of the block
 
-some_inj : (a b : List ℕ) → some a ≡ some b → a ≡ b
+some_inj : (a b : List ℕ) → Some a ≡ Some b → a ≡ b
 some_inj a b e = cc
 
-cond_some : (t : Bool) (x : Option (List ℕ)) (b : List ℕ) → cond t x none ≡ some b → x ≡ some b
+cond_some : (t : Bool) (x : Option (List ℕ)) (b : List ℕ) → cond t x None ≡ Some b → x ≡ Some b
 cond_some true x b e = e
 cond_some false x b e = absurd (let z : ◌≡◌ {A = ℕ} 0 1 = cc in omega arith)
 
@@ -88,9 +87,9 @@ pub record Shorter (costs : List ℕ) (o n : ℕ) (b b' : List ℕ) : Type 0 whe
   pub still : (j : ℕ) → get_or costs j 0 ≡ 0 → get_or b' j 0 ≡ get_or b j 0
 
 module _ (f : ℕ → ℕ) (less : (x : ℕ) → 1 < x → (f x < x) × (1 ≤ f x)) (costs : List ℕ) (o n : ℕ) (b b' : List ℕ) where
-  shorten_shorter : (p : Option ℕ) → ((i : ℕ) → p ≡ some i → Pickable b costs o n i) → shorten f b p ≡ some b' → Shorter costs o n b b'
-  shorten_shorter none q e = absurd (let z : ◌≡◌ {A = ℕ} 0 1 = cc in omega arith)
-  shorten_shorter (some i) q e =
+  shorten_shorter : (p : Option ℕ) → ((i : ℕ) → p ≡ Some i → Pickable b costs o n i) → shorten f b p ≡ Some b' → Shorter costs o n b b'
+  shorten_shorter None q e = absurd (let z : ◌≡◌ {A = ℕ} 0 1 = cc in omega arith)
+  shorten_shorter (Some i) q e =
       let r = q i refl in
       let there = above_there b i r.above in
       let smaller = less (get_or b i 0) r.above in
@@ -104,22 +103,22 @@ module _ (f : ℕ → ℕ) (less : (x : ℕ) → 1 < x → (f x < x) × (1 ≤ f
       })
 
 module _ (mc : Machine) (bytes : List ℕ) (operands : ℕ) (costs : List ℕ) (o n : ℕ) where
-  pub halving_shorter : (b b' : List ℕ) → halving mc bytes operands costs o n b ≡ some b' → Shorter costs o n b b'
+  pub halving_shorter : (b b' : List ℕ) → halving mc bytes operands costs o n b ≡ Some b' → Shorter costs o n b b'
   unfolding halving
   halving_shorter b b' e =
       shorten_shorter (λ x. (x + 1) / 2) (λ x h. (omega arith, omega arith)) costs o n b b' (greatest_score b costs o n) (λ i q. pick_is b costs o n i q)
       (cond_some (leb (2 * mc.cache) (region mc bytes operands b o n)) (shorten (λ x. (x + 1) / 2) b (greatest_score b costs o n)) b' e)
 
-  pub lessening_shorter : (b b' : List ℕ) → lessening mc bytes operands costs o n b ≡ some b' → Shorter costs o n b b'
+  pub lessening_shorter : (b b' : List ℕ) → lessening mc bytes operands costs o n b ≡ Some b' → Shorter costs o n b b'
   unfolding lessening
   lessening_shorter b b' e =
       shorten_shorter (λ x. x - 1) (λ x h. (omega arith, omega arith)) costs o n b b' (greatest_score b costs o n) (λ i q. pick_is b costs o n i q)
       (cond_some (ltb mc.cache (region mc bytes operands b o n)) (shorten (λ x. x - 1) b (greatest_score b costs o n)) b' e)
 
-  pub halving_falls : (b b' : List ℕ) → halving mc bytes operands costs o n b ≡ some b' → cells o n b' < cells o n b
+  pub halving_falls : (b b' : List ℕ) → halving mc bytes operands costs o n b ≡ Some b' → cells o n b' < cells o n b
   halving_falls b b' e = (halving_shorter b b' e).fewer
 
-  pub lessening_falls : (b b' : List ℕ) → lessening mc bytes operands costs o n b ≡ some b' → cells o n b' < cells o n b
+  pub lessening_falls : (b b' : List ℕ) → lessening mc bytes operands costs o n b ≡ Some b' → cells o n b' < cells o n b
   lessening_falls b b' e = (lessening_shorter b b' e).fewer
 
 -- ---- what a step is, from the region and the pick
@@ -131,38 +130,38 @@ module _ (mc : Machine) (bytes : List ℕ) (operands : ℕ) (costs : List ℕ) (
   one-off : Option ℕ → Option (List ℕ)
   one-off p = shorten (λ x. x - 1) b p
 
-  pub halving_small : region mc bytes operands b o n < 2 * mc.cache → halving mc bytes operands costs o n b ≡ none
+  pub halving_small : region mc bytes operands b o n < 2 * mc.cache → halving mc bytes operands costs o n b ≡ None
   unfolding halving half
-  halving_small h = cond_false (leb (2 * mc.cache) (region mc bytes operands b o n)) (half (greatest_score b costs o n)) none (lt-leb (2 * mc.cache) (region mc bytes operands b o n) h)
+  halving_small h = cond_false (leb (2 * mc.cache) (region mc bytes operands b o n)) (half (greatest_score b costs o n)) None (lt-leb (2 * mc.cache) (region mc bytes operands b o n) h)
 
-  pub halving_nothing : greatest_score b costs o n ≡ none → halving mc bytes operands costs o n b ≡ none
+  pub halving_nothing : greatest_score b costs o n ≡ None → halving mc bytes operands costs o n b ≡ None
   unfolding halving half
   halving_nothing e =
-      ap (λ (p : Option ℕ). cond (leb (2 * mc.cache) (region mc bytes operands b o n)) (half p) none) e
-      ∙ cond_same (leb (2 * mc.cache) (region mc bytes operands b o n)) none
+      ap (λ (p : Option ℕ). cond (leb (2 * mc.cache) (region mc bytes operands b o n)) (half p) None) e
+      ∙ cond_same (leb (2 * mc.cache) (region mc bytes operands b o n)) None
 
-  pub halving-at : (i : ℕ) → 2 * mc.cache ≤ region mc bytes operands b o n → greatest_score b costs o n ≡ some i
-      → halving mc bytes operands costs o n b ≡ some (set b i ((get_or b i 0 + 1) / 2))
+  pub halving-at : (i : ℕ) → 2 * mc.cache ≤ region mc bytes operands b o n → greatest_score b costs o n ≡ Some i
+      → halving mc bytes operands costs o n b ≡ Some (set b i ((get_or b i 0 + 1) / 2))
   unfolding halving half
   halving-at i h e =
-      cond_true (leb (2 * mc.cache) (region mc bytes operands b o n)) (half (greatest_score b costs o n)) none (le-leb (2 * mc.cache) (region mc bytes operands b o n) h)
+      cond_true (leb (2 * mc.cache) (region mc bytes operands b o n)) (half (greatest_score b costs o n)) None (le-leb (2 * mc.cache) (region mc bytes operands b o n) h)
       ∙ ap half e
 
-  pub lessening_small : region mc bytes operands b o n ≤ mc.cache → lessening mc bytes operands costs o n b ≡ none
+  pub lessening_small : region mc bytes operands b o n ≤ mc.cache → lessening mc bytes operands costs o n b ≡ None
   unfolding lessening one-off
-  lessening_small h = cond_false (ltb mc.cache (region mc bytes operands b o n)) (one-off (greatest_score b costs o n)) none (le-ltb mc.cache (region mc bytes operands b o n) h)
+  lessening_small h = cond_false (ltb mc.cache (region mc bytes operands b o n)) (one-off (greatest_score b costs o n)) None (le-ltb mc.cache (region mc bytes operands b o n) h)
 
-  pub lessening_nothing : greatest_score b costs o n ≡ none → lessening mc bytes operands costs o n b ≡ none
+  pub lessening_nothing : greatest_score b costs o n ≡ None → lessening mc bytes operands costs o n b ≡ None
   unfolding lessening one-off
   lessening_nothing e =
-      ap (λ (p : Option ℕ). cond (ltb mc.cache (region mc bytes operands b o n)) (one-off p) none) e
-      ∙ cond_same (ltb mc.cache (region mc bytes operands b o n)) none
+      ap (λ (p : Option ℕ). cond (ltb mc.cache (region mc bytes operands b o n)) (one-off p) None) e
+      ∙ cond_same (ltb mc.cache (region mc bytes operands b o n)) None
 
-  pub lessening-at : (i : ℕ) → mc.cache < region mc bytes operands b o n → greatest_score b costs o n ≡ some i
-      → lessening mc bytes operands costs o n b ≡ some (set b i (get_or b i 0 - 1))
+  pub lessening-at : (i : ℕ) → mc.cache < region mc bytes operands b o n → greatest_score b costs o n ≡ Some i
+      → lessening mc bytes operands costs o n b ≡ Some (set b i (get_or b i 0 - 1))
   unfolding lessening one-off
   lessening-at i h e =
-      cond_true (ltb mc.cache (region mc bytes operands b o n)) (one-off (greatest_score b costs o n)) none (lt-ltb mc.cache (region mc bytes operands b o n) h)
+      cond_true (ltb mc.cache (region mc bytes operands b o n)) (one-off (greatest_score b costs o n)) None (lt-ltb mc.cache (region mc bytes operands b o n) h)
       ∙ ap one-off e
 
 -- ---- all the steps
@@ -221,17 +220,17 @@ module _ (mc : Machine) (bytes : List ℕ) (operands : ℕ) (costs : List ℕ) (
   shrunk-still = (lessened-from (halved mc bytes operands costs o n b) halved-shrunk).still
 
   -- the counts are never met: nothing is left to do
-  pub halved_ends : halving mc bytes operands costs o n (halved mc bytes operands costs o n b) ≡ none
+  pub halved_ends : halving mc bytes operands costs o n (halved mc bytes operands costs o n b) ≡ None
   unfolding halved
   halved_ends = until_ends (halving mc bytes operands costs o n) (cells o n) (halving_falls mc bytes operands costs o n) (cells o n b) b (le_refl (cells o n b))
 
-  pub lessened_ends : lessening mc bytes operands costs o n (lessened mc bytes operands costs o n b) ≡ none
+  pub lessened_ends : lessening mc bytes operands costs o n (lessened mc bytes operands costs o n b) ≡ None
   unfolding lessened
   lessened_ends = until_ends (lessening mc bytes operands costs o n) (cells o n) (lessening_falls mc bytes operands costs o n) (cells o n b) b (le_refl (cells o n b))
 
   -- so that what comes out fits, or has no block above 1 on an axis with a cost
   pub lessened_small : (region mc bytes operands (lessened mc bytes operands costs o n b) o n ≤ mc.cache)
-      ⊎ (greatest_score (lessened mc bytes operands costs o n b) costs o n ≡ none)
+      ⊎ (greatest_score (lessened mc bytes operands costs o n b) costs o n ≡ None)
   lessened_small =
       let r : List ℕ = lessened mc bytes operands costs o n b in
       ⊎_elim
@@ -239,7 +238,7 @@ module _ (mc : Machine) (bytes : List ℕ) (operands : ℕ) (costs : List ℕ) (
       (λ (h : mc.cache < region mc bytes operands r o n). ⊎_elim
       (λ e. inr e)
       (λ p. absurd (
-      let e : none ≡ some (set r p.0 (get_or r p.0 0 - 1)) = sym lessened_ends ∙ lessening-at mc bytes operands costs o n r p.0 h p.1 in
+      let e : None ≡ Some (set r p.0 (get_or r p.0 0 - 1)) = sym lessened_ends ∙ lessening-at mc bytes operands costs o n r p.0 h p.1 in
       let z : ◌≡◌ {A = ℕ} 0 1 = cc in omega arith))
       (none_or_some (greatest_score r costs o n)))
       (le_or_lt (region mc bytes operands r o n) mc.cache)
@@ -251,11 +250,11 @@ module _ (mc : Machine) (bytes : List ℕ) (operands : ℕ) (costs : List ℕ) (
   unfolding halved
   halved_small h = until_stop (halving mc bytes operands costs o n) (cells o n b) b (halving_small mc bytes operands costs o n b h)
 
-  pub halved_nothing : greatest_score b costs o n ≡ none → halved mc bytes operands costs o n b ≡ b
+  pub halved_nothing : greatest_score b costs o n ≡ None → halved mc bytes operands costs o n b ≡ b
   unfolding halved
   halved_nothing e = until_stop (halving mc bytes operands costs o n) (cells o n b) b (halving_nothing mc bytes operands costs o n b e)
 
-  pub halved-at : (i : ℕ) → 2 * mc.cache ≤ region mc bytes operands b o n → greatest_score b costs o n ≡ some i
+  pub halved-at : (i : ℕ) → 2 * mc.cache ≤ region mc bytes operands b o n → greatest_score b costs o n ≡ Some i
       → halved mc bytes operands costs o n b ≡ halved mc bytes operands costs o n (set b i ((get_or b i 0 + 1) / 2))
   unfolding halved
   halved-at i h e =
@@ -266,11 +265,11 @@ module _ (mc : Machine) (bytes : List ℕ) (operands : ℕ) (costs : List ℕ) (
   unfolding lessened
   lessened_fits h = until_stop (lessening mc bytes operands costs o n) (cells o n b) b (lessening_small mc bytes operands costs o n b h)
 
-  pub lessened_nothing : greatest_score b costs o n ≡ none → lessened mc bytes operands costs o n b ≡ b
+  pub lessened_nothing : greatest_score b costs o n ≡ None → lessened mc bytes operands costs o n b ≡ b
   unfolding lessened
   lessened_nothing e = until_stop (lessening mc bytes operands costs o n) (cells o n b) b (lessening_nothing mc bytes operands costs o n b e)
 
-  pub lessened-at : (i : ℕ) → mc.cache < region mc bytes operands b o n → greatest_score b costs o n ≡ some i
+  pub lessened-at : (i : ℕ) → mc.cache < region mc bytes operands b o n → greatest_score b costs o n ≡ Some i
       → lessened mc bytes operands costs o n b ≡ lessened mc bytes operands costs o n (set b i (get_or b i 0 - 1))
   unfolding lessened
   lessened-at i h e =
@@ -285,7 +284,7 @@ pub record Turn (rule : List ℕ → List ℕ) (o n rank : ℕ) (costs b b' : Li
   pub same : rule b' ≡ rule b
 
 module _ (mc : Machine) (bytes : List ℕ) (operands : ℕ) (costs : List ℕ) (o n rank : ℕ) (b : List ℕ) (i : ℕ)
-    (fit : ScoresFit rank costs b) (pick : greatest_score b costs o n ≡ some i) where
+    (fit : ScoresFit rank costs b) (pick : greatest_score b costs o n ≡ Some i) where
   turned : (rule : List ℕ → List ℕ) (b' : List ℕ) → Shorter costs o n b b' → rule b ≡ rule b' → Turn rule o n rank costs b b'
   turned rule b' s e = record { fewer = s.fewer; fit = scores_le rank costs b b' s.less fit; same = sym e }
 

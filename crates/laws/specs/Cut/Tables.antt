@@ -1,7 +1,6 @@
 -- What stands in the plan's tables: byte strides and costs axis by axis, that 0 says none, and that scores fit 64 bits where reaches fit 63. Assumes nothing.
-use Rattle.std.specs.Prelude.{◌≡◌, refl, true, false, List, [], ◌∷◌, ◌++◌, map, ◌⊎◌, ℕ, zero, suc, ◌+◌, ◌-◌, ◌*◌, ◌^◌, ◌≤◌, ◌<◌, min, ℤ, pos, nat_abs, get_or, take, drop}
+use Rattle.std.specs.Prelude.{◌≡◌, refl, true, false, List, [], ◌∷◌, ◌++◌, map, ◌⊎◌, ℕ, zero, suc, ◌+◌, ◌-◌, ◌*◌, ◌^◌, ◌≤◌, ◌<◌, min, ℤ, pos, nat_abs, get_or, take, drop, None, Some}
 use Rattle.std.proofs.Common.{sym, ap, ◌∙◌, ⊎_elim, inl, inr, eq-zero-or-pos, zero-add, suc-add, mul-zero, zero-mul, mul-one, mul-le-mul_left, mul_left_comm, arith, get_or-drop}
-use Rattle.std.proofs.Math.Option.{none, some}
 use Rattle.std.proofs.Math.Dec.{eqb}
 use borrow.Author.Tests.{eq-eqb, ne_eqb}
 use Rattle.strided.specs.Base.{sum, least}
@@ -63,20 +62,20 @@ cost_at strides operands rank i h =
 
 -- the three costs: none, 1, and twice the least stride size
 module _ (size : ℕ → ℕ) (operands : ℕ) where
-  pub cost_none : still size operands ≡ true → cost_of size operands ≡ none
+  pub cost_none : still size operands ≡ true → cost_of size operands ≡ None
   unfolding cost_of
   cost_none e = rw e
 
-  pub cost_one : still size operands ≡ false → least size 0 operands ≡ 0 → cost_of size operands ≡ some 1
+  pub cost_one : still size operands ≡ false → least size 0 operands ≡ 0 → cost_of size operands ≡ Some 1
   unfolding cost_of
   cost_one e m = rw (e, eq-eqb (least size 0 operands) 0 m)
 
-  pub cost_twice : still size operands ≡ false → (least size 0 operands ≡ 0 → ⊥) → cost_of size operands ≡ some (min (2 * least size 0 operands) (2 ^ 63 - 1))
+  pub cost_twice : still size operands ≡ false → (least size 0 operands ≡ 0 → ⊥) → cost_of size operands ≡ Some (min (2 * least size 0 operands) (2 ^ 63 - 1))
   unfolding cost_of
   cost_twice e m = rw (e, ne_eqb (least size 0 operands) 0 m)
 
   -- 0 SAYS NONE: no other cost is 0
-  pub cost_zero : cost_number (cost_of size operands) ≡ 0 → cost_of size operands ≡ none
+  pub cost_zero : cost_number (cost_of size operands) ≡ 0 → cost_of size operands ≡ None
   cost_zero z = ⊎_elim
       (λ e. cost_none e)
       (λ e. ⊎_elim

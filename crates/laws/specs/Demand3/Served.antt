@@ -1,25 +1,22 @@
 -- DEMAND 3, part by part, for a plan that is ready to begin and whose extents and strides are those of its layout's plan.
 -- Assumes nothing.
-use Rattle.std.specs.Prelude.{◌≡◌, refl, ◌↔◌, ◌⊎◌, List, [], ℕ, ◌+◌, ◌*◌, ◌≤◌, ◌<◌, ℤ, pos, ◌+ℤ◌, ◌-ℤ◌, ◌*ℤ◌, length, get_or, take}
+use Rattle.std.specs.Prelude.{◌≡◌, refl, ◌↔◌, ◌⊎◌, List, [], ℕ, ◌+◌, ◌*◌, ◌≤◌, ◌<◌, ℤ, pos, ◌+ℤ◌, ◌-ℤ◌, ◌*ℤ◌, length, get_or, take, Option, None, Some, Ok}
 use Rattle.std.proofs.Common.{sym, ap, ap₂, ◌∙◌, subst, inl, inr, arith}
-use Rattle.std.proofs.Math.Option.{Option, none, some}
 use Rattle.strided.specs.Base.{padded, nth}
 use Rattle.strided.specs.Layout.{Within, dot, extents, row, stride_row}
 use Rattle.strided.specs.Refusals.{layout_refused}
 use Rattle.strided.specs.Fuse.{plan_axes}
-use Rattle.strided.specs.Index.{index_in_plan, original_index, told_original}
+use Rattle.strided.specs.Index.{index_in_plan, original_index, told_original, told}
 use Rattle.strided.specs.Walk.{CutAxis, block, block_at, blocks_of, counters, cell_at, run_strides, length_at}
-use Rattle.strided.specs.Begin.{plan_extents, plan_row, plan_rows, begun_at}
+use Rattle.strided.specs.Begin.{plan_extents, plan_row, plan_rows, started}
 use Rattle.strided.specs.Step.{offsets_from, plan_cut_axes, handed_out}
 use Rattle.strided.specs.Demand3.{steps_from, Hands, Place, cell_of, Meets, Demand3}
 use Rattle.strided.specs.declared.Purpose.{Purpose}
-use Rattle.strided.specs.declared.Answer.TheVariants.{Served}
 use Rattle.strided.specs.declared.Outcome.TheVariants.{Block, Ended}
 use Rattle.strided.specs.declared.Plan.{Plan}
 use Rattle.strided.specs.declared.Stepped.{Stepped}
 use Rattle.laws.specs.Base.Lists.{nth-map, get_d_run}
 use Rattle.laws.specs.Base.Arrays.{take_counted, get_d_padded}
-use Rattle.laws.specs.Base.Layouts.{within-length}
 use Rattle.laws.specs.Fuse.Maps.{plan_in, orig_in, orig_plan, plan_orig, same-dot}
 use Rattle.laws.specs.Fuse.Entries.{original_told}
 use Rattle.laws.specs.Walk.States.{state_after, Inside}
@@ -30,12 +27,12 @@ use Rattle.laws.specs.Walk.Offsets.{place_offset}
 use Rattle.laws.specs.Walk.Steps.{Ready, raw, wide, as_many, rows-many, counters-many, walk-nth, walk-below, walk_is}
 
 module _ (es sizes : List ℕ) (ss : List ℤ) (u : Purpose) (p : Plan) (zs : List ℤ) (n : ℕ)
-    (hl : layout_refused es sizes ss u ≡ none) (hs : length ss ≡ length es * length sizes)
+    (hl : layout_refused es sizes ss u ≡ None) (hs : length ss ≡ length es * length sizes)
     (r : Ready p zs) (fo : p.operands ≡ length sizes)
     (fe : plan_extents p ≡ extents (plan_axes es (length sizes) ss u))
     (ft : (k : ℕ) → k < length sizes → plan_row p k ≡ row k (plan_axes es (length sizes) ss u)) where
   abbrev L : List Stepped
-  L = steps_from p n (begun_at p zs).walk
+  L = steps_from p n (started p zs)
 
   abbrev ls : List CutAxis
   ls = plan_cut_axes p
@@ -48,32 +45,32 @@ module _ (es sizes : List ℕ) (ss : List ℤ) (u : Purpose) (p : Plan) (zs : Li
   made o = handed_out (raw p zs r o)
 
   cases : (o : Option (List ℕ)) (s : Stepped) → s ≡ made o → Hands s ⊎ (s.answer ≡ Ended)
-  cases none s e = inr (ap (λ (t : Stepped). t.answer) e)
-  cases (some c) s e = inl (ap (λ (t : Stepped). t.answer) e)
+  cases None s e = inr (ap (λ (t : Stepped). t.answer) e)
+  cases (Some c) s e = inl (ap (λ (t : Stepped). t.answer) e)
 
-  was_block : (o : Option (List ℕ)) (s : Stepped) → s ≡ made o → Hands s → (c : List ℕ) × (o ≡ some c)
-  was_block none s e h =
+  was_block : (o : Option (List ℕ)) (s : Stepped) → s ≡ made o → Hands s → (c : List ℕ) × (o ≡ Some c)
+  was_block None s e h =
       let q : Block ≡ Ended = sym h ∙ ap (λ (t : Stepped). t.answer) e in
       let z : ◌≡◌ {A = ℕ} 0 1 = cc q in absurd (omega arith)
-  was_block (some c) s e h = (c, refl)
+  was_block (Some c) s e h = (c, refl)
 
-  was_end : (o : Option (List ℕ)) (s : Stepped) → s ≡ made o → s.answer ≡ Ended → o ≡ none
-  was_end none s e h = refl
-  was_end (some c) s e h =
+  was_end : (o : Option (List ℕ)) (s : Stepped) → s ≡ made o → s.answer ≡ Ended → o ≡ None
+  was_end None s e h = refl
+  was_end (Some c) s e h =
       let q : Block ≡ Ended = sym (ap (λ (t : Stepped). t.answer) e) ∙ h in
       let z : ◌≡◌ {A = ℕ} 0 1 = cc q in absurd (omega arith)
 
   -- a block's counters are read back
-  counters-back : (m : ℕ) (c : List ℕ) → state_after ls m ≡ some c → take p.rank (padded 64 0 c) ≡ c
-  counters-back m c e = take_counted 0 64 p.rank c (counters-many p zs r m (some c) e) r.axes
+  counters-back : (m : ℕ) (c : List ℕ) → state_after ls m ≡ Some c → take p.rank (padded 64 0 c) ≡ c
+  counters-back m c e = take_counted 0 64 p.rank c (counters-many p zs r m (Some c) e) r.axes
 
   -- a step that hands out a block, with all it hands out
   pub record Handed (m : ℕ) (s : Stepped) : Type 0 where
     pub c : List ℕ
-    pub state : state_after ls m ≡ some c
-    pub is : s ≡ made (some c)
+    pub state : state_after ls m ≡ Some c
+    pub is : s ≡ made (Some c)
 
-  handed : (m : ℕ) (s : Stepped) → nth L m ≡ some s → Hands s → Handed m s
+  handed : (m : ℕ) (s : Stepped) → nth L m ≡ Some s → Hands s → Handed m s
   handed m s e h =
       let q : s ≡ made (state_after ls m) = walk_is p zs r n m s e in
       let b = was_block (state_after ls m) s q h in
@@ -104,8 +101,8 @@ module _ (es sizes : List ℕ) (ss : List ℤ) (u : Purpose) (p : Plan) (zs : Li
 
   from_plan : (m k : ℕ) (x : List ℕ) → m < n → Within es x → MeetsPlan ls m k (index_in_plan es M ss u x) → Meets es sizes ss u p L m k x
   from_plan m k x h i q =
-      let s : Stepped = made (some q.c) in
-      let e : nth L m ≡ some s = walk-nth p zs r n m h ∙ ap (λ (o : Option (List ℕ)). some (made o)) q.state in
+      let s : Stepped = made (Some q.c) in
+      let e : nth L m ≡ Some s = walk-nth p zs r n m h ∙ ap (λ (o : Option (List ℕ)). Some (made o)) q.state in
       record {
         by = s;
         place = record { there = e; hands = refl; below = q.below };
@@ -115,19 +112,19 @@ module _ (es sizes : List ℕ) (ss : List ℤ) (u : Purpose) (p : Plan) (zs : Li
 
   -- ---- the parts
 
-  taken' : (m : ℕ) (s : Stepped) → nth L m ≡ some s → Hands s ⊎ (s.answer ≡ Ended)
+  taken' : (m : ℕ) (s : Stepped) → nth L m ≡ Some s → Hands s ⊎ (s.answer ≡ Ended)
   taken' m s e = cases (state_after ls m) s (walk_is p zs r n m s e)
 
-  ends_to : (m : ℕ) (s : Stepped) → nth L m ≡ some s → s.answer ≡ Ended
+  ends_to : (m : ℕ) (s : Stepped) → nth L m ≡ Some s → s.answer ≡ Ended
       → (x : List ℕ) → Within es x → (i : ℕ) × (k : ℕ) × (i < m) × Meets es sizes ss u p L i k x
   ends_to m s e h x hx =
-      let o : state_after ls m ≡ none = was_end (state_after ls m) s (walk_is p zs r n m s e) h in
-      let b : m < n = walk-below p zs r n m (begun_at p zs).walk s e in
+      let o : state_after ls m ≡ None = was_end (state_after ls m) s (walk_is p zs r n m s e) h in
+      let b : m < n = walk-below p zs r n m (started p zs) s e in
       let q = (ended_iff ls (wide p zs r) m).0 o (index_in_plan es M ss u x) ((inside (index_in_plan es M ss u x)).1 (plan_in es M ss u x hx)) in
       let l : q.0 < m = q.2 in
       (q.0, q.1, q.2, from_plan q.0 q.1 x (omega (arith, b, l)) hx q.3)
 
-  ends_from : (m : ℕ) (s : Stepped) → nth L m ≡ some s
+  ends_from : (m : ℕ) (s : Stepped) → nth L m ≡ Some s
       → ((x : List ℕ) → Within es x → (i : ℕ) × (k : ℕ) × (i < m) × Meets es sizes ss u p L i k x) → s.answer ≡ Ended
   ends_from m s e h =
       ap (λ (t : Stepped). t.answer) (walk_is p zs r n m s e ∙ ap made ((ended_iff ls (wide p zs r) m).1 all))
@@ -138,15 +135,15 @@ module _ (es sizes : List ℕ) (ss : List ℤ) (u : Purpose) (p : Plan) (zs : Li
           let q = h (original_index es M ss u y) (orig_in es M ss u y hy') in
           (q.0, q.1, q.2, subst (λ (v : List ℕ). MeetsPlan ls q.0 q.1 v) (plan_orig es M ss u y hy') (met q.0 q.1 (original_index es M ss u y) q.3))
 
-  order' : (m : ℕ) (s : Stepped) → nth L m ≡ some s → Hands s
-      → (c : List ℕ) × (nth (blocks_of (plan_cut_axes p)) m ≡ some (block c s.length)) × (s.counters ≡ padded 64 0 c)
+  order' : (m : ℕ) (s : Stepped) → nth L m ≡ Some s → Hands s
+      → (c : List ℕ) × (nth (blocks_of (plan_cut_axes p)) m ≡ Some (block c s.length)) × (s.counters ≡ padded 64 0 c)
       × (s.strides ≡ padded 8 (pos 0) (run_strides (plan_cut_axes p) (plan_rows p))) × (0 < s.length)
   order' m s e h =
       let d = handed m s e h in
       let c : List ℕ = d.c in
       let len : length_at ls c ≡ s.length = sym (ap (λ (t : Stepped). t.length) d.is) in (
         c,
-        nth-map (block_at ls) (counters ls) m c (sym (state-nth ls (wide p zs r) m) ∙ d.state) ∙ ap (λ (l : ℕ). some (block c l)) len,
+        nth-map (block_at ls) (counters ls) m c (sym (state-nth ls (wide p zs r) m) ∙ d.state) ∙ ap (λ (l : ℕ). Some (block c l)) len,
         ap (λ (t : Stepped). t.counters) d.is,
         ap (λ (t : Stepped). t.strides) d.is,
         subst (λ (l : ℕ). 0 < l) len (length_pos ls m c (wide p zs r) d.state),
@@ -166,18 +163,17 @@ module _ (es sizes : List ℕ) (ss : List ℤ) (u : Purpose) (p : Plan) (zs : Li
         λ y g. sym (told-met m k y g) ∙ ap (λ (t : Stepped). original_index es M ss u (cell_of es sizes ss u p L k t)) (same g.by g.place.there),
       )
     where
-      same : (t : Stepped) → nth L m ≡ some t → t ≡ s
+      same : (t : Stepped) → nth L m ≡ Some t → t ≡ s
       same t e = let f = q.there in cc (e, f)
 
   once' : (m k i j : ℕ) (x : List ℕ) → Meets es sizes ss u p L m k x → Meets es sizes ss u p L i j x → (m ≡ i) × (k ≡ j)
   once' m k i j x a b = meets_once ls (wide p zs r) m k i j (index_in_plan es M ss u x) (met m k x a) (met i j x b)
 
   tells' : (m k : ℕ) (x : List ℕ) (q : Meets es sizes ss u p L m k x)
-      → told_original es sizes ss u (cell_of es sizes ss u p L k q.by) ≡ record { answer = Served; count = length es; index = padded 64 0 x }
+      → told_original es sizes ss u (cell_of es sizes ss u p L k q.by) ≡ Ok (told x)
   tells' m k x q =
       original_told es sizes ss u hl (cell_of es sizes ss u p L k q.by) (cell_within m k q.by q.place)
-      ∙ ap (λ (y : List ℕ). record { answer = Served; count = length y; index = padded 64 0 y }) (told-met m k x q)
-      ∙ ap (λ (n : ℕ). record { answer = Served; count = n; index = padded 64 0 x }) (within-length es x q.inside)
+      ∙ ap (λ (y : List ℕ). Ok (told y)) (told-met m k x q)
 
   offsets' : (m k : ℕ) (x : List ℕ) (q : Meets es sizes ss u p L m k x) (j : ℕ) → j < length sizes
       → get_or q.by.offsets j (pos 0) +ℤ pos k *ℤ get_or q.by.strides j (pos 0) -ℤ get_or zs j (pos 0) ≡ dot x (stride_row ss (length es) j)
@@ -199,10 +195,10 @@ module _ (es sizes : List ℕ) (ss : List ℤ) (u : Purpose) (p : Plan) (zs : Li
       ∙ same-dot es M ss u (cell_of es sizes ss u p L k q.by) (cell_within m k q.by q.place) hs j hj
       ∙ ap (λ (v : List ℕ). dot v (stride_row ss (length es) j)) (told-met m k x q)
 
-  back' : (m : ℕ) (s : Stepped) → nth L m ≡ some s → s.answer ≡ Ended → s.walk.offsets ≡ padded 8 (pos 0) zs
+  back' : (m : ℕ) (s : Stepped) → nth L m ≡ Some s → s.answer ≡ Ended → s.walk.offsets ≡ padded 8 (pos 0) zs
   back' m s e h =
       let q = walk_is p zs r n m s e in
-      let o : state_after ls m ≡ none = was_end (state_after ls m) s q h in
+      let o : state_after ls m ≡ None = was_end (state_after ls m) s q h in
       ap (λ (t : Stepped). t.walk.offsets) (q ∙ ap made o)
 
   pub claim : Demand3 es sizes ss u p L zs

@@ -1,17 +1,16 @@
 -- THE PLANS OF A COPY AND OF A SUM ARE AS GoodFit SAYS: where the blocks of a copy are fitted, they are the fit of the sum's, and these are at
 -- least 1; where they are not, the two plans are one. Assumes nothing.
-use Rattle.std.specs.Prelude.{◌≡◌, ◌⊎◌, Bool, cond, ◌||◌, List, ℕ, ◌+◌, ◌*◌, ◌≤◌, ◌<◌, ℤ, pos, nat_abs}
+use Rattle.std.specs.Prelude.{◌≡◌, ◌⊎◌, Bool, cond, ◌||◌, List, ℕ, ◌+◌, ◌*◌, ◌≤◌, ◌<◌, ℤ, pos, nat_abs, Option, None, Some}
 use Rattle.std.proofs.Math.Path.{refl, sym, ap, subst⁻¹}
-use Rattle.std.proofs.Common.{◌∙◌, le_refl, le_of_eq, arith}
+use Rattle.std.proofs.Common.{◌∙◌, le_of_eq, arith}
 use Rattle.std.proofs.Math.Logic.{inl, inr, ⊎_elim}
 use Rattle.std.proofs.Math.Bool.{true, false}
-use Rattle.std.proofs.Math.Option.{Option, none, some}
 use Rattle.std.proofs.Math.Dec.{leb, eqb}
 use Rattle.std.proofs.Math.ListN.{length, get_or}
 use borrow.Author.Tests.{leb-false, lt-leb, eqb-true, eqb-false, eq-eqb, ne_eqb}
 use Rattle.strided.specs.Base.{padded, every}
 use Rattle.strided.specs.Layout.{Axis, extents, total}
-use Rattle.strided.specs.Refusals.{planning_refused}
+use Rattle.strided.specs.Refusals.{planning_refused, served_unless}
 use Rattle.strided.specs.Order.{loop_order, fusing_order}
 use Rattle.strided.specs.Fuse.{plan_axes}
 use Rattle.strided.specs.Region.{byte_table, region}
@@ -19,8 +18,8 @@ use Rattle.strided.specs.Costs.{costs}
 use Rattle.strided.specs.Cut.{plan_ranks, cutting}
 use Rattle.strided.specs.Decline.{declined}
 use Rattle.strided.specs.Fit.{fitted}
-use Rattle.strided.specs.Plan.{stride_table, grows, cut_blocks, plan_from, planned_or, planned}
-use Rattle.strided.specs.GoodFit.{AtMost, Tight, Kept, Good, Runs, SameAxes, GoodPlans, Statement}
+use Rattle.strided.specs.Plan.{stride_table, grows, cut_blocks, plan_from, planned}
+use Rattle.strided.specs.GoodFit.{AtMost, Tight, Kept, Good, Runs, SameAxes, GoodPlans, GoodAnswers, Statement}
 use Rattle.strided.specs.declared.Machine.{Machine}
 use Rattle.strided.specs.declared.Purpose.TheVariants.{PointwiseInto, Fold}
 use Rattle.strided.specs.declared.Refusal.{Refusal}
@@ -155,41 +154,26 @@ module _ (mc : Machine) (es sizes : List ℕ) (ss : List ℤ) (c : ℕ) where
   abbrev axs : List Axis
   axs = plan_axes es (length sizes) ss (Fold c)
 
-  served_good : planning_refused mc es sizes ss (Fold c) ≡ none
-      → GoodPlans mc es sizes c (planned_or none (P mc es sizes axs c)) (planned_or none (F mc es sizes axs c))
+  served_good : planning_refused mc es sizes ss (Fold c) ≡ None → GoodPlans mc es sizes c (P mc es sizes axs c) (F mc es sizes axs c)
   unfolding plan_from
   served_good h =
       let above : 1024 < total es → (i : ℕ) → i < length axs → 1 ≤ get_or (padded 64 0 (extents axs)) i 0 =
       λ l. array_above es sizes ss (Fold c) (accepted es sizes ss (Fold c) (planning_layout mc es sizes ss (Fold c) h)) (omega arith) in
       record {
-        answer = refl;
         axes = same-axes mc es sizes axs c;
         fit = fit_is mc es sizes axs c;
         achieved = λ q. (good mc es sizes axs c above q).achieved;
         tight = tight mc es sizes axs c above;
         shrinks = shrinks mc es sizes axs c above;
         kept = kept mc es sizes axs c above;
-        same = λ q. ⊎_elim (λ k. absurd (q k)) (λ e. ap (planned_or none) (same_blocks mc es sizes axs c e)) (runs_or mc es sizes axs c);
+        same = λ q. ⊎_elim (λ k. absurd (q k)) (λ e. same_blocks mc es sizes axs c e) (runs_or mc es sizes axs c);
       }
-
-  -- no axis, so nothing was fitted
-  refused_good : (o : Refusal) → GoodPlans mc es sizes c (planned_or (some o) (P mc es sizes axs c)) (planned_or (some o) (F mc es sizes axs c))
-  refused_good o = record {
-    answer = refl;
-    axes = record { rank = refl; operands = refl; extents = refl; strides = refl };
-    fit = λ q. absurd (omega (arith, q.axes));
-    achieved = λ q. absurd (omega (arith, q.axes));
-    tight = λ i l. absurd (omega (arith, l));
-    shrinks = λ i. le_refl _;
-    kept = λ i z. refl;
-    same = λ q. refl;
-  }
 
 pub plans_good : Statement
 unfolding planned planning_refused plan_axes fusing_order loop_order
 plans_good mc es sizes ss c = go (planning_refused mc es sizes ss (Fold c)) refl
   where
     go : (o : Option Refusal) → planning_refused mc es sizes ss (Fold c) ≡ o
-        → GoodPlans mc es sizes c (planned_or o (P mc es sizes (axs mc es sizes ss c) c)) (planned_or o (F mc es sizes (axs mc es sizes ss c) c))
-    go none e = served_good mc es sizes ss c e
-    go (some o) e = refused_good mc es sizes ss c o
+        → GoodAnswers mc es sizes c (served_unless o (P mc es sizes (axs mc es sizes ss c) c)) (served_unless o (F mc es sizes (axs mc es sizes ss c) c))
+    go None e = served_good mc es sizes ss c e
+    go (Some o) e = refl

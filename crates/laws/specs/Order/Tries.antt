@@ -1,12 +1,10 @@
 -- The tries of the weights. "In the terms that enter a weight, every shift is below 64 and every product and sum is below 2^64" is one
 -- test of each weight, `fits_is`; and with at most 8 operands some try succeeds, `always`. Assumes nothing.
-use Rattle.std.specs.Prelude.{◌≡◌, Bool, ◌&&◌, ◌||◌, ltb, leb, eqb, ℤ, get_or}
+use Rattle.std.specs.Prelude.{◌≡◌, Bool, ◌&&◌, ◌||◌, ltb, leb, eqb, ℤ, get_or, Option, None, Some, unwrap_or}
 use Rattle.std.proofs.Math.Path.{refl, ap}
 use Rattle.std.proofs.Common.{sym, ◌∙◌, ⊎_elim, mul-one, one-mul, mul-le-mul, mul-le-mul_left, lt_of_le_of_lt, pow_mono, pow_pos}
 use Rattle.std.proofs.Math.Bool.{true, false, cond}
 use mathlib.Core.List.{List, [], map}
-use Rattle.std.proofs.Math.Option
-use Rattle.std.proofs.Math.Option.{Option, none, some}
 use Prim.Native.Nat.{ℕ, zero, suc, ◌+◌, ◌-◌, ◌*◌, ◌^◌, ◌≤◌, ◌<◌, min}
 use Rattle.std.proofs.Math.Nat.{min-le_right}
 use native.Mathlib.Omega.{arith}
@@ -108,7 +106,7 @@ module _ (es : List ℕ) (operands : ℕ) (ss : List ℤ) (lead : ℕ) where
   -- there are weights, one for each axis
   pub record Found (m : Option (List ℕ)) : Type 0 where
     pub found : List ℕ
-    pub is : m ≡ some found
+    pub is : m ≡ Some found
     pub long : length found ≡ length es
 
   -- a term at width 1 and cap 1
@@ -158,7 +156,7 @@ module _ (es : List ℕ) (operands : ℕ) (ss : List ℤ) (lead : ℕ) where
         ws : List ℕ
         ws = map (weight_at es operands ss lead width cap) (run 0 (length es))
 
-        go : (t : Bool) → Found (first (cond t (some ws) none) m)
+        go : (t : Bool) → Found (first (cond t (Some ws) None) m)
         go true = record { found = ws; is = refl; long = length-rows (weight_at es operands ss lead width cap) 0 (length es) }
         go false = f
 
@@ -166,8 +164,8 @@ module _ (es : List ℕ) (operands : ℕ) (ss : List ℤ) (lead : ℕ) where
     unfolding cap_tries
     caps_found zero = last
       where
-        last : Found (first (try es operands ss lead 1 1) none)
-        last = let f = last_try in record { found = f.found; is = ap (λ (m : Option (List ℕ)). first m none) f.is; long = f.long }
+        last : Found (first (try es operands ss lead 1 1) None)
+        last = let f = last_try in record { found = f.found; is = ap (λ (m : Option (List ℕ)). first m None) f.is; long = f.long }
     caps_found (suc n) = or_found 1 (suc (suc n)) (cap_tries es operands ss lead (suc n)) (caps_found n)
 
     pub widths_found : (n : ℕ) → Found (width_tries es operands ss lead n)
@@ -182,4 +180,4 @@ module _ (es : List ℕ) (operands : ℕ) (ss : List ℤ) (lead : ℕ) where
     -- so the empty list in `weights` is never met
     pub weights_long : length (weights es operands ss lead) ≡ length es
     unfolding weights
-    weights_long = ap (λ (m : Option (List ℕ)). length (Option.get_or m [])) always.is ∙ always.long
+    weights_long = ap (λ (m : Option (List ℕ)). length (unwrap_or m [])) always.is ∙ always.long

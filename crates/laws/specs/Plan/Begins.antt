@@ -1,11 +1,10 @@
 -- A PLAN BEGINS WHERE ITS LAYOUT DOES: a beginning judges rows 8 and 9 on the plan's own extents and strides. For a plan that planning handed
 -- out, whatever its blocks, that is rows 8 and 9 of the layout, since the plan's offsets are the layout's.
 -- Assumes nothing.
-use Rattle.std.specs.Prelude.{◌≡◌, Bool, true, ◌&&◌, List, ℕ, ◌<◌, eqb, ℤ, pos, ◌+ℤ◌, get_or}
+use Rattle.std.specs.Prelude.{◌≡◌, Bool, true, ◌&&◌, List, ℕ, ◌<◌, eqb, ℤ, pos, ◌+ℤ◌, get_or, None}
 use Rattle.std.proofs.Math.Path.{sym, ap, subst}
 use Rattle.std.proofs.Common.{ap₂, ◌∙◌}
 use Rattle.std.proofs.Math.Bool.{false, not}
-use Rattle.std.proofs.Math.Option.{none}
 use Rattle.std.proofs.Math.ListN.{length}
 use borrow.Author.Tests.{eqb-true, eq-eqb, not-false}
 use Rattle.strided.specs.Base.{some_of}
@@ -13,19 +12,17 @@ use Rattle.strided.specs.Layout.{Within, NoZero, has_zero, total, dot, in_i64, e
 use Rattle.strided.specs.Refusals.{leaves, row9, planning_refused}
 use Rattle.strided.specs.Fuse.{plan_axes}
 use Rattle.strided.specs.Index.{original_index, index_in_plan}
-use Rattle.strided.specs.Plan.{planned, plan_from}
+use Rattle.strided.specs.Plan.{plan_from, the_plan}
 use Rattle.strided.specs.Begin.{plan_extents, plan_row, begin_rows, begin_refused}
 use Rattle.strided.specs.Text.{zero_starts}
 use Rattle.strided.specs.Demand3.{replaced}
 use Rattle.strided.specs.declared.Machine.{Machine}
 use Rattle.strided.specs.declared.Purpose.{Purpose}
 use Rattle.strided.specs.declared.Plan.{Plan}
-use Rattle.strided.specs.declared.Planned.{Planned}
 use Rattle.laws.specs.Base.Layouts.{table_row, total_nozero, length-row, length-extents}
 use Rattle.laws.specs.Base.Refusals.{NoneApplies, none_applies}
 use Rattle.laws.specs.Base.Rows.{length_strides}
 use Rattle.laws.specs.Fuse.Maps.{plan_total, plan_in, orig_in, orig_plan, same-dot}
-use Rattle.laws.specs.Plan.Answers.{planned_served}
 use Rattle.laws.specs.Plan.Bounds.{plan_few}
 use Rattle.laws.specs.Refusals.Accepted.{Accepted, accepted}
 use Rattle.laws.specs.Refusals.Record.{planning_layout}
@@ -40,12 +37,12 @@ use Rattle.laws.specs.Text.Begins.{planned_operands, planned_begins}
 same-zero : (es fs : List ℕ) → total es ≡ total fs → has_zero es ≡ false → has_zero fs ≡ false
 same-zero es fs e z = no_zero_test fs (total_nozero fs (subst (λ (n : ℕ). 0 < n) e (total_some es (no_zero_of es z))))
 
-module _ (mc : Machine) (es sizes : List ℕ) (ss : List ℤ) (u : Purpose) (h : planning_refused mc es sizes ss u ≡ none) where
+module _ (mc : Machine) (es sizes : List ℕ) (ss : List ℤ) (u : Purpose) (h : planning_refused mc es sizes ss u ≡ None) where
   abbrev M : ℕ
   M = length sizes
 
   abbrev P : Plan
-  P = (planned mc es sizes ss u).plan
+  P = the_plan mc es sizes ss u
 
   a : Accepted es sizes ss u
   a = accepted es sizes ss u (planning_layout mc es sizes ss u h)
@@ -63,12 +60,9 @@ module _ (mc : Machine) (es sizes : List ℕ) (ss : List ℤ) (u : Purpose) (h :
   extents_is : plan_extents P ≡ pe
   extents_is = planned-extents mc es sizes ss u h
 
-  plan_is : (planned mc es sizes ss u).plan ≡ plan_from mc es sizes (plan_axes es M ss u) u
-  plan_is = ap (λ (q : Planned). q.plan) (planned_served mc es sizes ss u h)
-
   row_is : (k : ℕ) → k < length sizes → plan_row P k ≡ pr k
   unfolding plan_from
-  row_is k l = ap (λ (p : Plan). plan_row p k) plan_is ∙ table_row (plan_axes es M ss u) M k (plan_few es sizes ss u a) a.few l
+  row_is k l = table_row (plan_axes es M ss u) M k (plan_few es sizes ss u a) a.few l
 
   -- ---- one operand that starts at z: no offset leaves in the plan exactly if none does in the layout
 
@@ -116,7 +110,7 @@ module _ (mc : Machine) (es sizes : List ℕ) (ss : List ℤ) (u : Purpose) (h :
     total_is = ap total extents_is ∙ plan_total es M ss u
 
     -- what a beginning says of the layout
-    pub begins_to : begin_refused (replaced (planned mc es sizes ss u).plan bs) zs ≡ none
+    pub begins_to : begin_refused (replaced (the_plan mc es sizes ss u) bs) zs ≡ None
         → (length zs ≡ length sizes) × ((row9 es (length sizes) (stride_row ss (length es)) zs).applies ≡ false)
     unfolding begin_refused NoneApplies
     begins_to b =
@@ -133,7 +127,7 @@ module _ (mc : Machine) (es sizes : List ℕ) (ss : List ℤ) (u : Purpose) (h :
 
     -- and back
     pub begins_from : length zs ≡ length sizes → (row9 es (length sizes) (stride_row ss (length es)) zs).applies ≡ false
-        → begin_refused (replaced (planned mc es sizes ss u).plan bs) zs ≡ none
+        → begin_refused (replaced (the_plan mc es sizes ss u) bs) zs ≡ None
     unfolding begin_refused NoneApplies
     begins_from many nine =
         let n : NoneApplies (begin_rows P (zero_starts P)) = none_applies (begin_rows P (zero_starts P)) (planned_begins mc es sizes ss u h) in

@@ -1,13 +1,12 @@
 -- AN AXIS THAT NOBODY MOVES ALONG IS NEVER CUT: in the plan of any layout, for either purpose and any record, an axis on which every stride is
 -- 0 has its extent as block. Cutting passes over it, the tail's blocks become 1 only where no byte stride is 0, and the fit skips it.
 -- Assumes nothing.
-use Rattle.std.specs.Prelude.{◌≡◌, true, false, cond, ◌||◌, leb, eqb, pos, length, get_or}
+use Rattle.std.specs.Prelude.{◌≡◌, true, false, cond, ◌||◌, leb, eqb, pos, length, get_or, Ok}
 use Rattle.std.proofs.Math.Path.{refl, ap}
-use Rattle.std.proofs.Common.{◌∙◌, inr, zero-mul, get_or-set_other}
+use Rattle.std.proofs.Common.{◌∙◌, inr, zero-mul, get_or-set_other, subst, sym}
 use Rattle.std.proofs.Math.Bool.{Bool}
 use mathlib.Core.List.{List}
 use Rattle.std.proofs.Math.Logic.{⊎_elim}
-use Rattle.std.proofs.Math.Option.{Option, none, some}
 use Prim.Native.Nat.{ℕ, zero, suc, ◌+◌, ◌*◌, ◌≤◌, ◌<◌}
 use native.Mathlib.Omega.{arith}
 use Rattle.std.proofs.Math.Dec.{ltb}
@@ -15,18 +14,17 @@ use Rattle.std.proofs.Math.IntN.{ℤ, nat_abs}
 use borrow.Author.Tests.{ltb-true, leb-false}
 use Rattle.strided.specs.Base.{padded, least, every}
 use Rattle.strided.specs.Layout.{Axis, extents, total, chosen}
-use Rattle.strided.specs.Refusals.{missing, planning_refused}
+use Rattle.strided.specs.Refusals.{missing}
 use Rattle.strided.specs.Fuse.{plan_axes}
 use Rattle.strided.specs.Region.{byte_table, byte_at, region}
 use Rattle.strided.specs.Costs.{cost_number, costs}
 use Rattle.strided.specs.Cut.{plan_ranks, shrunk, least_byte, keeps_first, ones, cutting}
 use Rattle.strided.specs.Decline.{declined}
 use Rattle.strided.specs.Fit.{fitted}
-use Rattle.strided.specs.Plan.{stride_table, grows, fitted_for, cut_blocks, plan_from, planned_or, planned}
+use Rattle.strided.specs.Plan.{stride_table, grows, fitted_for, cut_blocks, plan_from, planned, the_plan}
 use Rattle.strided.specs.declared.Machine.{Machine}
 use Rattle.strided.specs.declared.Purpose.{Purpose}
 use Rattle.strided.specs.declared.Purpose.TheVariants.{Pointwise, PointwiseInto, Fold}
-use Rattle.strided.specs.declared.Refusal.{Refusal}
 use Rattle.strided.specs.declared.Plan.{Plan}
 use Rattle.laws.specs.Cut.Ranges.{le_or_lt, least_in}
 use Rattle.laws.specs.Cut.Steps.{shrunk-still}
@@ -35,6 +33,7 @@ use Rattle.laws.specs.Cut.Tables.{stride_size, byte_at_lem, cost_at, cost_none, 
 use Rattle.laws.specs.Refusals.Accepted.{Accepted, accepted}
 use Rattle.laws.specs.Refusals.Record.{planning_layout}
 use Rattle.laws.specs.Plan.Bounds.{plan_few}
+use Rattle.laws.specs.Plan.Answers.{not-refused, planned_is}
 
 -- axis j has the same block in both
 abbrev As : ℕ → List ℕ → List ℕ → Type 0
@@ -124,8 +123,7 @@ pub record Still (p : Plan) (j : ℕ) : Type 0 where
   pub stays : (k : ℕ) → k < p.operands → get_or p.strides (k * 64 + j) (pos 0) ≡ pos 0
 
 module _ (mc : Machine) (es sizes : List ℕ) (ss : List ℤ) (u : Purpose) where
-  from-still : Accepted es sizes ss u → (j : ℕ) → Still (plan_from mc es sizes (plan_axes es (length sizes) ss u) u) j
-      → As j (plan_from mc es sizes (plan_axes es (length sizes) ss u) u).blocks (plan_from mc es sizes (plan_axes es (length sizes) ss u) u).extents
+  from-still : Accepted es sizes ss u → (j : ℕ) → Still (the_plan mc es sizes ss u) j → As j (the_plan mc es sizes ss u).blocks (the_plan mc es sizes ss u).extents
   unfolding plan_from
   from-still a j s =
       let axs : List Axis = plan_axes es (length sizes) ss u in
@@ -134,13 +132,7 @@ module _ (mc : Machine) (es sizes : List ℕ) (ss : List ℤ) (u : Purpose) wher
       either_as (leb (total es) 1024) j E (cut_blocks mc sizes E S (length axs) u) E (λ e. refl)
       (λ e. blocks_still mc sizes E S (length axs) j a.one (plan_few es sizes ss u a) s.there (λ k h. ap nat_abs (s.stays k h)) u a.there)
 
-  pub still-whole : (j : ℕ) → Still (planned mc es sizes ss u).plan j → get_or (planned mc es sizes ss u).plan.blocks j 0 ≡ get_or (planned mc es sizes ss u).plan.extents j 0
-  unfolding planned
-  still-whole j s = go (planning_refused mc es sizes ss u) refl s
-    where
-      p : Plan
-      p = plan_from mc es sizes (plan_axes es (length sizes) ss u) u
-
-      go : (o : Option Refusal) → planning_refused mc es sizes ss u ≡ o → Still (planned_or o p).plan j → As j (planned_or o p).plan.blocks (planned_or o p).plan.extents
-      go none e s = from-still (accepted es sizes ss u (planning_layout mc es sizes ss u e)) j s
-      go (some r) e s = refl
+  pub still-whole : {p : Plan} → planned mc es sizes ss u ≡ Ok p → (j : ℕ) → Still p j → get_or p.blocks j 0 ≡ get_or p.extents j 0
+  still-whole h =
+      let a : Accepted es sizes ss u = accepted es sizes ss u (planning_layout mc es sizes ss u (not-refused mc es sizes ss u h)) in
+      subst (λ (q : Plan). (j : ℕ) → Still q j → As j q.blocks q.extents) (sym (planned_is mc es sizes ss u h)) (from-still a)

@@ -1,9 +1,8 @@
 -- What a layout has that planning does not refuse: the bounds that the planner's code leans on. Assumes nothing.
-use Rattle.std.specs.Prelude.{◌≡◌, Bool, ◌||◌, List, ℕ, ◌*◌, ◌^◌, ◌≤◌, ◌<◌, eqb, ℤ}
+use Rattle.std.specs.Prelude.{◌≡◌, Bool, ◌||◌, List, ℕ, ◌*◌, ◌^◌, ◌≤◌, ◌<◌, eqb, ℤ, None}
 use Rattle.std.proofs.Math.Path.{sym}
 use Rattle.std.proofs.Common.{◌∙◌, subst, le_trans, arith}
 use Rattle.std.proofs.Math.Bool.{false, not}
-use Rattle.std.proofs.Math.Option.{none}
 use Rattle.std.proofs.Math.Dec.{ltb}
 use Rattle.std.proofs.Math.ListN.{length}
 use borrow.Author.Tests.{le-ltb, ltb-false, eq-eqb, ne_eqb, eqb-false}
@@ -33,7 +32,7 @@ module _ (es sizes : List ℕ) (ss : List ℤ) (u : Purpose) where
   abbrev far_at : ℕ → Bool
   far_at k = ltb max_i (reach es (stride_row ss (length es) k))
 
-  pub accepted : layout_refused es sizes ss u ≡ none → Accepted es sizes ss u
+  pub accepted : layout_refused es sizes ss u ≡ None → Accepted es sizes ss u
   unfolding layout_refused NoneApplies
   accepted h =
       let a : NoneApplies (layout_rows es sizes ss u) = none_applies (layout_rows es sizes ss u) h in
@@ -51,7 +50,7 @@ module _ (es sizes : List ℕ) (ss : List ℤ) (u : Purpose) where
       }
 
   -- and back: nothing else is refused
-  pub accepted_back : Accepted es sizes ss u → layout_refused es sizes ss u ≡ none
+  pub accepted_back : Accepted es sizes ss u → layout_refused es sizes ss u ≡ None
   unfolding layout_refused NoneApplies
   accepted_back f =
       let n : length sizes ≡ 0 → ⊥ = λ q. absurd (omega (arith, f.one)) in

@@ -1,10 +1,9 @@
 -- ROW 24: the test on a machine record is the claim; and planning's rows against the layout's. With an allowed record planning refuses what
 -- index finding does; where planning does not refuse, the record is allowed.
 -- Assumes nothing.
-use Rattle.std.specs.Prelude.{◌≡◌, refl, true, ◌&&◌, ◌||◌, List, ℤ}
+use Rattle.std.specs.Prelude.{◌≡◌, refl, true, ◌&&◌, ◌||◌, List, ℤ, None}
 use Rattle.std.proofs.Common.{sym, ◌∙◌, subst, ⊎_elim, arith, pow_mono}
 use Rattle.std.proofs.Math.Bool.{Bool}
-use Rattle.std.proofs.Math.Option.{none}
 use Prim.Native.Nat.{ℕ, zero, suc, ◌%◌, ◌^◌, ◌≤◌}
 use Rattle.std.proofs.Math.Dec.{leb, eqb}
 use borrow.Author.Tests.{leb-true, le-leb, eqb-true, eq-eqb, not-false}
@@ -116,11 +115,11 @@ module _ (mc : Machine) (es sizes : List ℕ) (ss : List ℤ) (u : Purpose) wher
   unfolding planning_refused layout_refused
   planning_as a = rw (allowed-back mc a)
 
-  pub planning_allowed : planning_refused mc es sizes ss u ≡ none → Allowed mc
+  pub planning_allowed : planning_refused mc es sizes ss u ≡ None → Allowed mc
   unfolding planning_refused NoneApplies
   planning_allowed h = allowed_true mc (not-false (allowed mc) (none_applies (planning_rows mc es sizes ss u) h).1.1.1.1.0)
 
-  pub planning_layout : planning_refused mc es sizes ss u ≡ none → layout_refused es sizes ss u ≡ none
+  pub planning_layout : planning_refused mc es sizes ss u ≡ None → layout_refused es sizes ss u ≡ None
   planning_layout h = sym (planning_as (planning_allowed h)) ∙ h
 
 -- "the walklist text keeps the fixed four"

@@ -1,11 +1,10 @@
 -- The first row that applies refuses: the laws that an entry's tests, one after the other, are proved with. Assumes nothing.
-use Rattle.std.specs.Prelude.{◌≡◌, refl, Bool, true, false, cond, ◌&&◌, not, List, [], ◌∷◌, ◌++◌, ℕ, ◌≤◌, ltb, eqb}
+use Rattle.std.specs.Prelude.{◌≡◌, refl, Bool, true, false, cond, ◌&&◌, not, List, [], ◌∷◌, ◌++◌, ℕ, ◌≤◌, ltb, eqb, Option, None, Some, Ok, Err}
 use Rattle.std.proofs.Common.{sym, ap, ◌∙◌, arith, ltb-false}
 use Rattle.std.proofs.lemmas.Bool.{false≢true}
-use Rattle.std.proofs.Math.Option.{Option, none, some}
-use Rattle.strided.specs.Refusals.{Row, row1, row2, refused_by, answered}
+use Rattle.strided.specs.Memory.{whether}
+use Rattle.strided.specs.Refusals.{Row, row1, row2, refused_by, answered, served_unless}
 use Rattle.strided.specs.declared.Refusal.{Refusal}
-use Rattle.strided.specs.declared.Answer.TheVariants.{Served, Refused}
 use Rattle.laws.specs.Base.Refusals.{NoneApplies}
 use Rattle.laws.specs.Base.Tests.{or_none}
 
@@ -23,50 +22,67 @@ module _ {all rs : List Row} {r : Row} (p : Past all (r ∷ rs)) {b : Bool} (is 
   pub past_next : b ≡ false → Past all rs
   past_next h = record { same = p.same ∙ rw (sym is ∙ h) }
 
-  pub past_some : b ≡ true → refused_by all ≡ some r.refusal
+  pub past_some : b ≡ true → refused_by all ≡ Some r.refusal
   past_some h = p.same ∙ rw (sym is ∙ h)
 
-  pub past_refused : b ≡ true → Refused r.refusal ≡ answered (refused_by all)
+  pub past_refused : b ≡ true → Err r.refusal ≡ answered (refused_by all)
   past_refused h = sym (ap answered (past_some h))
 
-pub past_served : {all : List Row} → Past all [] → Served ≡ answered (refused_by all)
+pub past_served : {all : List Row} → Past all [] → Ok tt ≡ answered (refused_by all)
 past_served p = sym (ap answered p.same)
 
 -- ---- rows before others
 
-pub rows_refuse : (xs ys : List Row) (r : Refusal) → refused_by xs ≡ some r → refused_by (xs ++ ys) ≡ some r
+pub rows_refuse : (xs ys : List Row) (r : Refusal) → refused_by xs ≡ Some r → refused_by (xs ++ ys) ≡ Some r
 rows_refuse [] ys r h = let z : ◌≡◌ {A = ℕ} 0 1 = cc h in absurd (omega arith)
 rows_refuse (x ∷ xs) ys r h = go x.applies h (rows_refuse xs ys r)
   where
-    go : (b : Bool) → cond b (some x.refusal) (refused_by xs) ≡ some r → (refused_by xs ≡ some r → refused_by (xs ++ ys) ≡ some r)
-        → cond b (some x.refusal) (refused_by (xs ++ ys)) ≡ some r
+    go : (b : Bool) → cond b (Some x.refusal) (refused_by xs) ≡ Some r → (refused_by xs ≡ Some r → refused_by (xs ++ ys) ≡ Some r)
+        → cond b (Some x.refusal) (refused_by (xs ++ ys)) ≡ Some r
     go true q f = q
     go false q f = f q
 
-pub rows_pass : (xs ys : List Row) → refused_by xs ≡ none → refused_by (xs ++ ys) ≡ refused_by ys
+pub rows_pass : (xs ys : List Row) → refused_by xs ≡ None → refused_by (xs ++ ys) ≡ refused_by ys
 rows_pass [] ys h = refl
 rows_pass (x ∷ xs) ys h = go x.applies h (rows_pass xs ys)
   where
-    go : (b : Bool) → cond b (some x.refusal) (refused_by xs) ≡ none → (refused_by xs ≡ none → refused_by (xs ++ ys) ≡ refused_by ys)
-        → cond b (some x.refusal) (refused_by (xs ++ ys)) ≡ refused_by ys
+    go : (b : Bool) → cond b (Some x.refusal) (refused_by xs) ≡ None → (refused_by xs ≡ None → refused_by (xs ++ ys) ≡ refused_by ys)
+        → cond b (Some x.refusal) (refused_by (xs ++ ys)) ≡ refused_by ys
     go true q f = let z : ◌≡◌ {A = ℕ} 0 1 = cc q in absurd (omega arith)
     go false q f = f q
 
 -- ---- no row applies
 
-pub none_refuses : (rs : List Row) → NoneApplies rs → refused_by rs ≡ none
+pub none_refuses : (rs : List Row) → NoneApplies rs → refused_by rs ≡ None
 unfolding NoneApplies
 none_refuses [] h = refl
 none_refuses (r ∷ rs) h = rw h.0 (none_refuses rs h.1)
 
 -- an entry serves exactly if it does not refuse
-pub served_none : (o : Option Refusal) → answered o ≡ Served → o ≡ none
-served_none none h = refl
-served_none (some r) h = let z : ◌≡◌ {A = ℕ} 0 1 = cc h in absurd (omega arith)
+pub served_none : {A : Type 0} (o : Option Refusal) (value : A) {given : A} → served_unless o value ≡ Ok given → o ≡ None
+served_none None value h = refl
+served_none (Some r) value h = cc
 
-pub refused_some : (o : Option Refusal) {r : Refusal} → answered o ≡ Refused r → o ≡ some r
-refused_some none h = let z : ◌≡◌ {A = ℕ} 0 1 = cc h in absurd (omega arith)
-refused_some (some s) h = cc
+-- with the value that is asked for
+pub served_is : {A : Type 0} (o : Option Refusal) (value : A) {given : A} → served_unless o value ≡ Ok given → given ≡ value
+served_is None value h = cc
+served_is (Some r) value h = cc
+
+pub refused_some : {A : Type 0} (o : Option Refusal) (value : A) {r : Refusal} → served_unless o value ≡ Err r → o ≡ Some r
+refused_some None value h = cc
+refused_some (Some s) value h = cc
+
+pub whether_is : {A : Type 0} (o : Option Refusal) (value : A) → whether (served_unless o value) ≡ answered o
+whether_is None value = refl
+whether_is (Some r) value = refl
+
+-- what a check answers, with a value beside it: that value where it serves, its refusal where not
+pub refused_too : {A : Type 0} (o : Option Refusal) (value : A) {r : Refusal} → Err r ≡ answered o → Err r ≡ served_unless o value
+refused_too o value h = sym (ap (λ (p : Option Refusal). served_unless p value) (refused_some o tt (sym h)))
+
+pub served_too : {A : Type 0} (o : Option Refusal) {given value : A} → Ok tt ≡ answered o → given ≡ value → Ok given ≡ served_unless o value
+served_too o {given} {value} h e =
+    ap (λ (v : _). Ok v) e ∙ sym (ap (λ (p : Option Refusal). served_unless p value) (served_none o tt (sym h)))
 
 -- a row that passes where z holds
 pub unless-passes : (z t : Bool) → (not z && t) ≡ false → z ≡ false → t ≡ false

@@ -1,8 +1,7 @@
 -- The signed answer of the text entry: a refusal's is below 0, and an output lies within the lent bytes.
 -- Assumes nothing.
-use Rattle.std.specs.Prelude.{◌≡◌, refl, ◌⊎◌, Bool, true, false, List, [], ◌∷◌, ℕ, suc, ◌≤◌, pos, negsuc, neg_ℤ, length}
+use Rattle.std.specs.Prelude.{◌≡◌, refl, ◌⊎◌, Bool, true, false, List, [], ◌∷◌, ℕ, suc, ◌≤◌, pos, negsuc, neg_ℤ, length, Option, None, Some}
 use Rattle.std.proofs.Common.{sym, ap, ◌∙◌, inl, inr, arith, ltb-false}
-use Rattle.std.proofs.Math.Option.{Option, none, some}
 use Rattle.strided.specs.Base.{first}
 use Rattle.strided.specs.Refusals.{Row, refused_by, number, negated}
 use Rattle.strided.specs.Text.{Parsed, InForm, NotInForm, Listing, Lists, layout_rows_of, printed_of, row13, row14, text_refused, listing_or, listed}
@@ -43,14 +42,14 @@ negated-below r n e =
     absurd (omega arith)
 
 -- the last of the rows passes where none refuses
-behind : (a b : Option Refusal) → first a b ≡ none → b ≡ none
-behind none b e = e
-behind (some r) b e = let z : ◌≡◌ {A = ℕ} 0 1 = cc in absurd (omega arith)
+behind : (a b : Option Refusal) → first a b ≡ None → b ≡ None
+behind None b e = e
+behind (Some r) b e = let z : ◌≡◌ {A = ℕ} 0 1 = cc in absurd (omega arith)
 
-last_row : (r s : Row) → refused_by (r ∷ s ∷ []) ≡ none → s.applies ≡ false
+last_row : (r s : Row) → refused_by (r ∷ s ∷ []) ≡ None → s.applies ≡ false
 last_row r s e = go r.applies s.applies e
   where
-    go : (a b : Bool) → refused_by (record { applies = a; refusal = r.refusal } ∷ record { applies = b; refusal = s.refusal } ∷ []) ≡ none → b ≡ false
+    go : (a b : Bool) → refused_by (record { applies = a; refusal = r.refusal } ∷ record { applies = b; refusal = s.refusal } ∷ []) ≡ None → b ≡ false
     go true b q = let z : ◌≡◌ {A = ℕ} 0 1 = cc in absurd (omega arith)
     go false true q = let z : ◌≡◌ {A = ℕ} 0 1 = cc in absurd (omega arith)
     go false false q = refl
@@ -60,11 +59,11 @@ unfolding listed text_refused
 listed-within p room n e = go (text_refused p (length room)) refl e
   where
     go : (o : Option Refusal) → text_refused p (length room) ≡ o → (listing_or o (printed_of p) room).answer ≡ pos n → n ≤ length room
-    go none q f =
+    go None q f =
         let l : length (printed_of p) ≡ n = cc in
         let fits = ltb-false (length room) (length (printed_of p)) (last_row (row13 p.extents) (row14 (printed_of p) (length room)) (behind (refused_by (layout_rows_of p)) _ q)) in
         omega (arith, l, fits)
-    go (some r) q f = absurd (negated-below r n f)
+    go (Some r) q f = absurd (negated-below r n f)
 
 -- an output is no longer than the bytes lent
 pub lists_within : {text room : List ℕ} {l : Listing} → Lists text room l → (n : ℕ) → l.answer ≡ pos n → n ≤ length room

@@ -1,10 +1,9 @@
 -- "Starts are 0.": the walk of a plan that planning hands out begins there. Every offset lies within the reach, which row 6 bounds.
 -- Assumes nothing.
-use Rattle.std.specs.Prelude.{◌≡◌, refl, true, ◌||◌, List, ℕ, zero, suc, ◌-◌, ◌^◌, ◌≤◌, ◌<◌, eqb, ℤ, pos, ◌+ℤ◌, ◌-ℤ◌, length, get_or, replicate}
+use Rattle.std.specs.Prelude.{◌≡◌, refl, true, ◌||◌, List, ℕ, zero, suc, ◌-◌, ◌^◌, ◌≤◌, ◌<◌, eqb, ℤ, pos, ◌+ℤ◌, ◌-ℤ◌, length, get_or, replicate, None}
 use Rattle.std.proofs.Common.{sym, ap₂, ◌∙◌, subst, arith}
 use Rattle.std.proofs.Math.Path.{ap}
 use Rattle.std.proofs.Math.Bool.{false, not}
-use Rattle.std.proofs.Math.Option.{none}
 use Rattle.std.proofs.Math.Dec.{ltb}
 use Rattle.std.proofs.Math.IntN.{+ℤ_idl}
 use Rattle.std.proofs.lemmas.List.{length-replicate}
@@ -13,7 +12,7 @@ use Rattle.strided.specs.Base.{some_of}
 use Rattle.strided.specs.Layout.{has_zero, total, reach, reach_down, in_i64, max_i, max_u, row, stride_row}
 use Rattle.strided.specs.Refusals.{leaves, row5, planning_refused}
 use Rattle.strided.specs.Fuse.{plan_axes}
-use Rattle.strided.specs.Plan.{planned, plan_from}
+use Rattle.strided.specs.Plan.{plan_from, the_plan}
 use Rattle.strided.specs.Begin.{plan_extents, plan_row, begin_rows, begin_refused}
 use Rattle.strided.specs.Text.{zero_starts}
 use Rattle.strided.specs.declared.Purpose.{Purpose}
@@ -53,29 +52,25 @@ start_zero (suc n) (suc k) = start_zero n k
 
 -- ---- the plan
 
-module _ (mc : Machine) (es sizes : List ℕ) (ss : List ℤ) (u : Purpose) (h : planning_refused mc es sizes ss u ≡ none) where
+module _ (mc : Machine) (es sizes : List ℕ) (ss : List ℤ) (u : Purpose) (h : planning_refused mc es sizes ss u ≡ None) where
   abbrev P : Plan
-  P = (planned mc es sizes ss u).plan
+  P = the_plan mc es sizes ss u
 
   a : Accepted es sizes ss u
   a = accepted es sizes ss u (planning_layout mc es sizes ss u h)
 
-  pub planned_operands : (planned mc es sizes ss u).plan.operands ≡ length sizes
-  unfolding planned plan_from
-  planned_operands = rw h
+  pub planned_operands : (the_plan mc es sizes ss u).operands ≡ length sizes
+  unfolding plan_from
+  planned_operands = refl
 
-  pub planned-rank : (planned mc es sizes ss u).plan.rank ≤ 64
-  unfolding planned plan_from
-  planned-rank = rw h (plan_few es sizes ss u a)
-
-  plan_is : (planned mc es sizes ss u).plan ≡ plan_from mc es sizes (plan_axes es (length sizes) ss u) u
-  unfolding planned
-  plan_is = rw h
+  pub planned-rank : (the_plan mc es sizes ss u).rank ≤ 64
+  unfolding plan_from
+  planned-rank = plan_few es sizes ss u a
 
   row_is : (k : ℕ) → k < length sizes → plan_row P k ≡ row k (plan_axes es (length sizes) ss u)
   unfolding plan_from
   row_is k l =
-      ap (λ (p : Plan). plan_row p k) plan_is ∙ table_row (plan_axes es (length sizes) ss u) (length sizes) k (plan_few es sizes ss u a) a.few l
+      table_row (plan_axes es (length sizes) ss u) (length sizes) k (plan_few es sizes ss u a) a.few l
 
   total_is : total (plan_extents P) ≡ total es
   total_is = ap total (planned-extents mc es sizes ss u h) ∙ plan_total es (length sizes) ss u
@@ -99,7 +94,7 @@ module _ (mc : Machine) (es sizes : List ℕ) (ss : List ℤ) (u : Purpose) (h :
       ∙ zero-stays (plan_extents P) (plan_row P k) (near z k (subst (λ (n : ℕ). k < n) planned_operands l))
 
   -- the beginning is not refused
-  pub planned_begins : begin_refused (planned mc es sizes ss u).plan (zero_starts (planned mc es sizes ss u).plan) ≡ none
+  pub planned_begins : begin_refused (the_plan mc es sizes ss u) (zero_starts (the_plan mc es sizes ss u)) ≡ None
   unfolding begin_refused NoneApplies
   planned_begins =
       let one : 1 ≤ M = omega (arith, planned_operands, a.one) in

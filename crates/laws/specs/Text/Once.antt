@@ -1,9 +1,8 @@
 -- A TEXT SAYS ONE THING AT MOST. Each part of a text, whatever stands behind it, is told from the bytes in one way alone: fields, rows of
 -- fields, the L line, the lines of operands, and so the whole.
 -- Assumes nothing.
-use Rattle.std.specs.Prelude.{◌≡◌, refl, false, List, [], ◌∷◌, ◌++◌, ℕ, length}
+use Rattle.std.specs.Prelude.{◌≡◌, refl, false, List, [], ◌∷◌, ◌++◌, ℕ, length, Option, None, Some}
 use Rattle.std.proofs.Common.{sym, ap, ◌∙◌, append_assoc, arith}
-use Rattle.std.proofs.Math.Option.{Option, none, some}
 use Rattle.strided.specs.Base.{over}
 use Rattle.strided.specs.Layout.{chosen}
 use Rattle.strided.specs.Digits.{digits_of, signed_of}
@@ -73,8 +72,8 @@ head_text u rank operands x =
 -- ---- the L line
 
 pub chosen_stops : (c : Option ℕ) (x : List ℕ) → goes_on (chosen_field c ++ x) ≡ false
-chosen_stops none x = refl
-chosen_stops (some k) x = refl
+chosen_stops None x = refl
+chosen_stops (Some k) x = refl
 
 pub chosen_once : (u w : Purpose) (x y : List ℕ) → purpose_letter u ≡ purpose_letter w
     → chosen_field (chosen u) ++ (10 ∷ x) ≡ chosen_field (chosen w) ++ (10 ∷ y) → (u ≡ w) × (x ≡ y)

@@ -1,21 +1,18 @@
 -- What a text in the form is to planning. Its counts are those of a layout, so row 3 never applies, and the rows in front of 13 refuse it as
 -- planning does. And the contract of the text entry: how the listing of what a text says meets it, and that it fixes the listing.
 -- Assumes nothing.
-use Rattle.std.specs.Prelude.{◌≡◌, refl, ◌⊎◌, Bool, false, not, List, [], ◌∷◌, ℕ, ◌+◌, ◌*◌, length}
+use Rattle.std.specs.Prelude.{◌≡◌, refl, ◌⊎◌, Bool, false, not, List, [], ◌∷◌, ℕ, ◌+◌, ◌*◌, length, Option, None, Some, Ok}
 use Rattle.std.proofs.Math.Path.{sym, ap, ap₂}
 use Rattle.std.proofs.Common.{◌∙◌, inl, inr, arith, length-append, eq-eqb}
-use Rattle.std.proofs.Math.Option.{Option, none, some}
 use Rattle.std.proofs.lemmas.List.{length-map}
 use Rattle.strided.specs.Base.{over, first}
 use Rattle.strided.specs.Layout.{stride_row}
-use Rattle.strided.specs.Refusals.{Row, refused_by, layout_refused, planning_refused, row1, row2, row3, row4, row5, row6}
+use Rattle.strided.specs.Refusals.{Row, refused_by, layout_refused, planning_refused, row1, row2, row3, row4, row5, row6, served_unless}
 use Rattle.strided.specs.Machine.{fixed_four}
-use Rattle.strided.specs.Fuse.{plan_axes}
-use Rattle.strided.specs.Plan.{planned, plan_from, planned_or}
+use Rattle.strided.specs.Plan.{planned, the_plan}
 use Rattle.strided.specs.Text.{OperandLine, Parsed, InForm, LineFits, Each, NotInForm, Listing, Lists, sizes_of, strides_of, layout_rows_of, text_refused, refusing, listed}
 use Rattle.strided.specs.declared.Refusal.{Refusal}
 use Rattle.strided.specs.declared.Refusal.TheVariants.{StrideCount, Form}
-use Rattle.strided.specs.declared.Answer.TheVariants.{Served}
 use Rattle.laws.specs.Refusals.Record.{planning_fixed}
 use Rattle.laws.specs.Text.Once.{in_form_once}
 
@@ -25,9 +22,9 @@ strides_count rank [] h = omega arith
 strides_count rank (o ∷ ls) h =
     length-append o.strides (over ls (λ (o : OperandLine). o.strides)) ∙ ap₂ ◌+◌ h.0.count (strides_count rank ls h.1) ∙ omega arith
 
-first_none : (a b : Option Refusal) → first a b ≡ none → a ≡ none
-first_none none b e = refl
-first_none (some r) b e = e
+first_none : (a b : Option Refusal) → first a b ≡ None → a ≡ None
+first_none None b e = refl
+first_none (Some r) b e = e
 
 module _ {text : List ℕ} {p : Parsed} (f : InForm text p) where
   -- the counts of the layout that the text says
@@ -55,14 +52,14 @@ module _ {text : List ℕ} {p : Parsed} (f : InForm text p) where
       ∙ ap₂ (λ (r n : ℕ). refused_by (rows_by r n (row3 r n (strides_of p)).applies)) (sym f.axes) (sym sizes-all)
 
   -- so a text that is not refused has a plan, and the output is that plan's
-  pub has_plan : (room : ℕ) → text_refused p room ≡ none
+  pub has_plan : (room : ℕ) → text_refused p room ≡ None
       → planned fixed_four p.extents (sizes_of p) (strides_of p) p.purpose
-      ≡ record { answer = Served; plan = plan_from fixed_four p.extents (sizes_of p) (plan_axes p.extents (length (sizes_of p)) (strides_of p) p.purpose) p.purpose }
+      ≡ Ok (the_plan fixed_four p.extents (sizes_of p) (strides_of p) p.purpose)
   unfolding text_refused planned
   has_plan room e =
-      let q : planning_refused fixed_four p.extents (sizes_of p) (strides_of p) p.purpose ≡ none =
+      let q : planning_refused fixed_four p.extents (sizes_of p) (strides_of p) p.purpose ≡ None =
       planning_fixed p.extents (sizes_of p) (strides_of p) p.purpose ∙ sym as_planning ∙ first_none _ _ e in
-      ap (λ (r : Option Refusal). planned_or r (plan_from fixed_four p.extents (sizes_of p) (plan_axes p.extents (length (sizes_of p)) (strides_of p) p.purpose) p.purpose)) q
+      ap (λ (r : Option Refusal). served_unless r (the_plan fixed_four p.extents (sizes_of p) (strides_of p) p.purpose)) q
 
   -- the listing of what the text says is the text's: it says nothing else
   pub lists_said : (room : List ℕ) (l : Listing) → l ≡ listed p room → Lists text room l

@@ -1,13 +1,12 @@
 -- THE Z FIGURES of the text: the lengths of a plan's blocks add up to the product of its extents, which is the layout's total where planning
 -- made the plan; and the blocks are no more than that.
 -- Assumes nothing.
-use Rattle.std.specs.Prelude.{◌≡◌, refl, Bool, true, false, cond, List, [], ◌∷◌, ℕ, zero, suc, ◌+◌, ◌≤◌, ltb, ℤ, length}
+use Rattle.std.specs.Prelude.{◌≡◌, refl, Bool, true, false, cond, List, [], ◌∷◌, ℕ, zero, suc, ◌+◌, ◌≤◌, ltb, ℤ, length, None}
 use Rattle.std.proofs.Common.{ap, ◌∙◌, mul-le-mul_right, arith}
-use Rattle.std.proofs.Math.Option.{none}
 use Rattle.strided.specs.Layout.{extents, total}
 use Rattle.strided.specs.Refusals.{planning_refused}
 use Rattle.strided.specs.Fuse.{plan_axes}
-use Rattle.strided.specs.Plan.{planned, plan_from}
+use Rattle.strided.specs.Plan.{plan_from, the_plan}
 use Rattle.strided.specs.Walk.{CutAxis, ax, cut_axes, starts_from, Block}
 use Rattle.strided.specs.Begin.{plan_extents, plan_blocks}
 use Rattle.strided.specs.Text.{cells_in, cells_of, plan_walk}
@@ -34,18 +33,18 @@ pub walk-cells : (p : Plan) → cells_of (plan_walk p) ≡ total (plan_extents p
 walk-cells p = cells-sum (plan_walk p) ∙ cells-total (plan_extents p) (plan_blocks p)
 
 -- the extents of a plan that planning hands out
-pub planned-extents : (mc : Machine) (es sizes : List ℕ) (ss : List ℤ) (u : Purpose) → planning_refused mc es sizes ss u ≡ none
-    → plan_extents (planned mc es sizes ss u).plan ≡ extents (plan_axes es (length sizes) ss u)
-unfolding planned plan_from
+pub planned-extents : (mc : Machine) (es sizes : List ℕ) (ss : List ℤ) (u : Purpose) → planning_refused mc es sizes ss u ≡ None
+    → plan_extents (the_plan mc es sizes ss u) ≡ extents (plan_axes es (length sizes) ss u)
+unfolding plan_from
 planned-extents mc es sizes ss u h =
     let axs = plan_axes es (length sizes) ss u in
-    rw h (take_counted 0 64 (length axs) (extents axs) (length-extents axs) (plan_few es sizes ss u (accepted es sizes ss u (planning_layout mc es sizes ss u h))))
+    take_counted 0 64 (length axs) (extents axs) (length-extents axs) (plan_few es sizes ss u (accepted es sizes ss u (planning_layout mc es sizes ss u h)))
 
 -- Z: the cells that are printed are the layout's
-pub planned-cells : (mc : Machine) (es sizes : List ℕ) (ss : List ℤ) (u : Purpose) → planning_refused mc es sizes ss u ≡ none
-    → cells_of (plan_walk (planned mc es sizes ss u).plan) ≡ total es
+pub planned-cells : (mc : Machine) (es sizes : List ℕ) (ss : List ℤ) (u : Purpose) → planning_refused mc es sizes ss u ≡ None
+    → cells_of (plan_walk (the_plan mc es sizes ss u)) ≡ total es
 planned-cells mc es sizes ss u h =
-    walk-cells (planned mc es sizes ss u).plan ∙ ap total (planned-extents mc es sizes ss u h) ∙ plan_total es (length sizes) ss u
+    walk-cells (the_plan mc es sizes ss u) ∙ ap total (planned-extents mc es sizes ss u h) ∙ plan_total es (length sizes) ss u
 
 -- ---- the blocks
 

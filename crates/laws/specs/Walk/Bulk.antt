@@ -1,13 +1,11 @@
 -- MANY STEPS IN ONE CALL hand out the blocks of the walk. So many blocks and then so many more are the blocks of one longer call, and a host
 -- that calls again and again, with whatever room each time, gets every block of the walk once and in order.
 -- Assumes nothing.
-use Rattle.std.specs.Prelude.{◌≡◌, refl, ◌↔◌, List, [], ◌∷◌, ◌++◌, map, ℕ, zero, suc, ◌+◌, ◌≤◌, ◌<◌, ℤ, length, take, drop}
+use Rattle.std.specs.Prelude.{◌≡◌, refl, ◌↔◌, List, [], ◌∷◌, ◌++◌, map, ℕ, zero, suc, ◌+◌, ◌≤◌, ◌<◌, ℤ, length, take, drop, Option, None, Some}
 use Rattle.std.proofs.Common.{sym, ap, ap₂, ◌∙◌, zero-add, suc-add, arith, drop_of_length-le, take-add, drop-drop}
 use Rattle.std.proofs.lemmas.List.{map-append, length-map}
-use Rattle.std.proofs.Math.Option.{Option, none, some}
 use Rattle.strided.specs.Base.{nth, and_then}
 use Rattle.strided.specs.Walk.{CutAxis, counters, next}
-use Rattle.strided.specs.Begin.{begun_at}
 use Rattle.strided.specs.Step.{plan_cut_axes, packed, handed_out, stepped, walk_after}
 use Rattle.strided.specs.Bulk.{handing, next_blocks, kept_by, several_of}
 use Rattle.strided.specs.Demand3.{steps_from, Hands, Place}
@@ -23,6 +21,7 @@ use Rattle.laws.specs.Base.Trace.{after-suc}
 use Rattle.laws.specs.Walk.States.{begin, state_after}
 use Rattle.laws.specs.Walk.Reach.{state-nth}
 use Rattle.laws.specs.Walk.Steps.{Ready, wide, at, raw, step-at, walk_is, walk-below, walk-state}
+use Rattle.strided.specs.Begin.{started}
 
 -- ---- at any state
 
@@ -96,16 +95,16 @@ module _ (p : Plan) where
       go (Rejected r) ih = refl
 
   -- block m is step m, and hands out a block
-  pub block_hands : (n m : ℕ) (w : Walk) (s : Stepped) → nth (next_blocks n p w) m ≡ some s → (nth (steps_from p n w) m ≡ some s) × Hands s
+  pub block_hands : (n m : ℕ) (w : Walk) (s : Stepped) → nth (next_blocks n p w) m ≡ Some s → (nth (steps_from p n w) m ≡ Some s) × Hands s
   block_hands zero m w s e = let z : ◌≡◌ {A = ℕ} 0 1 = cc in absurd (omega arith)
   block_hands (suc n) m w s e = go (stepped p w).answer refl m e (λ j f. block_hands n j v s f)
     where
       v : Walk
       v = (stepped p w).walk
 
-      go : (o : Outcome) → (stepped p w).answer ≡ o → (m : ℕ) → nth (handing o (stepped p w) (next_blocks n p v)) m ≡ some s
-          → ((j : ℕ) → nth (next_blocks n p v) j ≡ some s → (nth (steps_from p n v) j ≡ some s) × Hands s)
-          → (nth (stepped p w ∷ steps_from p n v) m ≡ some s) × Hands s
+      go : (o : Outcome) → (stepped p w).answer ≡ o → (m : ℕ) → nth (handing o (stepped p w) (next_blocks n p v)) m ≡ Some s
+          → ((j : ℕ) → nth (next_blocks n p v) j ≡ Some s → (nth (steps_from p n v) j ≡ Some s) × Hands s)
+          → (nth (stepped p w ∷ steps_from p n v) m ≡ Some s) × Hands s
       go Block a zero e ih = let q : stepped p w ≡ s = cc in (e, ap (λ (t : Stepped). t.answer) (sym q) ∙ a)
       go Block a (suc j) e ih = ih j e
       go Ended a m e ih = let z : ◌≡◌ {A = ℕ} 0 1 = cc in absurd (omega arith)
@@ -133,13 +132,13 @@ module _ (p : Plan) (zs : List ℤ) (r : Ready p zs) where
 
   -- the step that hands out the block at c, and the state after i steps
   abbrev pub made : List ℕ → Stepped
-  made c = handed_out (raw p zs r (some c))
+  made c = handed_out (raw p zs r (Some c))
 
   abbrev pub state : ℕ → Walk
   state i = packed (at p zs r (state_after axs i))
 
   state_more : (i n : ℕ) → walk_after p n (state i) ≡ state (i + n)
-  state_more i n = ap (walk_after p n) (sym (walk-state p zs r i)) ∙ sym (walk_more p i n (begun_at p zs).walk) ∙ walk-state p zs r (i + n)
+  state_more i n = ap (walk_after p n) (sym (walk-state p zs r i)) ∙ sym (walk_more p i n (started p zs)) ∙ walk-state p zs r (i + n)
 
   -- from state i on, the blocks i, i + 1, .. of the plan
   pub blocks_from : (n i : ℕ) → next_blocks n p (state i) ≡ map made (take n (drop i (counters axs)))
@@ -151,18 +150,18 @@ module _ (p : Plan) (zs : List ℤ) (r : Ready p zs) where
 
       go : (o : Option (List ℕ)) → state_after axs i ≡ o → next_blocks n p (state (suc i)) ≡ map made (take n (drop (suc i) (counters axs)))
           → next_blocks (suc n) p (packed (at p zs r o)) ≡ map made (take (suc n) (drop i (counters axs)))
-      go none e ih =
+      go None e ih =
           let h : length (counters axs) ≤ i = (nth_none (counters axs) i).0 (sym (state-nth axs (wide p zs r) i) ∙ e) in
-          ap handed (step-at p zs r i none e) ∙ ap (λ (l : List (List ℕ)). map made (take (suc n) l)) (sym (drop_of_length-le (counters axs) h))
-      go (some c) e ih =
+          ap handed (step-at p zs r i None e) ∙ ap (λ (l : List (List ℕ)). map made (take (suc n) l)) (sym (drop_of_length-le (counters axs) h))
+      go (Some c) e ih =
           let q : state (suc i) ≡ packed (at p zs r (next axs c)) =
           ap (λ (o : Option (List ℕ)). packed (at p zs r o)) (after-suc (next axs) i (begin axs) ∙ ap (and_then (next axs)) e) in
-          ap handed (step-at p zs r i (some c) e)
+          ap handed (step-at p zs r i (Some c) e)
           ∙ ap (λ (l : List Stepped). made c ∷ l) (ap (next_blocks n p) (sym q) ∙ ih)
           ∙ ap (λ (l : List (List ℕ)). map made (take (suc n) l)) (sym (nth_drop (counters axs) i c (sym (state-nth axs (wide p zs r) i) ∙ e)))
 
   -- ONE CALL from the beginning: the first n blocks of the plan, in document 01's order, or all of them
-  pub first_blocks : (n : ℕ) → next_blocks n p (begun_at p zs).walk ≡ map made (take n (counters axs))
+  pub first_blocks : (n : ℕ) → next_blocks n p (started p zs) ≡ map made (take n (counters axs))
   first_blocks n = ap (next_blocks n p) (walk-state p zs r 0) ∙ blocks_from n 0
 
   -- a state of the walk is not refused, so the call returns the state after its blocks
@@ -170,8 +169,8 @@ module _ (p : Plan) (zs : List ℤ) (r : Ready p zs) where
   kept i w = go (state_after axs i) refl
     where
       go : (o : Option (List ℕ)) → state_after axs i ≡ o → kept_by (stepped p (packed (at p zs r o))).answer w ≡ w
-      go none e = ap (λ (s : Stepped). kept_by s.answer w) (step-at p zs r i none e)
-      go (some c) e = ap (λ (s : Stepped). kept_by s.answer w) (step-at p zs r i (some c) e)
+      go None e = ap (λ (s : Stepped). kept_by s.answer w) (step-at p zs r i None e)
+      go (Some c) e = ap (λ (s : Stepped). kept_by s.answer w) (step-at p zs r i (Some c) e)
 
   -- MANY CALLS, each with any room: the blocks of one call with room for all
   pub calls_are : (ns : List ℕ) (i : ℕ) → called ns p (state i) ≡ next_blocks (sum ns (λ n. n)) p (state i)
@@ -193,25 +192,25 @@ module _ (p : Plan) (zs : List ℤ) (r : Ready p zs) where
 
   -- block m of one call is the step m that hands out a block
   pub hands_block : (n m : ℕ) (s : Stepped)
-      → (nth (next_blocks n p (begun_at p zs).walk) m ≡ some s) ↔ ((nth (steps_from p n (begun_at p zs).walk) m ≡ some s) × Hands s)
-  hands_block n m s = (block_hands p n m (begun_at p zs).walk s, λ h. from (state_after axs m) refl h.0 h.1)
+      → (nth (next_blocks n p (started p zs)) m ≡ Some s) ↔ ((nth (steps_from p n (started p zs)) m ≡ Some s) × Hands s)
+  hands_block n m s = (block_hands p n m (started p zs) s, λ h. from (state_after axs m) refl h.0 h.1)
     where
-      from : (o : Option (List ℕ)) → state_after axs m ≡ o → nth (steps_from p n (begun_at p zs).walk) m ≡ some s → Hands s
-          → nth (next_blocks n p (begun_at p zs).walk) m ≡ some s
-      from none e h a =
-          let q : s ≡ handed_out (raw p zs r none) = walk_is p zs r n m s h ∙ ap (λ (o : Option (List ℕ)). handed_out (raw p zs r o)) e in
+      from : (o : Option (List ℕ)) → state_after axs m ≡ o → nth (steps_from p n (started p zs)) m ≡ Some s → Hands s
+          → nth (next_blocks n p (started p zs)) m ≡ Some s
+      from None e h a =
+          let q : s ≡ handed_out (raw p zs r None) = walk_is p zs r n m s h ∙ ap (λ (o : Option (List ℕ)). handed_out (raw p zs r o)) e in
           let f : Block ≡ Ended = sym a ∙ ap (λ (t : Stepped). t.answer) q in
           let z : ◌≡◌ {A = ℕ} 0 1 = cc f in absurd (omega arith)
-      from (some c) e h a =
+      from (Some c) e h a =
           let q : s ≡ made c = walk_is p zs r n m s h ∙ ap (λ (o : Option (List ℕ)). handed_out (raw p zs r o)) e in
-          let b : m < n = walk-below p zs r n m (begun_at p zs).walk s h in
+          let b : m < n = walk-below p zs r n m (started p zs) s h in
           ap (λ (l : List Stepped). nth l m) (first_blocks n)
           ∙ nth-map made (take n (counters axs)) m c (nth-take (counters axs) n m b ∙ sym (state-nth axs (wide p zs r) m) ∙ e)
-          ∙ ap some (sym q)
+          ∙ ap Some (sym q)
 
   -- a place of demand 3 is a block of the call and a k below its length
   pub place_block : (es sizes : List ℕ) (ss : List ℤ) (u : Purpose) (n m k : ℕ) (s : Stepped)
-      → Place es sizes ss u p (steps_from p n (begun_at p zs).walk) m k s ↔ ((nth (next_blocks n p (begun_at p zs).walk) m ≡ some s) × (k < s.length))
+      → Place es sizes ss u p (steps_from p n (started p zs)) m k s ↔ ((nth (next_blocks n p (started p zs)) m ≡ Some s) × (k < s.length))
   place_block es sizes ss u n m k s = (
     λ q. ((hands_block n m s).1 (q.there, q.hands), q.below),
     λ q. let h = (hands_block n m s).0 q.0 in record { there = h.0; hands = h.1; below = q.1 },

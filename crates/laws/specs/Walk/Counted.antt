@@ -1,8 +1,7 @@
 -- THE NUMBER IS THE PLACE: the counters c of a block stand in document 01's list at `number_of c`, and after n steps the number is n.
 -- Assumes nothing.
-use Rattle.std.specs.Prelude.{◌≡◌, refl, List, [], ◌∷◌, map, ℕ, zero, suc, ◌+◌, ◌-◌, ◌*◌, ◌/◌, ◌≤◌, ◌<◌, length}
+use Rattle.std.specs.Prelude.{◌≡◌, refl, List, [], ◌∷◌, map, ℕ, zero, suc, ◌+◌, ◌-◌, ◌*◌, ◌/◌, ◌≤◌, ◌<◌, length, Some}
 use Rattle.std.proofs.Common.{sym, ap, ◌∙◌, subst, div-add-mod', arith, lt-ltb}
-use Rattle.std.proofs.Math.Option.{some}
 use Rattle.strided.specs.Base.{run, nth}
 use Rattle.strided.specs.Walk.{CutAxis, ax, starts_from, starts_of, len_at, tiles, inner, in_tile, counters, tile_of, cell_at}
 use Rattle.laws.specs.Base.Lists.{length_run}
@@ -119,20 +118,20 @@ counters_stand (ax e w ∷ axs) (s ∷ v) hw h o =
     (stands_map (λ v. s ∷ v) one (inner axs (tile_of axs v)) (place_in_tile axs v) v (inner_stand axs v hw.1 h.1))
 
 -- the counters c are those of block `number_of c`
-pub number-nth : (axs : List CutAxis) (c : List ℕ) → Wide axs → Inside axs c → OnStart axs c → nth (counters axs) (number_of axs c) ≡ some c
+pub number-nth : (axs : List CutAxis) (c : List ℕ) → Wide axs → Inside axs c → OnStart axs c → nth (counters axs) (number_of axs c) ≡ Some c
 number-nth axs c hw h o = stands_nth (counters axs) (number_of axs c) c (counters_stand axs c hw h o)
 
 -- no two blocks have the same counters
-pub counters_once : (axs : List CutAxis) → Wide axs → (m n : ℕ) (c : List ℕ) → nth (counters axs) m ≡ some c → nth (counters axs) n ≡ some c → m ≡ n
+pub counters_once : (axs : List CutAxis) → Wide axs → (m n : ℕ) (c : List ℕ) → nth (counters axs) m ≡ Some c → nth (counters axs) n ≡ Some c → m ≡ n
 counters_once axs hw m n c p q =
-    let sm : state_after axs m ≡ some c = state-nth axs hw m ∙ p in
-    let sn : state_after axs n ≡ some c = state-nth axs hw n ∙ q in
+    let sm : state_after axs m ≡ Some c = state-nth axs hw m ∙ p in
+    let sn : state_after axs n ≡ Some c = state-nth axs hw n ∙ q in
     let a : MeetsPlan axs m 0 (cell_at c 0) = record { c = c; state = sm; below = length_pos axs m c hw sm; index = refl } in
     let b : MeetsPlan axs n 0 (cell_at c 0) = record { c = c; state = sn; below = length_pos axs n c hw sn; index = refl } in
     (meets_once axs hw m 0 n 0 (cell_at c 0) a b).0
 
 -- after n steps the number of the block handed out is n
-pub number-after : (axs : List CutAxis) → Wide axs → (n : ℕ) (c : List ℕ) → state_after axs n ≡ some c → number_of axs c ≡ n
+pub number-after : (axs : List CutAxis) → Wide axs → (n : ℕ) (c : List ℕ) → state_after axs n ≡ Some c → number_of axs c ≡ n
 number-after axs hw n c e =
     let r = (reach axs c hw).0 (n, e) in
     counters_once axs hw (number_of axs c) n c (number-nth axs c hw r.0 r.1) (sym (state-nth axs hw n) ∙ e)

@@ -1,9 +1,8 @@
 -- A plan's extents with its block sizes: the cut axes have block sizes of 1 or more, the same indices and the same number of axes; where a
 -- walk over them begins.
 -- Assumes nothing.
-use Rattle.std.specs.Prelude.{◌≡◌, refl, ◌↔◌, Bool, true, false, cond, ◌||◌, List, [], ◌∷◌, ℕ, zero, suc, eqb, length}
+use Rattle.std.specs.Prelude.{◌≡◌, refl, ◌↔◌, Bool, true, false, cond, ◌||◌, List, [], ◌∷◌, ℕ, zero, suc, eqb, length, None, Some}
 use Rattle.std.proofs.Common.{ap, arith, ne_eqb, lt-ltb}
-use Rattle.std.proofs.Math.Option.{none, some}
 use Rattle.strided.specs.Base.{or_else}
 use Rattle.strided.specs.Layout.{Within, has_zero}
 use Rattle.strided.specs.Walk.{CutAxis, ax, effective, cut, cut_axes, zeros}
@@ -44,17 +43,17 @@ length_inside (ax e w ∷ axs) (x ∷ c) i = ap suc (length_inside axs c i.1)
 
 -- ---- the beginning
 
-begin-one : (e w : ℕ) (es bs : List ℕ) → begin (cut es bs) ≡ cond (has_zero es) none (some (zeros (cut es bs)))
-    → begin (ax e w ∷ cut es bs) ≡ cond (eqb e 0 || has_zero es) none (some (zeros (ax e w ∷ cut es bs)))
+begin-one : (e w : ℕ) (es bs : List ℕ) → begin (cut es bs) ≡ cond (has_zero es) None (Some (zeros (cut es bs)))
+    → begin (ax e w ∷ cut es bs) ≡ cond (eqb e 0 || has_zero es) None (Some (zeros (ax e w ∷ cut es bs)))
 begin-one zero w es bs h = refl
 begin-one (suc e) w es bs h = rw (lt-ltb 0 (suc e) (omega arith), ne_eqb (suc e) 0 (λ q. omega arith), h) (go (has_zero es))
   where
-    go : (b : Bool) → or_else none (λ v. 0 ∷ v) (cond b none (some (zeros (cut es bs)))) ≡ cond b none (some (0 ∷ zeros (cut es bs)))
+    go : (b : Bool) → or_else None (λ v. 0 ∷ v) (cond b None (Some (zeros (cut es bs)))) ≡ cond b None (Some (0 ∷ zeros (cut es bs)))
     go true = refl
     go false = refl
 
 -- a walk begins with all counters 0, or has ended at once where an extent is 0
-pub begin_of : (es bs : List ℕ) → begin (cut es bs) ≡ cond (has_zero es) none (some (zeros (cut es bs)))
+pub begin_of : (es bs : List ℕ) → begin (cut es bs) ≡ cond (has_zero es) None (Some (zeros (cut es bs)))
 begin_of [] bs = refl
 begin_of (e ∷ es) [] = begin-one e 1 es [] (begin_of es [])
 begin_of (e ∷ es) (b ∷ bs) = begin-one e (effective e b) es bs (begin_of es bs)

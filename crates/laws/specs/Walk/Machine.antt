@@ -1,11 +1,10 @@
 -- THE STATES OF A WALK, as lists: the test `reachable` takes exactly the states that a walk that may begin comes to. `ok` says whether it may.
 -- Assumes nothing.
-use Rattle.std.specs.Prelude.{◌≡◌, refl, ◌↔◌, Bool, true, false, ◌&&◌, cond, ℕ, suc, ◌%◌, ◌<◌, ltb, eqb, length, ℤ, pos, ◌-ℤ◌}
+use Rattle.std.specs.Prelude.{◌≡◌, refl, ◌↔◌, Bool, true, false, ◌&&◌, cond, ℕ, suc, ◌%◌, ◌<◌, ltb, eqb, length, ℤ, pos, ◌-ℤ◌, Option, None, Some}
 use Rattle.std.proofs.Common.{sym, ap, ap₂, ◌∙◌, arith, ltb-true, lt-ltb, eqb-true, eq-eqb}
 use Rattle.std.proofs.lemmas.Bool.{false≢true}
 use mathlib.Core.List.{List, [], ◌∷◌, cons≢nil}
 use Rattle.std.proofs.Math.IntN.{zero-*ℤ, +ℤ_idr, +ℤ-neg_ℤ_cancel, -ℤ-+ℤ_cancel}
-use Rattle.std.proofs.Math.Option.{Option, none, some}
 use Rattle.strided.specs.Layout.{dot}
 use Rattle.strided.specs.Walk.{CutAxis, ax, counters, zeros}
 use Rattle.strided.specs.Step.{WalkState, offsets_from, starts_from, state_of, insideb, on_startb, zerosb, reachable}
@@ -98,10 +97,10 @@ pub record Begun (axs : List CutAxis) (tss : List (List ℤ)) (ok : List ℤ →
 module _ (axs : List CutAxis) (tss : List (List ℤ)) (ok : List ℤ → Bool) (hw : Wide axs) where
   pub reachable_of : (zs : List ℤ) → length zs ≡ length tss → ok zs ≡ true → (n : ℕ) (m : Option (List ℕ)) → state_after axs n ≡ m
       → reachable axs tss ok (state_of axs tss zs m) ≡ true
-  reachable_of zs hl ho n none e =
+  reachable_of zs hl ho n None e =
       both_and _ _ ((zeros_test axs (zeros axs)).1 refl)
       (both_and _ _ (eq-eqb (length zs) (length tss) hl) (ap ok (starts_zeros axs tss zs hl) ∙ ho))
-  reachable_of zs hl ho n (some c) e =
+  reachable_of zs hl ho n (Some c) e =
       let r = (reach axs c hw).0 (n, e) in
       both_and _ _ (both_and _ _ ((inside_test axs c).1 r.0) ((start_test axs c).1 r.1))
       (both_and _ _ (eq-eqb (length (offsets_from tss zs c)) (length tss) (length_offsets tss zs c hl)) (ap ok (starts_offsets tss zs c hl) ∙ ho))
@@ -124,7 +123,7 @@ module _ (axs : List CutAxis) (tss : List (List ℤ)) (ok : List ℤ → Bool) (
           let hl : length s.offsets ≡ length tss = eqb-true (length s.offsets) (length tss) u.0 in
           let r = (reach axs s.counters hw).1 ((inside_test axs s.counters).0 q.0, (start_test axs s.counters).0 q.1) in
           let zs = starts_from tss s.offsets s.counters in
-          let same : s ≡ state_of axs tss zs (some s.counters) =
+          let same : s ≡ state_of axs tss zs (Some s.counters) =
           λ i. record { running = e i; counters = s.counters; offsets = sym (offsets_starts tss s.offsets s.counters hl) i } in
           record {
             starts = zs;
@@ -140,7 +139,7 @@ module _ (axs : List CutAxis) (tss : List (List ℤ)) (ok : List ℤ → Bool) (
           let hz : s.counters ≡ zeros axs = (zeros_test axs s.counters).0 p.0 in
           let zs = starts_from tss s.offsets s.counters in
           let ho : zs ≡ s.offsets = ap (starts_from tss s.offsets) hz ∙ starts_zeros axs tss s.offsets hl in
-          let same : s ≡ state_of axs tss zs none =
+          let same : s ≡ state_of axs tss zs None =
           λ i. record { running = e i; counters = hz i; offsets = sym ho i } in
           let n = length (counters axs) in
           record {

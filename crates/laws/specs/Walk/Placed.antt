@@ -1,14 +1,13 @@
 -- BLOCKS AS THEIR USER HAS THEM: each operand's offset, and how many cells. Those of a plan from the starts zs, in document 01's order, are
 -- those that the steps of a walk from these starts hand out.
 -- Assumes nothing.
-use Rattle.std.specs.Prelude.{◌≡◌, refl, true, List, [], ◌++◌, map, ℕ, ◌+◌, ◌≤◌, ℤ, pos, length, take, drop}
+use Rattle.std.specs.Prelude.{◌≡◌, refl, true, List, [], ◌++◌, map, ℕ, ◌+◌, ◌≤◌, ℤ, pos, length, take, drop, Option, None, Some}
 use Rattle.std.proofs.Common.{sym, ap, ◌∙◌, arith, drop_of_length-le, take-append-drop, drop-drop}
 use Rattle.std.proofs.lemmas.Bool.{false≢true}
 use Rattle.std.proofs.lemmas.Simd.{map-map}
-use Rattle.std.proofs.Math.Option.{Option, none, some}
 use Rattle.std.proofs.lemmas.List.{length-map}
 use Rattle.strided.specs.Walk.{length_at, counters}
-use Rattle.strided.specs.Begin.{plan_rows, begun_at}
+use Rattle.strided.specs.Begin.{plan_rows, started}
 use Rattle.strided.specs.Step.{offsets_from, plan_cut_axes, packed, walk_after}
 use Rattle.strided.specs.Bulk.{next_blocks}
 use Rattle.strided.specs.declared.Plan.{Plan}
@@ -48,7 +47,7 @@ module _ (p : Plan) (zs : List ℤ) (r : Ready p zs) where
   all_placed l = map-map (placed_of p.operands) (made p zs r) l ∙ ap (λ (f : List ℕ → Placed). map f l) (λ i c. made-placed c i)
 
   -- the next m blocks after n steps are the plan's blocks n, n + 1, ..
-  pub placed_part : (m n : ℕ) → map (placed_of p.operands) (next_blocks m p (walk_after p n (begun_at p zs).walk)) ≡ take m (drop n (placed_walk p zs))
+  pub placed_part : (m n : ℕ) → map (placed_of p.operands) (next_blocks m p (walk_after p n (started p zs))) ≡ take m (drop n (placed_walk p zs))
   placed_part m n =
       ap (map (placed_of p.operands)) (ap (next_blocks m p) (walk-state p zs r n) ∙ blocks_from p zs r m n)
       ∙ all_placed (take m (drop n (counters (plan_cut_axes p))))
@@ -56,20 +55,20 @@ module _ (p : Plan) (zs : List ℤ) (r : Ready p zs) where
       ∙ ap (take m) (map-drop (placed_from p zs) n (counters (plan_cut_axes p)))
 
   -- and so they come next
-  pub placed-next : (m n : ℕ) → drop n (placed_walk p zs) ≡ map (placed_of p.operands) (next_blocks m p (walk_after p n (begun_at p zs).walk)) ++ drop (n + m) (placed_walk p zs)
+  pub placed-next : (m n : ℕ) → drop n (placed_walk p zs) ≡ map (placed_of p.operands) (next_blocks m p (walk_after p n (started p zs))) ++ drop (n + m) (placed_walk p zs)
   placed-next m n =
       sym (take-append-drop m (drop n (placed_walk p zs)))
       ∙ ap (λ (l : List Placed). l ++ drop m (drop n (placed_walk p zs))) (sym (placed_part m n))
-      ∙ ap (λ (l : List Placed). map (placed_of p.operands) (next_blocks m p (walk_after p n (begun_at p zs).walk)) ++ l) (drop-drop m n (placed_walk p zs))
+      ∙ ap (λ (l : List Placed). map (placed_of p.operands) (next_blocks m p (walk_after p n (started p zs))) ++ l) (drop-drop m n (placed_walk p zs))
 
   -- where the walk has ended none is left
-  pub placed-over : (n : ℕ) → (walk_after p n (begun_at p zs).walk).ended ≡ true → drop n (placed_walk p zs) ≡ []
+  pub placed-over : (n : ℕ) → (walk_after p n (started p zs)).ended ≡ true → drop n (placed_walk p zs) ≡ []
   placed-over n h = go (state_after (plan_cut_axes p) n) refl (sym (ap (λ (w : Walk). w.ended) (walk-state p zs r n)) ∙ h)
     where
       go : (o : Option (List ℕ)) → state_after (plan_cut_axes p) n ≡ o → (packed (at p zs r o)).ended ≡ true → drop n (placed_walk p zs) ≡ []
-      go none e q =
+      go None e q =
           let l = (nth_none (counters (plan_cut_axes p)) n).0 (sym (state-nth (plan_cut_axes p) (wide p zs r) n) ∙ e) in
           let m = length-map (counters (plan_cut_axes p)) (placed_from p zs) in
           let short : length (placed_walk p zs) ≤ n = omega (arith, l, m) in
           drop_of_length-le (placed_walk p zs) short
-      go (some c) e q = absurd (false≢true q)
+      go (Some c) e q = absurd (false≢true q)

@@ -1,10 +1,9 @@
 -- THE PLACES OF A WALK: each meets one plan index within the extents, each such index is met at exactly one, and the walk has ended exactly
 -- when all were met. Demand 3 for the plan alone.
 -- Assumes nothing.
-use Rattle.std.specs.Prelude.{◌≡◌, refl, ◌↔◌, Bool, true, false, List, [], ◌∷◌, ℕ, ◌+◌, ◌-◌, ◌≤◌, ◌<◌, ltb}
+use Rattle.std.specs.Prelude.{◌≡◌, refl, ◌↔◌, Bool, true, false, List, [], ◌∷◌, ℕ, ◌+◌, ◌-◌, ◌≤◌, ◌<◌, ltb, Option, None, Some}
 use Rattle.std.proofs.Common.{sym, ap, ap₂, ◌∙◌, ltb-true, ltb-false}
 use native.Mathlib.Omega.{arith}
-use Rattle.std.proofs.Math.Option.{Option, none, some}
 use Rattle.strided.specs.Base.{run}
 use Rattle.strided.specs.Walk.{CutAxis, ax, counters, length_at, block, block_at, blocks_of, cell_at}
 use Rattle.laws.specs.Base.Lists.{nth-before, run-all}
@@ -44,7 +43,7 @@ cell_inj axs (s ∷ v) k j hk hj q = let z : s + k ≡ s + j = cc in omega arith
 -- step m hands out the block at c, k is below its length, and y is the plan index of its cell k
 pub record MeetsPlan (axs : List CutAxis) (m k : ℕ) (y : List ℕ) : Type 0 where
   pub c : List ℕ
-  pub state : state_after axs m ≡ some c
+  pub state : state_after axs m ≡ Some c
   pub below : k < length_at axs c
   pub index : y ≡ cell_at c k
 
@@ -54,7 +53,7 @@ length-within (ax e w ∷ axs) [] hw i = absurd i
 length-within (ax e w ∷ axs) (s ∷ v) hw i = omega (arith, hw.0, i.0)
 
 -- every block has length 1 or more
-pub length_pos : (axs : List CutAxis) (m : ℕ) (c : List ℕ) → Wide axs → state_after axs m ≡ some c → 0 < length_at axs c
+pub length_pos : (axs : List CutAxis) (m : ℕ) (c : List ℕ) → Wide axs → state_after axs m ≡ Some c → 0 < length_at axs c
 length_pos axs m c hw e = length-within axs c hw ((reach axs c hw).0 (m, e)).0
 
 module _ (axs : List CutAxis) (hw : Wide axs) where
@@ -77,7 +76,7 @@ module _ (axs : List CutAxis) (hw : Wide axs) where
   meets-all y i =
       let s : 0 < sum (counters axs) (hits y) = omega (arith, cover_sum axs y hw, inside_one axs y i) in
       let r = sum_pos (hits y) (counters axs) s in
-      let st : state_after axs r.0 ≡ some r.1 = state-nth axs hw r.0 ∙ r.2 in
+      let st : state_after axs r.0 ≡ Some r.1 = state-nth axs hw r.0 ∙ r.2 in
       let q = cells-place r.1 (length_at axs r.1) y (length_pos axs r.0 r.1 hw st) r.3 in
       (r.0, q.0, record { c = r.1; state = st; below = q.1; index = q.2 })
 
@@ -104,20 +103,20 @@ module _ (axs : List CutAxis) (hw : Wide axs) where
       mi = go (ltb m i) (ltb i m) refl refl
 
       cs : p.c ≡ q.c
-      cs = let e : state_after axs m ≡ state_after axs i = ap (state_after axs) mi in let f : some p.c ≡ some q.c = sym p.state ∙ e ∙ q.state in cc
+      cs = let e : state_after axs m ≡ state_after axs i = ap (state_after axs) mi in let f : Some p.c ≡ Some q.c = sym p.state ∙ e ∙ q.state in cc
 
   -- the walk has ended exactly when every index was met before
-  pub ended_iff : (m : ℕ) → (state_after axs m ≡ none) ↔ ((y : List ℕ) → Inside axs y → (i : ℕ) × (k : ℕ) × (i < m) × MeetsPlan axs i k y)
+  pub ended_iff : (m : ℕ) → (state_after axs m ≡ None) ↔ ((y : List ℕ) → Inside axs y → (i : ℕ) × (k : ℕ) × (i < m) × MeetsPlan axs i k y)
   ended_iff m = (to, λ h. from h (state_after axs m) refl)
     where
-      to : state_after axs m ≡ none → (y : List ℕ) → Inside axs y → (i : ℕ) × (k : ℕ) × (i < m) × MeetsPlan axs i k y
+      to : state_after axs m ≡ None → (y : List ℕ) → Inside axs y → (i : ℕ) × (k : ℕ) × (i < m) × MeetsPlan axs i k y
       to e y i =
           let r = meets-all y i in
           (r.0, r.1, nth-before (counters axs) m r.0 r.2.c (sym (state-nth axs hw m) ∙ e) (sym (state-nth axs hw r.0) ∙ r.2.state), r.2)
 
-      from : ((y : List ℕ) → Inside axs y → (i : ℕ) × (k : ℕ) × (i < m) × MeetsPlan axs i k y) → (s : Option (List ℕ)) → state_after axs m ≡ s → s ≡ none
-      from h none e = refl
-      from h (some c) e =
+      from : ((y : List ℕ) → Inside axs y → (i : ℕ) × (k : ℕ) × (i < m) × MeetsPlan axs i k y) → (s : Option (List ℕ)) → state_after axs m ≡ s → s ≡ None
+      from h None e = refl
+      from h (Some c) e =
           let p : MeetsPlan axs m 0 (cell_at c 0) = record { c = c; state = e; below = length_pos axs m c hw e; index = refl } in
           let r = h (cell_at c 0) (meets_inside m 0 (cell_at c 0) p) in
           let o = meets_once m 0 r.0 r.1 (cell_at c 0) p r.3 in

@@ -1,10 +1,9 @@
 -- REACH: a walk comes to exactly the counters that lie within the extents and, on axis 0, at the start of a tile; the counters after n steps
 -- are those of block n.
 -- Assumes nothing.
-use Rattle.std.specs.Prelude.{◌≡◌, refl, ◌↔◌, List, [], ◌∷◌, ℕ, zero, suc, ◌+◌, ◌*◌, ◌/◌, ◌%◌, ◌≤◌, ◌<◌}
+use Rattle.std.specs.Prelude.{◌≡◌, refl, ◌↔◌, List, [], ◌∷◌, ℕ, zero, suc, ◌+◌, ◌*◌, ◌/◌, ◌%◌, ◌≤◌, ◌<◌, Some}
 use Rattle.std.proofs.Common.{sym, ap, ◌∙◌, div-add-mod', arith, lt-ltb}
 use Rattle.std.proofs.Math.Nat.{zero-div}
-use Rattle.std.proofs.Math.Option.{some}
 use Rattle.strided.specs.Base.{nth}
 use Rattle.strided.specs.Walk.{CutAxis, ax, starts_from, starts_of, tiles, inner, in_tile, counters, next}
 use Rattle.laws.specs.Walk.States.{begin, Wide, Inside, state_after, Comes, OnStart}
@@ -83,4 +82,4 @@ reach axs c hw = (to, from)
     from : Inside axs c × OnStart axs c → Comes axs c
     from h =
         let p = sum_pos (same_list c) (counters axs) ((counters_iff axs c hw).1 h) in
-        (p.0, state-nth axs hw p.0 ∙ p.2 ∙ ap some (sym (same_list_pos c p.1 p.3)))
+        (p.0, state-nth axs hw p.0 ∙ p.2 ∙ ap Some (sym (same_list_pos c p.1 p.3)))

@@ -2,31 +2,31 @@
 -- Assumes nothing.
 use Rattle.std.proofs.Math.Path.{◌≡◌, refl, sym, ap}
 use Rattle.std.proofs.Common.{◌∙◌, ⊎_elim}
-use Rattle.std.specs.Prelude.{◌↔◌, ◌⊎◌, Bool, ℕ, ◌≤◌, pos, length, take, drop}
+use Rattle.std.specs.Prelude.{◌↔◌, ◌⊎◌, Bool, ℕ, ◌≤◌, pos, length, take, drop, Option, None, Some}
 use Rattle.std.proofs.Math.Logic.{inl, inr}
 use Rattle.std.proofs.Math.Bool.{true, false, not, not-not}
 use mathlib.Core.List.{List}
-use Rattle.std.proofs.Math.Option.{Option, none, some}
 use native.Mathlib.Omega.{arith}
 use Rattle.std.proofs.Math.IntN.{ℤ}
 use Rattle.std.proofs.Math.ListN.{length-take}
 use borrow.Author.Tests.{ltb-false}
 use Rattle.strided.specs.Base.{padded}
 use Rattle.strided.specs.Refusals.{refused_by}
-use Rattle.strided.specs.Begin.{plan_extents, plan_rows, begin_refused, begun_at}
-use Rattle.strided.specs.Step.{reachable, plan_cut_axes, unpacked, packed, tidy, blank, blank_z, may_begin, handed_out, step_rows, stepped, Reached}
+use Rattle.strided.specs.Begin.{plan_extents, plan_rows, begin_refused, begun_at, started}
+use Rattle.strided.specs.Step.{reachable, plan_cut_axes, unpacked, packed, tidy, blank, blank_z, may_begin, handed_out, step_rows, stepped, Reached, walk_after}
 use Rattle.strided.specs.declared.Refusal.TheVariants.{State}
 use Rattle.strided.specs.declared.Outcome.TheVariants.{Rejected}
 use Rattle.strided.specs.declared.Plan.{Plan}
 use Rattle.strided.specs.declared.Walk.{Walk}
 use Rattle.strided.specs.declared.Stepped.{Stepped}
+use Rattle.laws.specs.Refusals.Rows.{served_none, served_is}
 use Rattle.laws.specs.Base.Tests.{and_both}
 use Rattle.laws.specs.Base.Arrays.{blank-ℕ, blank-ℤ, padded-take}
 use Rattle.laws.specs.Base.Refusals.{NoneApplies, none_applies}
 use Rattle.laws.specs.Walk.States.{state_after}
 use Rattle.laws.specs.Walk.Cuts.{axes_wide}
 use Rattle.laws.specs.Walk.Machine.{Begun, reach-state}
-use Rattle.laws.specs.Walk.Steps.{Ready, ready, none_of, served_walk, raw, step-at, walk-state}
+use Rattle.laws.specs.Walk.Steps.{Ready, ready, none_of, raw, step-at, walk-state}
 
 -- ---- a plan and a walk as values have them
 
@@ -35,7 +35,7 @@ pub record Sized (p : Plan) (w : Walk) : Type 0 where
   pub counters-all : length w.counters ≡ 64
   pub offsets_all : length w.offsets ≡ 8
 
-module _ (p : Plan) (w : Walk) (z : Sized p w) (ok : refused_by (step_rows p) ≡ none) where
+module _ (p : Plan) (w : Walk) (z : Sized p w) (ok : refused_by (step_rows p) ≡ None) where
   all-axes : length (plan_extents p) ≡ p.rank
   unfolding NoneApplies
   all-axes =
@@ -48,15 +48,15 @@ module _ (p : Plan) (w : Walk) (z : Sized p w) (ok : refused_by (step_rows p) �
   unfolding begun_at
   reached_taken q h =
       let zs : List ℤ = q.starts in
-      let b : begin_refused p zs ≡ none = served_walk (begin_refused p zs) _ q.begins in
+      let b : begin_refused p zs ≡ None = served_none (begin_refused p zs) _ q.begins in
       let r : Ready p zs = ready p zs all-axes b in
       let o : Option (List ℕ) = state_after (plan_cut_axes p) q.steps in
-      let e : stepped p w ≡ handed_out (raw p zs r o) = ap (stepped p) (q.comes ∙ walk-state p zs r q.steps) ∙ step-at p zs r q.steps o refl in
+      let e : stepped p w ≡ handed_out (raw p zs r o) = ap (stepped p) (q.comes ∙ ap (walk_after p q.steps) (served_is (begin_refused p zs) _ q.begins) ∙ walk-state p zs r q.steps) ∙ step-at p zs r q.steps o refl in
       differ o zs r (sym (ap (λ (s : Stepped). s.answer) e) ∙ h)
     where
       differ : (o : Option (List ℕ)) (zs : List ℤ) (r : Ready p zs) → (handed_out (raw p zs r o)).answer ≡ Rejected State → ⊥
-      differ none zs r h = let y : ◌≡◌ {A = ℕ} 0 1 = cc h in omega arith
-      differ (some c) zs r h = let y : ◌≡◌ {A = ℕ} 0 1 = cc h in omega arith
+      differ None zs r h = let y : ◌≡◌ {A = ℕ} 0 1 = cc h in omega arith
+      differ (Some c) zs r h = let y : ◌≡◌ {A = ℕ} 0 1 = cc h in omega arith
 
   -- a state that passes the test is reached
   tested_reached : tidy p w ≡ true → reachable (plan_cut_axes p) (plan_rows p) (may_begin p) (unpacked p w) ≡ true → Reached p w
@@ -64,7 +64,7 @@ module _ (p : Plan) (w : Walk) (z : Sized p w) (ok : refused_by (step_rows p) �
   tested_reached t c =
       let b : Begun (plan_cut_axes p) (plan_rows p) (may_begin p) (unpacked p w) = (reach-state (plan_cut_axes p) (plan_rows p) (may_begin p) (axes_wide (plan_extents p) _) (unpacked p w)).1 c in
       let zs : List ℤ = b.starts in
-      let n : begin_refused p zs ≡ none = none_of (begin_refused p zs) b.may in
+      let n : begin_refused p zs ≡ None = none_of (begin_refused p zs) b.may in
       let r : Ready p zs = ready p zs all-axes n in
       let blanks = and_both (blank (drop p.rank w.counters)) (blank_z (drop p.operands w.offsets)) t in
       let e₁ : w.ended ≡ not (not w.ended) = sym (not-not w.ended) in
@@ -73,6 +73,7 @@ module _ (p : Plan) (w : Walk) (z : Sized p w) (ok : refused_by (step_rows p) �
       let back : w ≡ packed (unpacked p w) = λ i. record { ended = e₁ i; counters = e₂ i; offsets = e₃ i } in
       record {
         starts = zs;
+        first = started p zs;
         begins = rw n;
         steps = b.n;
         comes = back ∙ ap packed b.comes ∙ sym (walk-state p zs r b.n);
@@ -90,7 +91,7 @@ module _ (p : Plan) (w : Walk) (z : Sized p w) (ok : refused_by (step_rows p) �
       go false t b c = inl (rw (ok, t))
 
 -- ROW 10, where rows 1 and 2 pass: a state is refused with 10 exactly if no begun walk of the plan reaches it; and taken exactly if one does
-module _ (p : Plan) (w : Walk) (z : Sized p w) (ok : refused_by (step_rows p) ≡ none) where
+module _ (p : Plan) (w : Walk) (z : Sized p w) (ok : refused_by (step_rows p) ≡ None) where
   pub row10-refused : ((stepped p w).answer ≡ Rejected State) ↔ (Reached p w → ⊥)
   row10-refused = (λ h q. reached_taken p w z ok q h, λ n. ⊎_elim (λ h. h) (λ q. absurd (n q)) (either p w z ok))
 

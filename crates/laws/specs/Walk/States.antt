@@ -1,8 +1,7 @@
 -- The words that the laws of a walk use: indices and tile starts within cut axes, the cells of a block, where a walk begins, its counters
 -- after n steps.
 -- Assumes nothing.
-use Rattle.std.specs.Prelude.{◌≡◌, cond, List, [], ◌∷◌, map, ℕ, ◌%◌, ◌<◌, ltb}
-use Rattle.std.proofs.Math.Option.{Option, none, some}
+use Rattle.std.specs.Prelude.{◌≡◌, cond, List, [], ◌∷◌, map, ℕ, ◌%◌, ◌<◌, ltb, Option, None, Some}
 use Rattle.strided.specs.Base.{or_else, run, after}
 use Rattle.strided.specs.Walk.{CutAxis, ax, Block, block, next}
 
@@ -31,8 +30,8 @@ cells (block (c ∷ v) n) = map (λ k. k ∷ v) (run c n)
 
 -- where a walk begins: all counters 0, or at once ended if an extent is 0
 abbrev pub begin : List CutAxis → Option (List ℕ)
-begin [] = some []
-begin (ax e w ∷ axs) = cond (ltb 0 e) (or_else none (λ v. 0 ∷ v) (begin axs)) none
+begin [] = Some []
+begin (ax e w ∷ axs) = cond (ltb 0 e) (or_else None (λ v. 0 ∷ v) (begin axs)) None
 
 -- the counters after n steps: those of the block that the next step hands out, or none
 abbrev pub state_after : List CutAxis → ℕ → Option (List ℕ)
@@ -40,4 +39,4 @@ state_after axs n = after (next axs) n (begin axs)
 
 -- some number of steps comes to c
 abbrev pub Comes : List CutAxis → List ℕ → Type 0
-Comes axs c = (n : ℕ) × (state_after axs n ≡ some c)
+Comes axs c = (n : ℕ) × (state_after axs n ≡ Some c)

@@ -1,12 +1,11 @@
 -- THE STEPS OF A WALK, by value: from a beginning that is not refused, step n hands out block n of the machine on lists, then "ended" for
 -- ever, and none is refused.
 -- Assumes nothing.
-use Rattle.std.specs.Prelude.{◌≡◌, refl, Bool, true, false, cond, not, List, [], ◌∷◌, ℕ, zero, suc, ◌+◌, ◌≤◌, ◌<◌, eqb, ltb, ℤ, pos, ◌+ℤ◌, length, take}
+use Rattle.std.specs.Prelude.{◌≡◌, refl, Bool, true, false, cond, not, List, [], ◌∷◌, ℕ, zero, suc, ◌+◌, ◌≤◌, ◌<◌, eqb, ltb, ℤ, pos, ◌+ℤ◌, length, take, Option, None, Some}
 use Rattle.std.proofs.Math.Path.{sym}
 use Rattle.std.proofs.Common.{ap, ap₂, ◌∙◌, add-zero, zero-add, arith, ltb-false, eqb-true}
 use Rattle.std.proofs.lemmas.Bool.{false≢true, not-false}
 use Rattle.std.proofs.Math.Bool.{not-not}
-use Rattle.std.proofs.Math.Option.{Option, none, some}
 use Rattle.std.proofs.Math.IntN.{+ℤ_idr}
 use Rattle.std.proofs.Math.ListN.{replicate}
 use Rattle.std.proofs.lemmas.List.{length-map}
@@ -14,11 +13,10 @@ use Rattle.strided.specs.Base.{padded, run, nth, and_then}
 use Rattle.strided.specs.Layout.{has_zero}
 use Rattle.strided.specs.Refusals.{refused_by}
 use Rattle.strided.specs.Walk.{CutAxis, zeros, next, length_at, run_strides}
-use Rattle.strided.specs.Begin.{plan_extents, plan_blocks, plan_row, plan_rows, begin_rows, begin_refused, begun_at, begun_or}
+use Rattle.strided.specs.Begin.{plan_extents, plan_blocks, plan_row, plan_rows, begin_rows, begin_refused, started}
 use Rattle.strided.specs.Step.{WalkState, Step, gave, over, state_of, offsets_from, step, plan_cut_axes, unpacked, packed, tidy, is_none, may_begin, handed_out, step_rows, stepped, walk_after}
 use Rattle.strided.specs.Demand3.{steps_from}
 use Rattle.strided.specs.declared.Refusal.{Refusal}
-use Rattle.strided.specs.declared.Answer.TheVariants.{Served}
 use Rattle.strided.specs.declared.Plan.{Plan}
 use Rattle.strided.specs.declared.Walk.{Walk}
 use Rattle.strided.specs.declared.Stepped.{Stepped}
@@ -48,24 +46,20 @@ offsets_zeros axs (ts ∷ tss) (z ∷ zs) h =
 
 -- ---- a plan whose beginning is taken
 
-pub none_of : (o : Option Refusal) → is_none o ≡ true → o ≡ none
-none_of none h = refl
-none_of (some r) h = absurd (false≢true h)
-
-pub served_walk : (o : Option Refusal) (w : Walk) → (begun_or o w).answer ≡ Served → o ≡ none
-served_walk none w h = refl
-served_walk (some r) w h = let z : ◌≡◌ {A = ℕ} 0 1 = cc h in absurd (omega arith)
+pub none_of : (o : Option Refusal) → is_none o ≡ true → o ≡ None
+none_of None h = refl
+none_of (Some r) h = absurd (false≢true h)
 
 -- rows 1, 2 and 8, and that all the plan's axes are there
 pub record Ready (p : Plan) (zs : List ℤ) : Type 0 where
   pub axes : p.rank ≤ 64
   pub few : p.operands ≤ 8
-  pub taken : refused_by (step_rows p) ≡ none
+  pub taken : refused_by (step_rows p) ≡ None
   pub long : length (plan_extents p) ≡ p.rank
   pub many : length zs ≡ p.operands
   pub may : may_begin p zs ≡ true
 
-pub ready : (p : Plan) (zs : List ℤ) → length (plan_extents p) ≡ p.rank → begin_refused p zs ≡ none → Ready p zs
+pub ready : (p : Plan) (zs : List ℤ) → length (plan_extents p) ≡ p.rank → begin_refused p zs ≡ None → Ready p zs
 unfolding begin_refused NoneApplies
 ready p zs l h =
     let a : NoneApplies (begin_rows p zs) = none_applies (begin_rows p zs) h in
@@ -96,12 +90,12 @@ module _ (p : Plan) (zs : List ℤ) (r : Ready p zs) where
   at m = state_of (plan_cut_axes p) (plan_rows p) zs m
 
   pub counters-many : (n : ℕ) (m : Option (List ℕ)) → state_after (plan_cut_axes p) n ≡ m → length (at m).counters ≡ p.rank
-  counters-many n none e = length-zeros (plan_cut_axes p) ∙ cut-many
-  counters-many n (some c) e = length_inside (plan_cut_axes p) c ((reach (plan_cut_axes p) c wide).0 (n, e)).0 ∙ cut-many
+  counters-many n None e = length-zeros (plan_cut_axes p) ∙ cut-many
+  counters-many n (Some c) e = length_inside (plan_cut_axes p) c ((reach (plan_cut_axes p) c wide).0 (n, e)).0 ∙ cut-many
 
   offsets_many : (n : ℕ) (m : Option (List ℕ)) → state_after (plan_cut_axes p) n ≡ m → length (at m).offsets ≡ p.operands
-  offsets_many n none e = r.many
-  offsets_many n (some c) e = length_offsets (plan_rows p) zs c as_many ∙ rows-many
+  offsets_many n None e = r.many
+  offsets_many n (Some c) e = length_offsets (plan_rows p) zs c as_many ∙ rows-many
 
   unpack_pack : (g : WalkState) → length g.counters ≡ p.rank → length g.offsets ≡ p.operands → unpacked p (packed g) ≡ g
   unpack_pack g a b =
@@ -121,13 +115,13 @@ module _ (p : Plan) (zs : List ℤ) (r : Ready p zs) where
 
   -- what the machine gives at a reached state
   abbrev pub raw : Option (List ℕ) → Step
-  raw none = over (at none)
-  raw (some c) = gave c (length_at (plan_cut_axes p) c) (offsets_from (plan_rows p) zs c) (run_strides (plan_cut_axes p) (plan_rows p)) (at (next (plan_cut_axes p) c))
+  raw None = over (at None)
+  raw (Some c) = gave c (length_at (plan_cut_axes p) c) (offsets_from (plan_rows p) zs c) (run_strides (plan_cut_axes p) (plan_rows p)) (at (next (plan_cut_axes p) c))
 
   step-raw : (n : ℕ) (m : Option (List ℕ)) → state_after (plan_cut_axes p) n ≡ m → step (plan_cut_axes p) (plan_rows p) (may_begin p) (at m) ≡ raw m
-  step-raw n none e = rw (reachable_of (plan_cut_axes p) (plan_rows p) (may_begin p) wide zs as_many r.may n none e)
-  step-raw n (some c) e =
-      rw (reachable_of (plan_cut_axes p) (plan_rows p) (may_begin p) wide zs as_many r.may n (some c) e)
+  step-raw n None e = rw (reachable_of (plan_cut_axes p) (plan_rows p) (may_begin p) wide zs as_many r.may n None e)
+  step-raw n (Some c) e =
+      rw (reachable_of (plan_cut_axes p) (plan_rows p) (may_begin p) wide zs as_many r.may n (Some c) e)
       (ap (λ (z : List ℤ). gave c (length_at (plan_cut_axes p) c) (offsets_from (plan_rows p) zs c) (run_strides (plan_cut_axes p) (plan_rows p)) (state_of (plan_cut_axes p) (plan_rows p) z (next (plan_cut_axes p) c)))
       (starts_offsets (plan_rows p) zs c as_many))
 
@@ -135,25 +129,24 @@ module _ (p : Plan) (zs : List ℤ) (r : Ready p zs) where
   step-at n m e = step-packed (at m) (counters-many n m e) (offsets_many n m e) ∙ ap handed_out (step-raw n m e)
 
   pub raw-walk : (m : Option (List ℕ)) → (handed_out (raw m)).walk ≡ packed (at (and_then (next (plan_cut_axes p)) m))
-  raw-walk none = refl
-  raw-walk (some c) = refl
+  raw-walk None = refl
+  raw-walk (Some c) = refl
 
   -- step m of a list of steps
   steps_nth : (n m i : ℕ) (o : Option (List ℕ)) → state_after (plan_cut_axes p) i ≡ o → m < n
-      → nth (steps_from p n (packed (at o))) m ≡ some (handed_out (raw (state_after (plan_cut_axes p) (i + m))))
+      → nth (steps_from p n (packed (at o))) m ≡ Some (handed_out (raw (state_after (plan_cut_axes p) (i + m))))
   steps_nth zero m i o e h = absurd (omega arith)
   steps_nth (suc n) zero i o e h =
-      ap some (step-at i o e ∙ ap (λ (q : Option (List ℕ)). handed_out (raw q)) (sym e ∙ ap (state_after (plan_cut_axes p)) (sym (add-zero i))))
+      ap Some (step-at i o e ∙ ap (λ (q : Option (List ℕ)). handed_out (raw q)) (sym e ∙ ap (state_after (plan_cut_axes p)) (sym (add-zero i))))
   steps_nth (suc n) (suc m) i o e h =
       let k : suc i + m ≡ i + suc m = omega arith in
       ap (λ (w : Walk). nth (steps_from p n w) m) (ap (λ (s : Stepped). s.walk) (step-at i o e) ∙ raw-walk o)
       ∙ steps_nth n m (suc i) (and_then (next (plan_cut_axes p)) o) (after-suc (next (plan_cut_axes p)) i (begin (plan_cut_axes p)) ∙ ap (and_then (next (plan_cut_axes p))) e) (omega arith)
-      ∙ ap (λ (j : ℕ). some (handed_out (raw (state_after (plan_cut_axes p) j)))) k
+      ∙ ap (λ (j : ℕ). Some (handed_out (raw (state_after (plan_cut_axes p) j)))) k
 
   -- where the walk begins
-  pub begun-walk : (begun_at p zs).walk ≡ packed (at (begin (plan_cut_axes p)))
-  unfolding begun_at
-  begun-walk = rw (none_of (begin_refused p zs) r.may, begin_of (plan_extents p) _) (go (has_zero (plan_extents p)))
+  pub begun-walk : started p zs ≡ packed (at (begin (plan_cut_axes p)))
+  begun-walk = rw (begin_of (plan_extents p) _) (go (has_zero (plan_extents p)))
     where
       counters-zero : replicate 64 0 ≡ padded 64 0 (zeros (plan_cut_axes p))
       counters-zero = sym (padded-zeros 64 (plan_cut_axes p))
@@ -161,23 +154,23 @@ module _ (p : Plan) (zs : List ℤ) (r : Ready p zs) where
       offsets_start : padded 8 (pos 0) zs ≡ padded 8 (pos 0) (offsets_from (plan_rows p) zs (zeros (plan_cut_axes p)))
       offsets_start = ap (padded 8 (pos 0)) (sym (offsets_zeros (plan_cut_axes p) (plan_rows p) zs as_many))
 
-      go : (b : Bool) → (begun_or none (record { ended = b; counters = replicate 64 0; offsets = padded 8 (pos 0) zs })).walk ≡ packed (at (cond b none (some (zeros (plan_cut_axes p)))))
+      go : (b : Bool) → ◌≡◌ {A = Walk} (record { ended = b; counters = replicate 64 0; offsets = padded 8 (pos 0) zs }) (packed (at (cond b None (Some (zeros (plan_cut_axes p))))))
       go true = λ i. record { ended = true; counters = counters-zero i; offsets = padded 8 (pos 0) zs }
       go false = λ i. record { ended = false; counters = counters-zero i; offsets = offsets_start i }
 
   -- the steps of a walk from its beginning: step m is there if the list is long enough, and what it is
-  pub walk-nth : (n m : ℕ) → m < n → nth (steps_from p n (begun_at p zs).walk) m ≡ some (handed_out (raw (state_after (plan_cut_axes p) m)))
+  pub walk-nth : (n m : ℕ) → m < n → nth (steps_from p n (started p zs)) m ≡ Some (handed_out (raw (state_after (plan_cut_axes p) m)))
   walk-nth n m h =
       ap (λ (w : Walk). nth (steps_from p n w) m) begun-walk ∙ steps_nth n m 0 (begin (plan_cut_axes p)) refl h
-      ∙ ap (λ (j : ℕ). some (handed_out (raw (state_after (plan_cut_axes p) j)))) (zero-add m)
+      ∙ ap (λ (j : ℕ). Some (handed_out (raw (state_after (plan_cut_axes p) j)))) (zero-add m)
 
-  pub walk-below : (n m : ℕ) (w : Walk) (s : Stepped) → nth (steps_from p n w) m ≡ some s → m < n
+  pub walk-below : (n m : ℕ) (w : Walk) (s : Stepped) → nth (steps_from p n w) m ≡ Some s → m < n
   walk-below zero m w s e = let z : ◌≡◌ {A = ℕ} 0 1 = cc in absurd (omega arith)
   walk-below (suc n) zero w s e = omega arith
   walk-below (suc n) (suc m) w s e = omega (arith, walk-below n m (stepped p w).walk s e)
 
-  pub walk_is : (n m : ℕ) (s : Stepped) → nth (steps_from p n (begun_at p zs).walk) m ≡ some s → s ≡ handed_out (raw (state_after (plan_cut_axes p) m))
-  walk_is n m s e = let h = walk-nth n m (walk-below n m (begun_at p zs).walk s e) in cc (h, e)
+  pub walk_is : (n m : ℕ) (s : Stepped) → nth (steps_from p n (started p zs)) m ≡ Some s → s ≡ handed_out (raw (state_after (plan_cut_axes p) m))
+  walk_is n m s e = let h = walk-nth n m (walk-below n m (started p zs) s e) in cc (h, e)
 
   -- the state after n steps
   walk_from : (n i : ℕ) (o : Option (List ℕ)) → state_after (plan_cut_axes p) i ≡ o → walk_after p n (packed (at o)) ≡ packed (at (state_after (plan_cut_axes p) (i + n)))
@@ -188,5 +181,5 @@ module _ (p : Plan) (zs : List ℤ) (r : Ready p zs) where
       ∙ walk_from n (suc i) (and_then (next (plan_cut_axes p)) o) (after-suc (next (plan_cut_axes p)) i (begin (plan_cut_axes p)) ∙ ap (and_then (next (plan_cut_axes p))) e)
       ∙ ap (λ (j : ℕ). packed (at (state_after (plan_cut_axes p) j))) k
 
-  pub walk-state : (n : ℕ) → walk_after p n (begun_at p zs).walk ≡ packed (at (state_after (plan_cut_axes p) n))
+  pub walk-state : (n : ℕ) → walk_after p n (started p zs) ≡ packed (at (state_after (plan_cut_axes p) n))
   walk-state n = ap (walk_after p n) begun-walk ∙ walk_from n 0 (begin (plan_cut_axes p)) refl ∙ ap (λ (j : ℕ). packed (at (state_after (plan_cut_axes p) j))) (zero-add n)

@@ -1,9 +1,8 @@
 -- THE Z FIGURES: "they equal the number of B blocks and the sum of their lengths". The sum of the lengths is the total, and the number of
 -- blocks is the number of tiles of axis 0 times the other extents. For any extents and any block sizes.
 -- Assumes nothing.
-use Rattle.std.specs.Prelude.{◌≡◌, refl, ◌↔◌, List, [], ◌∷◌, map, ℕ, ◌-◌, ◌*◌, ◌≤◌, ◌<◌, ℤ, length}
+use Rattle.std.specs.Prelude.{◌≡◌, refl, ◌↔◌, List, [], ◌∷◌, map, ℕ, ◌-◌, ◌*◌, ◌≤◌, ◌<◌, ℤ, length, None}
 use Rattle.std.proofs.Common.{sym, ap, ap₂, ◌∙◌, arith}
-use Rattle.std.proofs.Math.Option.{none}
 use Rattle.std.proofs.Math.Nat.{sub-zero}
 use Rattle.std.proofs.lemmas.List.{length-map}
 use Rattle.strided.specs.Base.{run}
@@ -89,7 +88,7 @@ pub plan_cells : (es : List ℕ) (m : ℕ) (ss : List ℤ) (u : Purpose) (bs : L
 plan_cells es m ss u bs = cells-total (extents (plan_axes es m ss u)) bs ∙ plan_total es m ss u
 
 -- Z: a walk hands out as many blocks as the list has
-pub blocks_number : (es bs : List ℕ) (n : ℕ) → (state_after (cut_axes es bs) n ≡ none) ↔ (length (blocks_of (cut_axes es bs)) ≤ n)
+pub blocks_number : (es bs : List ℕ) (n : ℕ) → (state_after (cut_axes es bs) n ≡ None) ↔ (length (blocks_of (cut_axes es bs)) ≤ n)
 blocks_number es bs n =
     let axs = cut_axes es bs in
     let s = state-nth axs (axes_wide es bs) n in

@@ -1,8 +1,7 @@
 -- `mark::repeat_mark` meets its contract: rows 1, 3, 5 and 6, one after the other, else the mark. Assumes nothing.
-use mathlib.Core.Path.{◌≡◌, sym, ◌∙◌, ap, ap₂}
+use mathlib.Core.Path.{◌≡◌, sym, ◌∙◌}
 use mathlib.Core.Bool.{Bool, false}
 use mathlib.Core.List.{List, [], ◌∷◌}
-use mathlib.Core.Option.{Option, none, some}
 use Prim.Native.Nat.{ℕ, ◌*◌}
 use native.Mathlib.Omega.{arith}
 use lib.Dec.{eqb}
@@ -10,23 +9,22 @@ use lib.IntN.{ℤ}
 use lib.ListN.{length}
 use borrow.Author.Tests.{ltb-false, eqb-true, not-false}
 use Rattle.strided.specs.Refusals.{refused_by, answered, row3, row5, row6}
-use Rattle.strided.specs.Mark.{mark_rows, mark_refused, marked_or, mark_of, marked}
+use Rattle.strided.specs.Mark.{mark_rows, mark_refused, mark_of, marked}
 use Rattle.strided.specs.declared.Mark.{Mark}
-use Rattle.strided.specs.declared.Mark.TheVariants.{No}
 use Rattle.strided.specs.declared.Refusal.{Refusal}
-use Rattle.strided.specs.declared.Answer.TheVariants.{Served, Refused}
-use Rattle.laws.specs.Refusals.Rows.{Past, past_none, past_next, past_refused, past_served, refused_some, served_none}
+use Rattle.laws.specs.Refusals.Rows.{Past, past_none, past_next, past_refused, past_served, refused_too, served_too}
 use Rattle.mark.proofs.Tests.{row6-one, row6-within}
+use Rattle.std.specs.Prelude.{Ok, Err}
 use Rattle.mark.proofs.repeat_mark.Goals as goal
 
 module _ (es : List ℕ) (ts : List ℤ) where
-  refuses : (r : Refusal) → Refused r ≡ answered (refused_by (mark_rows es ts)) → marked_or (some r) No ≡ marked es ts
+  refuses : {r : Refusal} → Err r ≡ answered (refused_by (mark_rows es ts)) → Err r ≡ marked es ts
   unfolding marked mark_refused
-  refuses r h = ap (λ (o : Option Refusal). marked_or o (mark_of es ts)) (sym (refused_some (refused_by (mark_rows es ts)) (sym h)))
+  refuses h = refused_too (refused_by (mark_rows es ts)) _ h
 
-  serves : (m : Mark) → Served ≡ answered (refused_by (mark_rows es ts)) → m ≡ mark_of es ts → marked_or none m ≡ marked es ts
+  serves : (m : Mark) → Ok tt ≡ answered (refused_by (mark_rows es ts)) → m ≡ mark_of es ts → Ok m ≡ marked es ts
   unfolding marked mark_refused
-  serves m h e = ap₂ marked_or (sym (served_none (refused_by (mark_rows es ts)) (sym h))) e
+  serves m h e = served_too (refused_by (mark_rows es ts)) h e
 
   -- row 3 of one operand
   one-row : {b : Bool} → b ≡ (row3 (length es) 1 ts).applies → b ≡ false → length ts ≡ length es
@@ -35,7 +33,7 @@ module _ (es : List ℕ) (ts : List ℤ) where
 pub returns-then-rank_over : goal.returns-then-rank_over
 returns-then-rank_over c =
     let a = c.args in
-    refuses _ _ _ (past_refused (past_none (mark_rows a.extents.now a.strides.now)) c.rank_over.ensures c.if-rank_over.true)
+    refuses _ _ (past_refused (past_none (mark_rows a.extents.now a.strides.now)) c.rank_over.ensures c.if-rank_over.true)
 
 pub strides_wrong-requires : goal.strides_wrong-requires
 strides_wrong-requires c = (ltb-false 64 _ (sym c.rank_over.ensures ∙ c.if-rank_over.false), omega arith)
@@ -44,13 +42,13 @@ pub returns-then-strides_wrong : goal.returns-then-strides_wrong
 returns-then-strides_wrong c =
     -- the rows passed, one by one
     let passed-1 : let a = c.args in Past (mark_rows a.extents.now a.strides.now) (row3 (length a.extents.now) 1 a.strides.now ∷ row5 a.extents.now ∷ row6 a.extents.now 1 (λ k. a.strides.now) ∷ []) = past_next (past_none _) c.rank_over.ensures c.if-rank_over.false in
-    refuses _ _ _ (past_refused passed-1 c.strides_wrong.ensures c.if-strides_wrong.true)
+    refuses _ _ (past_refused passed-1 c.strides_wrong.ensures c.if-strides_wrong.true)
 
 pub returns-then-total_over : goal.returns-then-total_over
 returns-then-total_over c =
     let passed-1 : let a = c.args in Past (mark_rows a.extents.now a.strides.now) (row3 (length a.extents.now) 1 a.strides.now ∷ row5 a.extents.now ∷ row6 a.extents.now 1 (λ k. a.strides.now) ∷ []) = past_next (past_none _) c.rank_over.ensures c.if-rank_over.false in
     let passed-2 : let a = c.args in Past (mark_rows a.extents.now a.strides.now) (row5 a.extents.now ∷ row6 a.extents.now 1 (λ k. a.strides.now) ∷ []) = past_next passed-1 c.strides_wrong.ensures c.if-strides_wrong.false in
-    refuses _ _ _ (past_refused passed-2 c.total_over.ensures c.if-total_over.true)
+    refuses _ _ (past_refused passed-2 c.total_over.ensures c.if-total_over.true)
 
 pub reach_over-requires : goal.reach_over-requires
 reach_over-requires c =
@@ -68,10 +66,10 @@ returns-then-reach_over c =
     -- row 6 is asked of the strides as one operand's
     let row-6 : let a = c.args in c.reach_over.result ≡ (row6 a.extents.now 1 (λ k. a.strides.now)).applies = let a = c.args in
     c.reach_over.ensures ∙ row6-one a.extents.now a.strides.now as_many (length a.extents.now) in
-    refuses _ _ _ (past_refused passed-3 row-6 c.if-reach_over.true)
+    refuses _ _ (past_refused passed-3 row-6 c.if-reach_over.true)
 
-pub mark_of-mark-requires : goal.mark_of-mark-requires
-mark_of-mark-requires c =
+pub mark_of-requires : goal.mark_of-requires
+mark_of-requires c =
     let as_many : let a = c.args in length a.strides.now ≡ length a.extents.now = let a = c.args in
     one-row a.extents.now a.strides.now c.strides_wrong.ensures c.if-strides_wrong.false in
     let row-6 : let a = c.args in c.reach_over.result ≡ (row6 a.extents.now 1 (λ k. a.strides.now)).applies = let a = c.args in
@@ -87,4 +85,4 @@ returns c =
     one-row a.extents.now a.strides.now c.strides_wrong.ensures c.if-strides_wrong.false in
     let row-6 : let a = c.args in c.reach_over.result ≡ (row6 a.extents.now 1 (λ k. a.strides.now)).applies = let a = c.args in
     c.reach_over.ensures ∙ row6-one a.extents.now a.strides.now as_many (length a.extents.now) in
-    serves _ _ c.mark_of-mark.result (past_served (past_next passed-3 row-6 c.if-reach_over.false)) c.mark_of-mark.ensures
+    serves _ _ c.mark_of.result (past_served (past_next passed-3 row-6 c.if-reach_over.false)) c.mark_of.ensures

@@ -1,45 +1,40 @@
 -- `model::all_grow` meets its contract. The invariant: every operand before k grows. Assumes nothing.
 use native.Mathlib.Omega.{arith}
 use mathlib.Core.Path.{◌≡◌, sym, ap, ◌∙◌}
-use mathlib.Core.Bool.{Bool, true, false}
-use Prim.Native.Nat.{ℕ, ◌-◌, ◌<◌}
+use mathlib.Core.Bool.{false}
+use Prim.Native.Nat.{ℕ}
 use lib.ListN.{length}
 use Rattle.strided.specs.Base.{every}
 use Rattle.strided.specs.Plan.{grows}
 use Rattle.laws.specs.Cut.Ranges.{every_none, every_more, every_fails_at}
 use Rattle.model.proofs.Growing.{grows_empty, grows_is}
 use Rattle.model.proofs.all_grow.Goals as goal
+use Rattle.model.proofs.all_grow.Goals.{then-sizes-k-eq0-via-then-sizes-k-eq0, then-sizes-k-eq0-via-else-sizes-k-eq0+then-not-strictly_increasing}
 
 pub loop-k-init : goal.loop-k-init
-loop-k-init c = (omega arith, every_none _)
+loop-k-init c = every_none _
 
 pub returns-then-sizes-k-eq0 : goal.returns-then-sizes-k-eq0
 returns-then-sizes-k-eq0 c =
-    -- the test of one operand, at the arguments
-    let test : ℕ → Bool = let a = c.args in grows a.sizes.now a.strides.now a.rank in
-    -- one that fails is enough
-    let fails : let n : ℕ = length c.args.sizes.now in c.loop-k.k < n → test c.loop-k.k ≡ false → every test 0 n ≡ false = λ h e. every_fails_at test 0 c.loop-k.k (length c.args.sizes.now) (omega arith) (omega arith) e in
     let a = c.args in
-    sym (fails (omega arith) (grows_empty a.strides.now a.rank c.loop-k.k a.sizes.now c.if-sizes-k-eq0.true))
+    let k : ℕ = c.loop-k.k in
+    -- one operand that fails is enough
+    let fails : grows a.sizes.now a.strides.now a.rank k ≡ false → every (grows a.sizes.now a.strides.now a.rank) 0 (length a.sizes.now) ≡ false =
+    λ e. every_fails_at (grows a.sizes.now a.strides.now a.rank) 0 k (length a.sizes.now) (omega arith) (omega arith) e in
+    elim c.then-sizes-k-eq0.branch [
+      | then-sizes-k-eq0-via-then-sizes-k-eq0 w ↦ sym (fails (grows_empty a.strides.now a.rank k a.sizes.now w.if-sizes-k-eq0.true))
+      | then-sizes-k-eq0-via-else-sizes-k-eq0+then-not-strictly_increasing w ↦ sym (fails (grows_is a.strides.now a.rank k a.sizes.now (omega (arith, w.if-sizes-k-eq0.false)) ∙ sym w.strictly_increasing.ensures ∙ w.if-not-strictly_increasing.true))
+    ]
 
 pub loop-k-preserved : goal.loop-k-preserved
 loop-k-preserved c =
-    let test : ℕ → Bool = let a = c.args in grows a.sizes.now a.strides.now a.rank in
-    -- the answer for the operand is that of its strides
-    let told : (t : Bool) → c.strictly_increasing.result ≡ t → test c.loop-k.k ≡ t = λ t e. let a = c.args in
-    grows_is a.strides.now a.rank c.loop-k.k a.sizes.now (omega (arith, c.if-sizes-k-eq0.false)) ∙ sym c.strictly_increasing.ensures ∙ e in
-    (omega arith, every_more test c.loop-k.k (told true c.if-strictly_increasing.true) ∙ c.loop-k.invariant.1)
-
-pub returns-else-strictly_increasing : goal.returns-else-strictly_increasing
-returns-else-strictly_increasing c =
-    let test : ℕ → Bool = let a = c.args in grows a.sizes.now a.strides.now a.rank in
-    let fails : let n : ℕ = length c.args.sizes.now in c.loop-k.k < n → test c.loop-k.k ≡ false → every test 0 n ≡ false = λ h e. every_fails_at test 0 c.loop-k.k (length c.args.sizes.now) (omega arith) (omega arith) e in
-    let told : (t : Bool) → c.strictly_increasing.result ≡ t → test c.loop-k.k ≡ t = λ t e. let a = c.args in
-    grows_is a.strides.now a.rank c.loop-k.k a.sizes.now (omega (arith, c.if-sizes-k-eq0.false)) ∙ sym c.strictly_increasing.ensures ∙ e in
-    sym (fails (omega arith) (told false c.if-strictly_increasing.false))
+    let a = c.args in
+    every_more (grows a.sizes.now a.strides.now a.rank) c.loop-k.k
+    (grows_is a.strides.now a.rank c.loop-k.k a.sizes.now (omega (arith, c.if-sizes-k-eq0.false)) ∙ sym c.strictly_increasing.ensures ∙ c.if-not-strictly_increasing.false)
+    ∙ c.loop-k.invariant
 
 pub returns : goal.returns
 returns c =
-    let test : ℕ → Bool = let a = c.args in grows a.sizes.now a.strides.now a.rank in
-    let e : c.loop-k.k ≡ length c.args.sizes.now = omega arith in
-    sym (ap (every test 0) (sym e) ∙ c.loop-k.invariant.1)
+    let a = c.args in
+    let e : c.loop-k.k ≡ length a.sizes.now = omega arith in
+    sym (ap (every (grows a.sizes.now a.strides.now a.rank) 0) (sym e) ∙ c.loop-k.invariant)

@@ -18,7 +18,7 @@ returns-then-keeps_order c =
 
 pub byte_table_into-requires : goal.byte_table_into-requires
 byte_table_into-requires c =
-    let p = c.requires.plannable in record { allowed = c.requires.allowed; sizes_len_bound = (p.few, p.axes); table_value = refl }
+    let p = c.requires.plannable in record { sizes_len_bound = (p.few, p.axes); table_value = refl }
 
 pub returns-then-fits_whole : goal.returns-then-fits_whole
 returns-then-fits_whole c =
@@ -37,7 +37,6 @@ cut_axes-requires c =
     let bytes-are : let a = c.args in Images a.machine (length a.sizes.now) a.rank c.byte_table_into.new.table (byte_table a.sizes.now a.table.now) = let a = c.args in
     rows_read a.machine a.sizes.now a.table.now a.rank (length a.sizes.now) _ refl c.requires.plannable.few c.requires.plannable.axes c.byte_table_into.ensures in
     let n = c.requires.plannable in record {
-      allowed = c.requires.allowed;
       plannable = record {
         axes = n.axes;
         one = n.one;
@@ -53,7 +52,7 @@ cut_axes-requires c =
 
 pub declines_tiles-requires : goal.declines_tiles-requires
 declines_tiles-requires c =
-    let a = c.args in record { allowed = c.requires.allowed; within_reach = within-reach a.sizes.now a.es.now a.table.now a.rank a.purpose c.requires.plannable }
+    let a = c.args in within-reach a.sizes.now a.es.now a.table.now a.rank a.purpose c.requires.plannable
 
 pub returns-then-declines_tiles : goal.returns-then-declines_tiles
 returns-then-declines_tiles c =

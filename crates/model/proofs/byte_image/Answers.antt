@@ -22,34 +22,34 @@ returns-then-below c =
     let h : v < 4294967296 = ltb-true v 4294967296 (sym c.below.ensures ∙ c.if-below.true) in
     (h, omega (arith, h)) in
     let e = c.product-bytes.ensures in
-    small.1 ∙ sym (image_small c.args.machine (value c.product-bytes.result) small.0) ∙ ap (image c.args.machine) e
+    small.1 ∙ sym (image_small c.args.machine.numbers (value c.product-bytes.result) small.0) ∙ ap (image c.args.machine.numbers) e
 
 pub overflow_add-beyond : goal.overflow_add-beyond
-overflow_add-beyond c = let a = c.args in record { fits = omega (arith, div-le_self a.machine.cache a.machine.way) }
+overflow_add-beyond c = let a = c.args in record { fits = omega (arith, div-le_self a.machine.numbers.cache a.machine.numbers.way) }
 
 pub overflow_mul-beyond : goal.overflow_mul-beyond
 overflow_mul-beyond c =
     -- what is counted from, and what it is with a remainder
-    let least : beyond c.args.machine ≤ 2097152 = omega (arith, beyond_le c.args.machine c.requires, c.requires.cache_to, c.requires.way_to) in
+    let least : beyond c.args.machine.numbers ≤ 2097152 = omega (arith, beyond_le c.args.machine.numbers c.args.machine.allowed, c.args.machine.allowed.cache_to, c.args.machine.allowed.way_to) in
     record { fits = omega (arith, least) }
 
 pub overflow_add-result : goal.overflow_add-result
 overflow_add-result c =
-    let least : beyond c.args.machine ≤ 2097152 = omega (arith, beyond_le c.args.machine c.requires, c.requires.cache_to, c.requires.way_to) in
-    let most : beyond c.args.machine + c.remainder.result < 4294967296 = let v : ℕ = value c.product-bytes.result in
-    omega (arith, least, rest_lt c.args.machine c.requires v, c.remainder.ensures, c.requires.cache_to, c.requires.way_to) in
+    let least : beyond c.args.machine.numbers ≤ 2097152 = omega (arith, beyond_le c.args.machine.numbers c.args.machine.allowed, c.args.machine.allowed.cache_to, c.args.machine.allowed.way_to) in
+    let most : beyond c.args.machine.numbers + c.remainder.result < 4294967296 = let v : ℕ = value c.product-bytes.result in
+    omega (arith, least, rest_lt c.args.machine.numbers c.args.machine.allowed v, c.remainder.ensures, c.args.machine.allowed.cache_to, c.args.machine.allowed.way_to) in
     record { fits = omega (arith, most) }
 
 pub overflow_cast-result-2 : goal.overflow_cast-result-2
 overflow_cast-result-2 c =
-    let least : beyond c.args.machine ≤ 2097152 = omega (arith, beyond_le c.args.machine c.requires, c.requires.cache_to, c.requires.way_to) in
-    let most : beyond c.args.machine + c.remainder.result < 4294967296 = let v : ℕ = value c.product-bytes.result in
-    omega (arith, least, rest_lt c.args.machine c.requires v, c.remainder.ensures, c.requires.cache_to, c.requires.way_to) in
+    let least : beyond c.args.machine.numbers ≤ 2097152 = omega (arith, beyond_le c.args.machine.numbers c.args.machine.allowed, c.args.machine.allowed.cache_to, c.args.machine.allowed.way_to) in
+    let most : beyond c.args.machine.numbers + c.remainder.result < 4294967296 = let v : ℕ = value c.product-bytes.result in
+    omega (arith, least, rest_lt c.args.machine.numbers c.args.machine.allowed v, c.remainder.ensures, c.args.machine.allowed.cache_to, c.args.machine.allowed.way_to) in
     record { fits = omega (arith, most) }
 
 pub returns : goal.returns
 returns c =
-    let mc = c.args.machine in
+    let mc = c.args.machine.numbers in
     let v : ℕ = value c.product-bytes.result in
     let h : 4294967296 ≤ v = ltb-false v 4294967296 (sym c.below.ensures ∙ c.if-below.false) in
     ap (λ (x : ℕ). beyond mc + x) c.remainder.ensures ∙ sym (image_big mc v h) ∙ ap (image mc) c.product-bytes.ensures

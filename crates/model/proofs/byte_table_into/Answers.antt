@@ -1,7 +1,6 @@
 -- `model::byte_table_into` meets its contract. The invariant: the rows of the first k operands stand. Assumes nothing.
 use native.Mathlib.Omega.{arith}
 use mathlib.Core.Path.{◌≡◌, ap, ◌∙◌}
-use Prim.Native.Nat.{◌-◌}
 use lib.ListN.{length}
 use Rattle.laws.specs.Base.Filling.{fill_none}
 use Rattle.model.specs.ByteRows.{byte_rows}
@@ -11,16 +10,16 @@ use Rattle.model.proofs.byte_table_into.Goals as goal
 pub loop-k-init : goal.loop-k-init
 loop-k-init c =
     let a = c.args in
-    (omega arith, rows_none a.machine a.sizes.now a.strides.now a.rank a.table.now (c.requires.table_value ∙ fill_none 512 0))
+    rows_none a.machine.numbers a.sizes.now a.strides.now a.rank a.table.now (c.requires.table_value ∙ fill_none 512 0)
 
 pub put_bytes-requires : goal.put_bytes-requires
-put_bytes-requires c = record { allowed = c.requires.allowed; k_in_bounds = (c.loop-k-test.true, (omega (arith, c.loop-k-test, c.requires.sizes_len_bound.0), c.requires.sizes_len_bound.1)); table_value = c.loop-k.invariant.1 }
+put_bytes-requires c = record { k_in_bounds = (c.loop-k-test.true, (omega (arith, c.loop-k-test, c.requires.sizes_len_bound.0), c.requires.sizes_len_bound.1)); table_value = c.loop-k.invariant }
 
 pub loop-k-preserved : goal.loop-k-preserved
-loop-k-preserved c = (omega arith, c.put_bytes.ensures)
+loop-k-preserved c = c.put_bytes.ensures
 
 pub returns : goal.returns
 returns c =
     let a = c.args in
     let e : c.loop-k.k ≡ length a.sizes.now = omega arith in
-    c.loop-k.invariant.1 ∙ ap (byte_rows a.machine a.sizes.now a.strides.now a.rank) e
+    c.loop-k.invariant ∙ ap (byte_rows a.machine.numbers a.sizes.now a.strides.now a.rank) e

@@ -22,7 +22,7 @@ compute_blocks_at-requires c =
     let costed : let a = c.args in SameCosts a.rank c.compute_costs-costs.result (costs a.strides.now (length a.sizes.now) a.rank) = let a = c.args in
     λ i h. ap (λ (l : List ℕ). get_or l i 0) c.compute_costs-costs.ensures ∙ get_d_padded 0 64 (costs a.strides.now (length a.sizes.now) a.rank) i (omega (arith, c.requires.plannable.axes)) in
     let a = c.args in
-    let p = c.requires.plannable in record { allowed = c.requires.allowed; operands_nonzero = ((p.one, omega (arith, p.few, p.axes)), scores a.sizes.now a.blocks.now a.strides.now a.rank Pointwise p c.compute_costs-costs.result costed) }
+    let p = c.requires.plannable in (p.one, scores a.sizes.now a.blocks.now a.strides.now a.rank Pointwise p c.compute_costs-costs.result costed)
 
 pub returns : goal.returns
 returns c =
@@ -33,6 +33,6 @@ returns c =
     let ranks = c.plan_ranks_into.new.table in
     let ranked = ranks-same a.sizes.now a.strides.now a.rank (replicate 64 0) p.few p.axes _ c.plan_ranks_into.ensures in
     c.compute_blocks_at.ensures
-    ∙ ap (λ (n : ℕ). cutting a.machine a.bytes.now (length a.sizes.now) c.compute_costs-costs.result ranks 0 n a.blocks.now) (sub-zero a.rank)
-    ∙ ruled_is a.machine a.sizes.now a.blocks.now a.strides.now a.rank Pointwise c.requires.allowed a.bytes.now c.requires.images
+    ∙ ap (λ (n : ℕ). cutting a.machine.numbers a.bytes.now (length a.sizes.now) c.compute_costs-costs.result ranks 0 n a.blocks.now) (sub-zero a.rank)
+    ∙ ruled_is a.machine.numbers a.sizes.now a.blocks.now a.strides.now a.rank Pointwise c.args.machine.allowed a.bytes.now c.requires.images
     c.compute_costs-costs.result costed ranks ranked

@@ -20,8 +20,8 @@ fit-requires c =
     let k : ℕ = c.in-PointwiseInto.c in
     let two : length a.sizes.now ≡ 2 = c.if-sizes-eq2.true in
     let there : missing (length a.sizes.now) (chosen (PointwiseInto k)) ≡ false =
-    subst (λ (v : Purpose). missing (length a.sizes.now) (chosen v) ≡ false) into c.requires.rank_bound.1 in
-    let below : k < length a.sizes.now = leb-false (length a.sizes.now) k there in record { allowed = c.requires.allowed; rank_bound = ((c.requires.rank_bound.0, omega arith), two) }
+    subst (λ (v : Purpose). missing (length a.sizes.now) (chosen v) ≡ false) into c.requires.1 in
+    let below : k < length a.sizes.now = leb-false (length a.sizes.now) k there in ((c.requires.0, omega arith), two)
 
 pub returns-in-Pointwise : goal.returns-in-Pointwise
 returns-in-Pointwise c = rw c.in-Pointwise.is

@@ -19,5 +19,5 @@ tested r x n m h e = go (leb x n) refl
 
 pub returns : goal.returns
 returns c = let a = c.args in
-    tested c.memory_region.result (region a.machine a.bytes.now a.operands a.extents.now 0 a.rank) a.machine.cache (cap a.machine) (omega arith)
-    (c.memory_region.ensures ∙ ap (λ (n : ℕ). min (region a.machine a.bytes.now a.operands a.extents.now 0 n) (cap a.machine)) (sub-zero a.rank))
+    tested c.memory_region.result (region a.machine.numbers a.bytes.now a.operands a.extents.now 0 a.rank) a.machine.numbers.cache (cap a.machine.numbers) (omega arith)
+    (c.memory_region.ensures ∙ ap (λ (n : ℕ). min (region a.machine.numbers a.bytes.now a.operands a.extents.now 0 n) (cap a.machine.numbers)) (sub-zero a.rank))

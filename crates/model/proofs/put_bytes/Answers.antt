@@ -2,39 +2,32 @@
 -- Assumes nothing.
 use native.Mathlib.Omega.{arith}
 use mathlib.Core.Path.{◌≡◌, ap, ◌∙◌}
-use Prim.Native.Nat.{ℕ, ◌+◌, ◌-◌, ◌*◌}
+use Prim.Native.Nat.{ℕ, ◌+◌, ◌*◌}
 use lib.IntN.{ℤ, pos, nat_abs}
 use lib.ListN.{get_or}
 use Rattle.laws.specs.Base.Bits.{read_back}
 use Rattle.laws.specs.Cut.Image.{image}
 use Rattle.model.specs.ByteRows.{byte_of}
+use Rattle.std.proofs.Common.{rules}
 use Rattle.model.proofs.Filled.{row_first, row_turn, row_done}
 use Rattle.model.proofs.put_bytes.Goals as goal
 
 pub loop-i-init : goal.loop-i-init
 loop-i-init c =
     let a = c.args in
-    (omega arith, row_first a.machine a.sizes.now a.strides.now a.rank a.k a.table.now c.requires.table_value)
-
-pub magnitude-requires : goal.magnitude-requires
-magnitude-requires c = tt
-
-pub byte_image-requires : goal.byte_image-requires
-byte_image-requires c = c.requires.allowed
+    row_first a.machine.numbers a.sizes.now a.strides.now a.rank a.k a.table.now c.requires.table_value
 
 pub loop-i-preserved : goal.loop-i-preserved
 loop-i-preserved c =
     -- what is stored
-    let stored : let a = c.args in c.byte_image.result ≡ byte_of a.machine a.sizes.now a.strides.now a.k c.loop-i.i = let a = c.args in
+    let stored : let a = c.args in c.byte_image.result ≡ byte_of a.machine.numbers a.sizes.now a.strides.now a.k c.loop-i.i = let a = c.args in
     let z : ℤ = get_or a.strides.now (a.k * 64 + c.loop-i.i) (pos 0) in
     c.byte_image.ensures
-    ∙ ap (λ (x : ℕ). image a.machine (x * get_or a.sizes.now a.k 0)) (c.magnitude.ensures ∙ ap nat_abs (read_back z c.t-1.given)) in
-    let a = c.args in (
-      omega arith,
-      row_turn a.machine a.sizes.now a.strides.now a.rank a.k c.loop-i.i c.loop-i.table _ c.requires.k_in_bounds.1.0 c.loop-i-test.true c.requires.k_in_bounds.1.1 c.loop-i.invariant.1 stored,
-    )
+    ∙ ap (λ (x : ℕ). image a.machine.numbers (x * get_or a.sizes.now a.k 0)) (c.unsigned_abs.ensures.value ∙ ap nat_abs (read_back z (search rules))) in
+    let a = c.args in
+    row_turn a.machine.numbers a.sizes.now a.strides.now a.rank a.k c.loop-i.i c.loop-i.table _ c.requires.k_in_bounds.1.0 c.loop-i-test.true c.requires.k_in_bounds.1.1 c.loop-i.invariant stored
 
 pub returns : goal.returns
 returns c =
     let a = c.args in
-    row_done a.machine a.sizes.now a.strides.now a.rank a.k c.loop-i.i c.loop-i.table c.requires.k_in_bounds.1.0 c.requires.k_in_bounds.1.1 (omega arith) c.loop-i.invariant.1
+    row_done a.machine.numbers a.sizes.now a.strides.now a.rank a.k c.loop-i.i c.loop-i.table c.requires.k_in_bounds.1.0 c.requires.k_in_bounds.1.1 (omega arith) c.loop-i.invariant

@@ -1,14 +1,11 @@
 -- The invariants of `strictly_increasing`.
 use mathlib.Core.Path.{◌≡◌}
 use mathlib.Core.Bool.{true}
-use Prim.Native.Nat.{◌-◌, ◌≤◌}
+use Prim.Native.Nat.{◌-◌}
 use Rattle.strided.specs.Base.{every}
 use Rattle.laws.specs.Cut.Tables.{stride_size}
 use Rattle.model.specs.Exits.{rises}
 use Rattle.model.proofs.strictly_increasing.Given as goal
 
 abbrev pub invariant-loop-i : goal.invariant-loop-i
-invariant-loop-i l = (1 ≤ l.i) × (l.i ≤ l.rank) × (l.last ≡ stride_size l.strides l.k (l.i - 1)) × (every (rises l.strides l.k) 0 (l.i - 1) ≡ true)
-
-abbrev pub decreases-loop-i : goal.decreases-loop-i
-decreases-loop-i l = l.rank - l.i
+invariant-loop-i l = (l.last ≡ stride_size l.strides l.k (l.i - 1)) × (every (rises l.strides l.k) 0 (l.i - 1) ≡ true)

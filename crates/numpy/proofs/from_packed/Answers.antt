@@ -3,7 +3,7 @@
 use mathlib.Core.Path.{◌≡◌, sym, ap, ◌∙◌, subst}
 use mathlib.Core.Bool.{false}
 use mathlib.Core.List.{List, [], map}
-use mathlib.Core.Option.{none}
+use Rattle.std.specs.Prelude.{None}
 use Prim.Native.Nat.{ℕ, ◌≤◌, ◌<◌}
 use native.Mathlib.Omega.{arith}
 use lib.IntN.{pos}
@@ -11,7 +11,6 @@ use lib.ListN.{length, take, drop, length-take}
 use Rattle.strided.specs.Base.{padded}
 use Rattle.strided.specs.Digits.{digits_of}
 use Rattle.strided.specs.Text.{FitU}
-use Rattle.laws.specs.Base.Arrays.{length-padded}
 use Rattle.laws.specs.Refusals.Rows.{few-axes}
 use Rattle.reading.specs.Rows.{RowHere}
 use Rattle.numpy.specs.Numpy.{reversed, any_of, too_far, packed}
@@ -25,39 +24,12 @@ use Rattle.numpy.proofs.from_packed.Goals as goal
 pub returns-then-packed_wrong : goal.returns-then-packed_wrong
 returns-then-packed_wrong c = λ vs rest l r laid.
     let a = c.args in
-    c.refused.ensures ∙ told_19 (saying a.size a.rank vs none) (sym (c.packed_wrong.ensures vs rest l r) ∙ c.if-packed_wrong.true)
+    told_19 (saying a.size a.rank vs None) (sym (c.packed_wrong.ensures vs rest l r) ∙ c.if-packed_wrong.true)
 
 pub returns-then-rank_over : goal.returns-then-rank_over
 returns-then-rank_over c = λ vs rest l r laid.
     let a = c.args in
-    c.refused-then-rank_over.ensures
-    ∙ told_1 (saying a.size a.rank vs none) (sym (c.packed_wrong.ensures vs rest l r) ∙ c.if-packed_wrong.false) (sym c.rank_over.ensures ∙ c.if-rank_over.true)
-
-pub slice_bounds-reversed-end : goal.slice_bounds-reversed-end
-slice_bounds-reversed-end c =
-    -- rows 19 and 1 let the description through
-    let few : c.args.rank ≤ 64 = few-axes _ c.rank_over.ensures c.if-rank_over.false in
-    omega (arith, few, c.requires.0, length-take c.args.rank c.args.shape.now)
-
-pub reversed-extents-requires : goal.reversed-extents-requires
-reversed-extents-requires c =
-    let few : c.args.rank ≤ 64 = few-axes _ c.rank_over.ensures c.if-rank_over.false in
-    omega (arith, few, length-take c.args.rank c.args.shape.now)
-
-pub slice_bounds-extents-end : goal.slice_bounds-extents-end
-slice_bounds-extents-end c =
-    -- the array that was made
-    let places : length c.reversed-extents.result ≡ 64 = let a = c.args in
-    ap length c.reversed-extents.ensures ∙ length-padded {A = ℕ} 0 64 (reversed (take a.rank a.shape.now)) in
-    let few : c.args.rank ≤ 64 = few-axes _ c.rank_over.ensures c.if-rank_over.false in
-    omega (arith, places, few)
-
-pub slice_bounds-packed_strides-end : goal.slice_bounds-packed_strides-end
-slice_bounds-packed_strides-end c =
-    let places : length c.reversed-extents.result ≡ 64 = let a = c.args in
-    ap length c.reversed-extents.ensures ∙ length-padded {A = ℕ} 0 64 (reversed (take a.rank a.shape.now)) in
-    let few : c.args.rank ≤ 64 = few-axes _ c.rank_over.ensures c.if-rank_over.false in
-    omega (arith, places, few, length-take c.args.rank c.reversed-extents.result)
+    told_1 (saying a.size a.rank vs None) (sym (c.packed_wrong.ensures vs rest l r) ∙ c.if-packed_wrong.false) (sym c.rank_over.ensures ∙ c.if-rank_over.true)
 
 pub packed_strides-strides-requires : goal.packed_strides-strides-requires
 packed_strides-strides-requires c =
@@ -84,7 +56,7 @@ returns c =
     λ vs rest l r laid.
     let a = c.args in
     let y = right vs rest l r in
-    told-all (saying a.size a.rank vs none) (sym (c.packed_wrong.ensures vs rest l r) ∙ c.if-packed_wrong.false) (sym c.rank_over.ensures ∙ c.if-rank_over.false)
+    told-all (saying a.size a.rank vs None) (sym (c.packed_wrong.ensures vs rest l r) ∙ c.if-packed_wrong.false) (sym c.rank_over.ensures ∙ c.if-rank_over.false)
     (c.reversed-extents.ensures ∙ ap (λ (u : List ℕ). padded 64 0 (reversed u)) (laid few))
     (c.packed_strides-strides.ensures ∙ ap (λ (u : List ℕ). padded 64 (pos 0) (map pos (firsts 1 u))) (made vs l laid)
     ∙ ap (padded 64 (pos 0)) (sym (packed_strides a.size a.rank vs y.0)))

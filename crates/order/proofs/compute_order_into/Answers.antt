@@ -20,9 +20,6 @@ order_padded ws es n h =
     λ j. let w : ℕ → ℕ = λ i. read_padded 64 0 ws h i j in
     order_to (λ x y. ltb (w x) (w y) || (eqb (w x) (w y) && leb (get_or es x 0) (get_or es y 0))) n
 
-pub sort_by_importance_into-requires : goal.sort_by_importance_into-requires
-sort_by_importance_into-requires c = record { extents_len_bound = c.requires.layout.rank-few; order_value = c.requires.zeros.1 }
-
 pub returns : goal.returns
 unfolding loop_order
 returns c =

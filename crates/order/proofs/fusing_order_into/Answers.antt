@@ -38,8 +38,8 @@ pub returns-then-total_at_most : goal.returns-then-total_at_most
 returns-then-total_at_most c =
     let a = c.args in record { weights = zeros_behind _ (length a.extents.now) c.requires.layout.rank-few c.requires.zeros.0; order = c.as_given_into.ensures ∙ ap (padded 64 0) (small a.extents.now a.operands a.strides.now a.purpose c.total_at_most.ensures c.if-total_at_most.true) }
 
-pub returns : goal.returns
-returns c =
+pub returns-else-total_at_most : goal.returns-else-total_at_most
+returns-else-total_at_most c =
     let a = c.args in
     let n = length a.extents.now in
     let ws : List ℕ = weights a.extents.now a.operands a.strides.now (lead a.purpose) in

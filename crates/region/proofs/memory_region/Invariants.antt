@@ -1,6 +1,6 @@
 -- The invariants of `memory_region`.
 use mathlib.Core.Path.{◌≡◌}
-use Prim.Native.Nat.{◌-◌, ◌≤◌, min}
+use Prim.Native.Nat.{min}
 use Rattle.strided.specs.Base.{sum}
 use Rattle.strided.specs.Region.{region_of}
 use Rattle.laws.specs.Cut.Saturate.{cap}
@@ -8,7 +8,4 @@ use Rattle.region.specs.Tail.{axes}
 use Rattle.region.proofs.memory_region.Given as goal
 
 abbrev pub invariant-loop-k : goal.invariant-loop-k
-invariant-loop-k l = (l.k ≤ l.tail.operands) × (l.r ≡ min (sum (region_of l.machine l.bytes l.blocks l.tail.offset (axes l.tail)) 0 l.k) (cap l.machine))
-
-abbrev pub decreases-loop-k : goal.decreases-loop-k
-decreases-loop-k l = l.tail.operands - l.k
+invariant-loop-k l = l.r ≡ min (sum (region_of l.machine.numbers l.bytes l.blocks l.tail.offset (axes l.tail)) 0 l.k) (cap l.machine.numbers)

@@ -7,9 +7,7 @@ use Rattle.laws.specs.Cut.Saturate.{cap}
 use Rattle.region.proofs.region_of.Given as goal
 
 abbrev pub invariant-loop-i : goal.invariant-loop-i
-invariant-loop-i l = (l.tail.offset ≤ l.i) × (l.i ≤ l.tail.rank) × (l.c ≤ 536871168 * l.i)
-    × (min l.c (cap l.machine) ≡ min (sum (near l.machine l.bytes l.blocks l.k) l.tail.offset (l.i - l.tail.offset)) (cap l.machine))
-    × (l.m ≡ min (product (far l.machine l.bytes l.blocks l.k) l.tail.offset (l.i - l.tail.offset)) (cap l.machine))
-
-abbrev pub decreases-loop-i : goal.decreases-loop-i
-decreases-loop-i l = l.tail.rank - l.i
+invariant-loop-i l =
+    (l.c ≤ 536871168 * l.i)
+    × (min l.c (cap l.machine.numbers) ≡ min (sum (near l.machine.numbers l.bytes l.blocks l.k) l.fn.tail.offset (l.i - l.fn.tail.offset)) (cap l.machine.numbers))
+    × (l.m ≡ min (product (far l.machine.numbers l.bytes l.blocks l.k) l.fn.tail.offset (l.i - l.fn.tail.offset)) (cap l.machine.numbers))

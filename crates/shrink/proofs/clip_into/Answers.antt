@@ -10,44 +10,41 @@ use Rattle.strided.specs.Cut.{score}
 use Rattle.laws.specs.Cut.Picks.{pos_right}
 use Rattle.laws.specs.Cut.Jump.{clipped_over, over_start, over-step}
 use Rattle.shrink.proofs.clip_into.Goals as goal
-use Rattle.shrink.proofs.clip_into.Goals.{then-level-less_one, else-level-less_one}
+use Rattle.shrink.proofs.clip_into.Goals.{then-level-saturating_sub, else-level-saturating_sub}
 
 pub loop-i-init : goal.loop-i-init
-loop-i-init c = (omega arith, omega arith, sym (over_start _ _ _ _ _))
+loop-i-init c = sym (over_start _ _ _ _ _)
 
-pub less_one-requires : goal.less_one-requires
-less_one-requires c = tt
-
-pub overflow_mul-less_one : goal.overflow_mul-less_one
-overflow_mul-less_one c =
+pub overflow_mul-saturating_sub : goal.overflow_mul-saturating_sub
+overflow_mul-saturating_sub c =
     -- the product that the code compares is the score
-    let the-score : let a = c.args in c.less_one.result * get_or a.costs.now c.loop-i.i 0 ≡ score a.blocks.now a.costs.now c.loop-i.i = ap (λ (x : ℕ). x * get_or c.args.costs.now c.loop-i.i 0) c.less_one.ensures in
-    omega (arith, the-score, c.requires.1 c.loop-i.i (omega arith))
+    let the-score : let a = c.args in c.saturating_sub.result * get_or a.costs.now c.loop-i.i 0 ≡ score a.blocks.now a.costs.now c.loop-i.i = ap (λ (x : ℕ). x * get_or c.args.costs.now c.loop-i.i 0) c.saturating_sub.ensures in
+    omega (arith, the-score, c.requires c.loop-i.i (omega arith))
 
 pub nonzero_div-out : goal.nonzero_div-out
-nonzero_div-out c = pos_right c.less_one.result _ _ c.if-level-less_one.true
+nonzero_div-out c = pos_right c.saturating_sub.result _ _ c.if-level-saturating_sub.true
 
 pub overflow_add-out : goal.overflow_add-out
 overflow_add-out c =
-    let the-score : let a = c.args in c.less_one.result * get_or a.costs.now c.loop-i.i 0 ≡ score a.blocks.now a.costs.now c.loop-i.i = ap (λ (x : ℕ). x * get_or c.args.costs.now c.loop-i.i 0) c.less_one.ensures in
+    let the-score : let a = c.args in c.saturating_sub.result * get_or a.costs.now c.loop-i.i 0 ≡ score a.blocks.now a.costs.now c.loop-i.i = ap (λ (x : ℕ). x * get_or c.args.costs.now c.loop-i.i 0) c.saturating_sub.ensures in
     let a = c.args in
-    omega (arith, the-score, c.requires.1 c.loop-i.i (omega arith), div-le_self a.level (get_or a.costs.now c.loop-i.i 0))
+    omega (arith, the-score, c.requires c.loop-i.i (omega arith), div-le_self a.level (get_or a.costs.now c.loop-i.i 0))
 
 pub loop-i-preserved : goal.loop-i-preserved
 loop-i-preserved c =
-    let the-score : let a = c.args in c.less_one.result * get_or a.costs.now c.loop-i.i 0 ≡ score a.blocks.now a.costs.now c.loop-i.i = ap (λ (x : ℕ). x * get_or c.args.costs.now c.loop-i.i 0) c.less_one.ensures in
+    let the-score : let a = c.args in c.saturating_sub.result * get_or a.costs.now c.loop-i.i 0 ≡ score a.blocks.now a.costs.now c.loop-i.i = ap (λ (x : ℕ). x * get_or c.args.costs.now c.loop-i.i 0) c.saturating_sub.ensures in
     let a = c.args in
     let i : ℕ = c.loop-i.i in
     let sc : ℕ = score a.blocks.now a.costs.now i in
     let e = the-score in
-    let st = over-step a.level a.costs.now a.tail.offset i a.blocks.now a.out.now c.loop-i.invariant.0 in
-    elim c.if-level-less_one.branch [
-      | then-level-less_one w ↦ let above : a.level < sc = omega (arith, e, w.if-level-less_one.true) in (omega arith, omega arith, rw (w.out-is, c.loop-i.invariant.2, st, lt-ltb a.level sc above))
-      | else-level-less_one w ↦ let within : sc ≤ a.level = omega (arith, e, w.if-level-less_one.false) in (omega arith, omega arith, rw (w.out-is, c.loop-i.invariant.2, st, le-ltb a.level sc within))
+    let st = over-step a.level a.costs.now a.tail.offset i a.blocks.now a.out.now c.loop-i.auto.i in
+    elim c.if-level-saturating_sub.branch [
+      | then-level-saturating_sub w ↦ let above : a.level < sc = omega (arith, e, w.if-level-saturating_sub.true) in (rw (w.out-is, c.loop-i.invariant, st, lt-ltb a.level sc above))
+      | else-level-saturating_sub w ↦ let within : sc ≤ a.level = omega (arith, e, w.if-level-saturating_sub.false) in (rw (w.out-is, c.loop-i.invariant, st, le-ltb a.level sc within))
     ]
 
 pub returns : goal.returns
 returns c = let a = c.args in
     let l = c.loop-i in
     let e : l.i ≡ a.tail.rank = omega arith in
-    l.invariant.2 ∙ ap (λ (i : ℕ). clipped_over a.level a.costs.now a.tail.offset (i - a.tail.offset) a.blocks.now a.out.now) e
+    l.invariant ∙ ap (λ (i : ℕ). clipped_over a.level a.costs.now a.tail.offset (i - a.tail.offset) a.blocks.now a.out.now) e

@@ -1,77 +1,72 @@
 -- `shrink::halve` meets its contract. The invariant: the blocks end up by the rule as those at first would. The loop ends, since each turn
 -- leaves fewer cells; what a turn does is a law about the rule (laws, Cut/Steps). Assumes nothing.
 use native.Mathlib.Omega.{arith}
-use mathlib.Core.Path.{◌≡◌, refl, sym, ap, ◌∙◌}
-use mathlib.Core.Option.{some, none}
-use Prim.Native.Nat.{ℕ, ◌*◌, ◌≤◌, ◌<◌}
+use mathlib.Core.Path.{◌≡◌, refl, sym, ◌∙◌}
+use Rattle.std.specs.Prelude.{None}
+use Prim.Native.Nat.{ℕ, ◌+◌, ◌/◌, ◌*◌, ◌≤◌, ◌<◌}
 use lib.ListN.{set}
 use Rattle.strided.specs.Region.{region}
 use Rattle.strided.specs.Cut.{greatest_score, halved}
-use Rattle.laws.specs.Cut.Picks.{pick_is}
 use Rattle.laws.specs.Cut.Steps.{halved_small, halved_nothing, Turn, halved_turn}
 use Rattle.region.specs.Tail.{axes}
-use Rattle.shrink.specs.Picked.{picked}
+use Rattle.std.specs.Int.{div_ceil}
+use Rattle.shrink.proofs.Places.{there, place}
 use Rattle.shrink.proofs.halve.Goals as goal
 
+-- half of a block, rounding up
+halves : (x : ℕ) {r : ℕ} → r ≡ div_ceil x 2 → r ≡ (x + 1) / 2
+halves x h = omega arith
+
 pub loop-machine-init : goal.loop-machine-init
-loop-machine-init c = (c.requires.within.1, refl)
+loop-machine-init c = (c.requires, refl)
 
 pub returns-then-memory_region-machine : goal.returns-then-memory_region-machine
 returns-then-memory_region-machine c = let a = c.args in
     let n : ℕ = axes a.tail in
-    let small : region a.machine a.bytes.now a.tail.operands c.loop-machine.blocks a.tail.offset n < 2 * a.machine.cache = omega arith in
-    sym (halved_small a.machine a.bytes.now a.tail.operands a.costs.now a.tail.offset n c.loop-machine.blocks small) ∙ c.loop-machine.invariant.1
+    let small : region a.machine.numbers a.bytes.now a.tail.operands c.loop-machine.blocks a.tail.offset n < 2 * a.machine.numbers.cache = omega arith in
+    sym (halved_small a.machine.numbers a.bytes.now a.tail.operands a.costs.now a.tail.offset n c.loop-machine.blocks small) ∙ c.loop-machine.invariant.1
 
 pub returns-in_default : goal.returns-in_default
 returns-in_default c = let a = c.args in
     let n : ℕ = axes a.tail in
-    let nothing : greatest_score c.loop-machine.blocks a.costs.now a.tail.offset n ≡ none = sym c.last_argmax_weighted.ensures ∙ ap picked c.in_default.is in
-    sym (halved_nothing a.machine a.bytes.now a.tail.operands a.costs.now a.tail.offset n c.loop-machine.blocks nothing) ∙ c.loop-machine.invariant.1
+    let nothing : greatest_score c.loop-machine.blocks a.costs.now a.tail.offset n ≡ None = sym c.last_argmax_weighted.ensures ∙ c.in_default.is in
+    sym (halved_nothing a.machine.numbers a.bytes.now a.tail.operands a.costs.now a.tail.offset n c.loop-machine.blocks nothing) ∙ c.loop-machine.invariant.1
 
 pub offset_bounds-blocks-i : goal.offset_bounds-blocks-i
 offset_bounds-blocks-i c =
-    -- the pick, where there is one
-    let at : let a = c.args in greatest_score c.loop-machine.blocks a.costs.now a.tail.offset (axes a.tail) ≡ some c.in-At.i = sym c.last_argmax_weighted.ensures ∙ ap picked c.in-At.is in
-    -- it is a place of the array
-    let place : c.in-At.i < 64 = let r = pick_is _ _ _ _ _ at in omega (arith, r.from, r.below) in
-    omega (arith, place)
+    let at = there c.last_argmax_weighted.ensures c.in-Some.is in
+    omega (arith, place _ _ _ _ at)
 
 pub bounds-blocks-i : goal.bounds-blocks-i
 bounds-blocks-i c =
-    let at : let a = c.args in greatest_score c.loop-machine.blocks a.costs.now a.tail.offset (axes a.tail) ≡ some c.in-At.i = sym c.last_argmax_weighted.ensures ∙ ap picked c.in-At.is in
-    let place : c.in-At.i < 64 = let r = pick_is _ _ _ _ _ at in omega (arith, r.from, r.below) in
-    omega (arith, place)
-
-pub half-requires : goal.half-requires
-half-requires c = tt
+    let at = there c.last_argmax_weighted.ensures c.in-Some.is in
+    omega (arith, place _ _ _ _ at)
 
 pub offset_bounds-blocks-i-in-loop-machine : goal.offset_bounds-blocks-i-in-loop-machine
 offset_bounds-blocks-i-in-loop-machine c =
-    let at : let a = c.args in greatest_score c.loop-machine.blocks a.costs.now a.tail.offset (axes a.tail) ≡ some c.in-At.i = sym c.last_argmax_weighted.ensures ∙ ap picked c.in-At.is in
-    let place : c.in-At.i < 64 = let r = pick_is _ _ _ _ _ at in omega (arith, r.from, r.below) in
-    omega (arith, place)
+    let at = there c.last_argmax_weighted.ensures c.in-Some.is in
+    omega (arith, place _ _ _ _ at)
 
 pub bounds-blocks-i-in-loop-machine : goal.bounds-blocks-i-in-loop-machine
 bounds-blocks-i-in-loop-machine c =
-    let at : let a = c.args in greatest_score c.loop-machine.blocks a.costs.now a.tail.offset (axes a.tail) ≡ some c.in-At.i = sym c.last_argmax_weighted.ensures ∙ ap picked c.in-At.is in
-    let place : c.in-At.i < 64 = let r = pick_is _ _ _ _ _ at in omega (arith, r.from, r.below) in
-    omega (arith, place)
+    let at = there c.last_argmax_weighted.ensures c.in-Some.is in
+    omega (arith, place _ _ _ _ at)
 
 pub loop-machine-smaller : goal.loop-machine-smaller
 loop-machine-smaller c =
-    let at : let a = c.args in greatest_score c.loop-machine.blocks a.costs.now a.tail.offset (axes a.tail) ≡ some c.in-At.i = sym c.last_argmax_weighted.ensures ∙ ap picked c.in-At.is in
+    let at = there c.last_argmax_weighted.ensures c.in-Some.is in
     -- what the turn makes of the blocks
-    let turn : let a = c.args in let n : ℕ = axes a.tail in Turn (halved a.machine a.bytes.now a.tail.operands a.costs.now a.tail.offset n) a.tail.offset n a.tail.rank a.costs.now c.loop-machine.blocks (set c.loop-machine.blocks c.in-At.i c.half.result) = let a = c.args in
+    let turn : let a = c.args in let n : ℕ = axes a.tail in Turn (halved a.machine.numbers a.bytes.now a.tail.operands a.costs.now a.tail.offset n) a.tail.offset n a.tail.rank a.costs.now c.loop-machine.blocks (set c.loop-machine.blocks c.in-Some.i c.div_ceil.result) = let a = c.args in
     let n : ℕ = axes a.tail in
-    let big : 2 * a.machine.cache ≤ region a.machine a.bytes.now a.tail.operands c.loop-machine.blocks a.tail.offset n = omega arith in
-    halved_turn a.machine a.bytes.now a.tail.operands a.costs.now a.tail.offset n a.tail.rank c.loop-machine.blocks c.in-At.i c.loop-machine.invariant.0 at c.half.result c.half.ensures big in
+    let big : 2 * a.machine.numbers.cache ≤ region a.machine.numbers a.bytes.now a.tail.operands c.loop-machine.blocks a.tail.offset n = omega arith in
+    halved_turn a.machine.numbers a.bytes.now a.tail.operands a.costs.now a.tail.offset n a.tail.rank c.loop-machine.blocks c.in-Some.i c.loop-machine.invariant.0 at c.div_ceil.result (halves _ c.div_ceil.ensures) big in
     turn.fewer
 
 pub loop-machine-preserved : goal.loop-machine-preserved
 loop-machine-preserved c =
-    let at : let a = c.args in greatest_score c.loop-machine.blocks a.costs.now a.tail.offset (axes a.tail) ≡ some c.in-At.i = sym c.last_argmax_weighted.ensures ∙ ap picked c.in-At.is in
-    let turn : let a = c.args in let n : ℕ = axes a.tail in Turn (halved a.machine a.bytes.now a.tail.operands a.costs.now a.tail.offset n) a.tail.offset n a.tail.rank a.costs.now c.loop-machine.blocks (set c.loop-machine.blocks c.in-At.i c.half.result) = let a = c.args in
+    let at = there c.last_argmax_weighted.ensures c.in-Some.is in
+    let turn : let a = c.args in let n : ℕ = axes a.tail in Turn (halved a.machine.numbers a.bytes.now a.tail.operands a.costs.now a.tail.offset n) a.tail.offset n a.tail.rank a.costs.now c.loop-machine.blocks (set c.loop-machine.blocks c.in-Some.i c.div_ceil.result) = let a = c.args in
     let n : ℕ = axes a.tail in
-    let big : 2 * a.machine.cache ≤ region a.machine a.bytes.now a.tail.operands c.loop-machine.blocks a.tail.offset n = omega arith in
-    halved_turn a.machine a.bytes.now a.tail.operands a.costs.now a.tail.offset n a.tail.rank c.loop-machine.blocks c.in-At.i c.loop-machine.invariant.0 at c.half.result c.half.ensures big in
+    let big : 2 * a.machine.numbers.cache ≤ region a.machine.numbers a.bytes.now a.tail.operands c.loop-machine.blocks a.tail.offset n = omega arith in
+    halved_turn a.machine.numbers a.bytes.now a.tail.operands a.costs.now a.tail.offset n a.tail.rank c.loop-machine.blocks c.in-Some.i c.loop-machine.invariant.0 at c.div_ceil.result (halves _ c.div_ceil.ensures) big in
     (turn.fit, turn.same ∙ c.loop-machine.invariant.1)

@@ -2,7 +2,7 @@
 -- score of 0 does not, which is that of a block of 1 or of an axis without a cost; of equal scores the later wins. Assumes nothing.
 use native.Mathlib.Omega.{arith}
 use mathlib.Core.Path.{◌≡◌, refl, sym, ap, ◌∙◌}
-use mathlib.Core.Option.{Option}
+use Rattle.std.specs.Prelude.{Option}
 use Prim.Native.Nat.{ℕ, ◌-◌, ◌*◌, ◌≤◌, ◌<◌}
 use lib.ListN.{get_or}
 use Rattle.strided.specs.Cut.{score, greatest_score}
@@ -11,35 +11,32 @@ use Rattle.shrink.proofs.last_argmax_weighted.Goals as goal
 use Rattle.shrink.proofs.last_argmax_weighted.Goals.{then-s-top, else-s-top}
 
 pub loop-i-init : goal.loop-i-init
-loop-i-init c = (omega arith, omega arith, sym (pick_start _ _ _), refl)
-
-pub less_one-requires : goal.less_one-requires
-less_one-requires c = tt
+loop-i-init c = (sym (pick_start _ _ _), refl)
 
 pub overflow_mul-s : goal.overflow_mul-s
 overflow_mul-s c =
     -- the product is the score
-    let the-score : let a = c.args in c.less_one.result * get_or a.costs.now c.loop-i.i 0 ≡ score a.blocks.now a.costs.now c.loop-i.i = ap (λ (x : ℕ). x * get_or c.args.costs.now c.loop-i.i 0) c.less_one.ensures in
-    omega (arith, the-score, c.requires.1 c.loop-i.i (omega arith))
+    let the-score : let a = c.args in c.saturating_sub.result * get_or a.costs.now c.loop-i.i 0 ≡ score a.blocks.now a.costs.now c.loop-i.i = ap (λ (x : ℕ). x * get_or c.args.costs.now c.loop-i.i 0) c.saturating_sub.ensures in
+    omega (arith, the-score, c.requires c.loop-i.i (omega arith))
 
 pub loop-i-preserved : goal.loop-i-preserved
 loop-i-preserved c =
-    let the-score : let a = c.args in c.less_one.result * get_or a.costs.now c.loop-i.i 0 ≡ score a.blocks.now a.costs.now c.loop-i.i = ap (λ (x : ℕ). x * get_or c.args.costs.now c.loop-i.i 0) c.less_one.ensures in
+    let the-score : let a = c.args in c.saturating_sub.result * get_or a.costs.now c.loop-i.i 0 ≡ score a.blocks.now a.costs.now c.loop-i.i = ap (λ (x : ℕ). x * get_or c.args.costs.now c.loop-i.i 0) c.saturating_sub.ensures in
     let a = c.args in
     let i : ℕ = c.loop-i.i in
     let s : ℕ → ℕ = score a.blocks.now a.costs.now in
     let old : Option ℕ = greatest_score a.blocks.now a.costs.now a.tail.offset (i - a.tail.offset) in
     let sc = the-score in
-    let e : bar_of s old ≡ c.loop-i.top = sym (c.loop-i.invariant.3 ∙ ap (bar_of s) c.loop-i.invariant.2) in
+    let e : bar_of s old ≡ c.loop-i.top = sym (c.loop-i.invariant.1 ∙ ap (bar_of s) c.loop-i.invariant.0) in
     elim c.if-s-top.branch [
       | then-s-top w ↦ let wins : bar_of s old ≤ s i = omega (arith, e, sc, w.if-s-top.true) in
-          (omega arith, omega arith, rw (w.best-is, pick_wins a.blocks.now a.costs.now a.tail.offset i c.loop-i.invariant.0 wins), rw (w.best-is, w.top-is) sc)
+          (rw (w.best-is, pick_wins a.blocks.now a.costs.now a.tail.offset i c.loop-i.auto.i wins), rw (w.best-is, w.top-is) sc)
       | else-s-top w ↦ let loses : s i < bar_of s old = omega (arith, e, sc, w.if-s-top.false) in
-          (omega arith, omega arith, rw (w.best-is, pick_loses a.blocks.now a.costs.now a.tail.offset i c.loop-i.invariant.0 loses) c.loop-i.invariant.2, rw (w.best-is, w.top-is) c.loop-i.invariant.3)
+          (rw (w.best-is, pick_loses a.blocks.now a.costs.now a.tail.offset i c.loop-i.auto.i loses) c.loop-i.invariant.0, rw (w.best-is, w.top-is) c.loop-i.invariant.1)
     ]
 
 pub returns : goal.returns
 returns c = let a = c.args in
     let l = c.loop-i in
     let e : l.i ≡ a.tail.rank = omega arith in
-    l.invariant.2 ∙ ap (λ (i : ℕ). greatest_score a.blocks.now a.costs.now a.tail.offset (i - a.tail.offset)) e
+    l.invariant.0 ∙ ap (λ (i : ℕ). greatest_score a.blocks.now a.costs.now a.tail.offset (i - a.tail.offset)) e

@@ -11,6 +11,7 @@ use Rattle.laws.specs.Cut.Steps.{ScoresFit, lessened_fits}
 use Rattle.laws.specs.Cut.Jump.{clipped, clipped_over, over_itself, jump, clipped_scores}
 use Rattle.laws.specs.Cut.Level.{Least}
 use Rattle.region.specs.Tail.{axes}
+use Rattle.std.proofs.Common.{subst}
 use Rattle.shrink.proofs.lessen_far.Goals as goal
 
 -- the blocks b clipped at the score s are t, which the single steps start from
@@ -27,18 +28,18 @@ module _ (mc : Machine) (bytes : List ℕ) (operands : ℕ) (costs : List ℕ) (
 pub returns-then-memory_region-machine : goal.returns-then-memory_region-machine
 returns-then-memory_region-machine c =
     let a = c.args in
-    let small : region a.machine a.bytes.now a.tail.operands a.blocks.now a.tail.offset (axes a.tail) ≤ a.machine.cache = omega arith in
-    sym (lessened_fits a.machine a.bytes.now a.tail.operands a.costs.now a.tail.offset (axes a.tail) a.blocks.now small)
+    let small : region a.machine.numbers a.bytes.now a.tail.operands a.blocks.now a.tail.offset (axes a.tail) ≤ a.machine.numbers.cache = omega arith in
+    sym (lessened_fits a.machine.numbers a.bytes.now a.tail.operands a.costs.now a.tail.offset (axes a.tail) a.blocks.now small)
 
 pub level-s-requires : goal.level-s-requires
-level-s-requires c = record { allowed = c.requires.allowed; within = c.requires.within; cache_bound = omega arith }
+level-s-requires c = record { scores = c.requires; cache_bound = omega arith }
 
 pub lessen-requires : goal.lessen-requires
 lessen-requires c =
-    let a = c.args in record { allowed = c.requires.allowed; within = (c.requires.within.0, still-fit a.machine a.bytes.now a.tail.operands a.costs.now a.tail.offset (axes a.tail) a.tail.rank a.blocks.now c.level-s.result c.clip_into.ensures c.requires.within.1) }
+    let a = c.args in still-fit a.machine.numbers a.bytes.now a.tail.operands a.costs.now a.tail.offset (axes a.tail) a.tail.rank a.blocks.now c.level-s.result c.clip_into.ensures c.requires
 
 pub returns : goal.returns
 returns c =
     let a = c.args in
     c.lessen.ensures
-    ∙ same_end a.machine a.bytes.now a.tail.operands a.costs.now a.tail.offset (axes a.tail) a.tail.rank a.blocks.now c.level-s.result c.clip_into.ensures c.level-s.ensures
+    ∙ same_end a.machine.numbers a.bytes.now a.tail.operands a.costs.now a.tail.offset (axes a.tail) a.tail.rank a.blocks.now c.level-s.result c.clip_into.ensures c.level-s.ensures

@@ -16,16 +16,16 @@ loop-lo-preserved-then-machine-memory_region c =
     let l = c.loop-lo in
     let a = c.args in
     let t : List ℕ = c.clip_into.new.out in
-    let big : a.machine.cache < region a.machine a.bytes.now a.tail.operands t a.tail.offset (axes a.tail) = omega (arith, c.memory_region.ensures, c.if-machine-memory_region.true) in
-    (seek_down a.machine _ _ _ _ _ _ l.t l.lo l.hi _ l.invariant.0 (omega arith) (omega arith) c.clip_into.ensures big, omega arith)
+    let big : a.machine.numbers.cache < region a.machine.numbers a.bytes.now a.tail.operands t a.tail.offset (axes a.tail) = omega (arith, c.memory_region.ensures, c.if-machine-memory_region.true) in
+    (seek_down a.machine.numbers _ _ _ _ _ _ l.t l.lo l.hi _ l.invariant.0 (omega arith) (omega arith) c.clip_into.ensures big, omega arith)
 
 pub loop-lo-preserved : goal.loop-lo-preserved
 loop-lo-preserved c =
     let l = c.loop-lo in
     let a = c.args in
     let t : List ℕ = c.clip_into.new.out in
-    let small : region a.machine a.bytes.now a.tail.operands t a.tail.offset (axes a.tail) ≤ a.machine.cache = omega (arith, c.memory_region.ensures, c.if-machine-memory_region.false) in
-    (seek-up a.machine _ _ _ _ _ _ l.t l.lo l.hi _ l.invariant.0 (omega arith) (omega arith) c.clip_into.ensures small, omega arith)
+    let small : region a.machine.numbers a.bytes.now a.tail.operands t a.tail.offset (axes a.tail) ≤ a.machine.numbers.cache = omega (arith, c.memory_region.ensures, c.if-machine-memory_region.false) in
+    (seek-up a.machine.numbers _ _ _ _ _ _ l.t l.lo l.hi _ l.invariant.0 (omega arith) (omega arith) c.clip_into.ensures small, omega arith)
 
 pub returns : goal.returns
 returns c = let l = c.loop-lo in sought _ _ _ _ _ _ _ l.t l.lo l.hi l.invariant.0 c.loop-lo-test.false

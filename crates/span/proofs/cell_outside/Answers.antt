@@ -3,7 +3,7 @@ use mathlib.Core.Path.{◌≡◌, sym, ◌∙◌}
 use mir.Facts.{to_z-of_z}
 use mathlib.Core.Bool.{false}
 use Rattle.strided.specs.Layout.{has_zero}
-use Rattle.span.proofs.Sums.{full, no_cell, starts_below, start_cast, too_low, down_le, top_fits, top_test}
+use Rattle.span.proofs.Sums.{full, no_cell, starts_below, too_low, down_le, top_test}
 use Rattle.span.proofs.cell_outside.Goals as goal
 use mir.Syntax.{w64}
 
@@ -12,9 +12,6 @@ returns-then-has_zero c = no_cell _ _ _ _ (sym c.has_zero.ensures ∙ c.if-has_z
 
 pub returns-then-start-lt0 : goal.returns-then-start-lt0
 returns-then-start-lt0 c = starts_below _ _ _ (sym c.has_zero.ensures ∙ c.if-has_zero.false) _ (rw (to_z-of_z {w = w64} c.ranges.start) at c.if-start-lt0.true)
-
-pub overflow_cast-at : goal.overflow_cast-at
-overflow_cast-at c = start_cast _ c.ranges.start c.if-start-lt0.false
 
 pub down_of-below-requires : goal.down_of-below-requires
 down_of-below-requires c =
@@ -31,11 +28,6 @@ pub overflow_sub-result : goal.overflow_sub-result
 overflow_sub-result c =
     let whole : has_zero c.args.extents.now ≡ false = sym c.has_zero.ensures ∙ c.if-has_zero.false in
     down_le _ c.ranges.start c.if-start-lt0.false _ _ c.args.cells c.requires whole _ c.down_of-below.ensures _ c.reach_of-reach.ensures
-
-pub overflow_add-result : goal.overflow_add-result
-overflow_add-result c =
-    let whole : has_zero c.args.extents.now ≡ false = sym c.has_zero.ensures ∙ c.if-has_zero.false in
-    record { fits = top_fits _ c.ranges.start c.if-start-lt0.false _ _ c.args.cells c.requires whole _ c.down_of-below.ensures _ c.reach_of-reach.ensures }
 
 pub returns : goal.returns
 returns c =

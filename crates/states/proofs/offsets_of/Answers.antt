@@ -1,24 +1,16 @@
 -- `states::offsets_of` meets its contract. Assumes nothing.
-use Rattle.states.proofs.Blanks.{starts_padded}
-use Rattle.advance.specs.Filled.{filled_to, filled_none, filled_more}
-use borrow.Author.Rules.{sfits_of}
-use mir.Facts.{to_z-of_z}
-use lib.ListN.{get_or, replicate}
-use lib.IntN.{pos}
-use native.Mathlib.Nat.{le_antisymm}
-use Prim.Native.Nat.{ℕ}
-use native.Mathlib.Omega.{arith}
-use mathlib.Core.Path.{ap, ◌∙◌}
+use Rattle.std.proofs.Common.{ap, ◌∙◌, List, ◌++◌, ℤ, pos, drop, length, ◌≡◌, ◌∷◌, [], ℕ, zero, suc, ◌≤◌, arith, refl}
+use Rattle.strided.specs.Base.{padded}
 use Rattle.states.proofs.offsets_of.Goals as goal
-use mir.Syntax.{w64}
 
-pub loop-k-init : goal.loop-k-init
-loop-k-init c = (omega arith, filled_none _ _)
-
-pub loop-k-preserved : goal.loop-k-preserved
-loop-k-preserved c = (omega arith, filled_more _ _ _ _ _ c.loop-k.invariant.1 (to_z-of_z {w = w64} (sfits_of c.start-1.given)))
+-- a list copied over the front of an array of z
+laid_over : (z : ℤ) (n : ℕ) (xs : List ℤ) → length xs ≤ n → xs ++ drop (length xs) (padded n z []) ≡ padded n z xs
+laid_over z zero [] h = refl
+laid_over z zero (x ∷ xs) h = absurd (omega arith)
+laid_over z (suc n) [] h = refl
+laid_over z (suc n) (x ∷ xs) h = ap (λ r. x ∷ r) (laid_over z n xs (omega arith))
 
 pub returns : goal.returns
 returns c =
-    let zs = c.args.starts.now in
-    c.loop-k.invariant.1 ∙ ap (filled_to (replicate 8 (pos 0)) (λ (k : ℕ). get_or zs k (pos 0))) (le_antisymm c.loop-k.invariant.0 c.loop-k-test.false) ∙ starts_padded zs c.requires
+    let starts = c.args.starts.now in
+    ap (λ (l : List ℤ). l ++ drop (length starts) (padded 8 (pos 0) [])) c.copy_from_slice.ensures.after ∙ laid_over (pos 0) 8 starts c.requires

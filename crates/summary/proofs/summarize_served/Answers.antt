@@ -9,7 +9,7 @@ use native.Mathlib.Omega.{arith}
 use lib.IntN.{ℤ}
 use lib.ListN.{length}
 use mir.Facts.{to_z-of_z}
-use Rattle.strided.specs.Begin.{begun_at}
+use Rattle.std.proofs.lemmas.Result.{err_from_is_err_and}
 use Rattle.strided.specs.Layout.{stride_row}
 use Rattle.strided.specs.Refusals.{row9}
 use Rattle.strided.specs.Memory.{plan_of}
@@ -17,7 +17,6 @@ use Rattle.strided.specs.declared.Refusal.TheVariants.{Offsets, Slice}
 use Rattle.strided.specs.declared.Plan.{Plan}
 use Rattle.laws.specs.Refusals.Accepted.{accepted}
 use Rattle.laws.specs.Refusals.Record.{planning_allowed, planning_layout}
-use Rattle.span.specs.Span.{outside}
 use Rattle.summary.specs.Ahead.{Summable, met}
 use Rattle.summary.specs.Sums.{nothing_met}
 use Rattle.summary.specs.Visits.{cell_sizes, ordering, summary_plan, visits_of}
@@ -32,36 +31,30 @@ plan_into-rank-requires c =
 pub cell_outside-requires : goal.cell_outside-requires
 cell_outside-requires c = spans c.args.machine c.args.extents.now c.args.strides.now c.requires
 
-pub returns-in-Refused : goal.returns-in-Refused
-returns-in-Refused c =
-    -- the plan that was made is the summary's
-    let planMade : Plan = let m = c.plan_into-rank in plan_of m.result 1 m.new.es m.new.blocks m.new.table in
-    -- where it applies: the beginning of the walk
-    let begin-is : c.begin_on-begun.result ≡ begun_at planMade (c.args.start ∷ []) = c.begin_on-begun.ensures ∙ ap (λ (z : ℤ). begun_at planMade (z ∷ [])) (to_z-of_z {w = w64} c.ranges.start) in
+pub returns-in_err-begin_on : goal.returns-in_err-begin_on
+returns-in_err-begin_on c =
+    let begin-is = rw (to_z-of_z {w = w64} c.ranges.start) at c.begin_on.ensures in
     let a = c.args in
-    refused_with a.machine a.extents.now a.strides.now a.start a.cells.now Offsets
-    (refused_9 a.machine a.extents.now a.strides.now c.requires a.start a.cells.now
-    (begun-refused a.machine a.extents.now a.strides.now c.requires c.plan_into-rank.ensures a.start begin-is c.in-Refused.is))
-    nothing_met c.refused.ensures
+    let p = err_from_is_err_and c.from_residual.result c.from_residual.ensures.1 in
+    let nine = begun-refused a.machine a.extents.now a.strides.now c.requires c.plan_into-rank.ensures a.start begin-is c.in_err-begin_on.was in
+    rw (p.1, p.2, nine.0) (refused_with a.machine a.extents.now a.strides.now a.start a.cells.now Offsets
+    (refused_9 a.machine a.extents.now a.strides.now c.requires a.start a.cells.now nine.1))
 
-pub returns-in-Served : goal.returns-in-Served
-returns-in-Served c =
-    let planMade : Plan = let m = c.plan_into-rank in plan_of m.result 1 m.new.es m.new.blocks m.new.table in
-    let begin-is : c.begin_on-begun.result ≡ begun_at planMade (c.args.start ∷ []) = c.begin_on-begun.ensures ∙ ap (λ (z : ℤ). begun_at planMade (z ∷ [])) (to_z-of_z {w = w64} c.ranges.start) in
+pub returns-then-cell_outside : goal.returns-then-cell_outside
+returns-then-cell_outside c =
+    let begin-is = rw (to_z-of_z {w = w64} c.ranges.start) at c.begin_on.ensures in
     -- row 22
-    let outside-is : let a = c.args in c.cell_outside.result ≡ outside a.extents.now a.strides.now a.start (length a.cells.now) = c.cell_outside.ensures ∙ ap (λ (z : ℤ). outside c.args.extents.now c.args.strides.now z (length c.args.cells.now)) (to_z-of_z {w = w64} c.ranges.start) in
+    let outside-is = rw (to_z-of_z {w = w64} c.ranges.start) at c.cell_outside.ensures in
     let a = c.args in
-    let taken = begun_taken a.machine a.extents.now a.strides.now c.requires c.plan_into-rank.ensures a.start begin-is c.in-Served.is in
+    let taken = begun_taken a.machine a.extents.now a.strides.now c.requires c.plan_into-rank.ensures a.start begin-is c.in_ok-begin_on.was in
     refused_with a.machine a.extents.now a.strides.now a.start a.cells.now Slice
     (refused_22 a.machine a.extents.now a.strides.now c.requires a.start a.cells.now
     (begins_if a.machine a.extents.now a.strides.now c.requires a.start taken) (sym outside-is ∙ c.if-cell_outside.true))
-    nothing_met c.refused-in-Served.ensures
 
-pub summary_on-summary-requires : goal.summary_on-summary-requires
-summary_on-summary-requires c =
-    let planMade : Plan = let m = c.plan_into-rank in plan_of m.result 1 m.new.es m.new.blocks m.new.table in
-    let plan-made : let a = c.args in planMade ≡ summary_plan a.machine a.extents.now a.strides.now = made_plan c.args.machine c.args.extents.now c.args.strides.now c.requires _ _ _ _ c.plan_into-rank.ensures in
-    let outside-is : let a = c.args in c.cell_outside.result ≡ outside a.extents.now a.strides.now a.start (length a.cells.now) = c.cell_outside.ensures ∙ ap (λ (z : ℤ). outside c.args.extents.now c.args.strides.now z (length c.args.cells.now)) (to_z-of_z {w = w64} c.ranges.start) in
+pub summary_on-requires : goal.summary_on-requires
+summary_on-requires c =
+    let plan-made = made_plan c.args.machine c.args.extents.now c.args.strides.now c.requires _ _ _ _ c.plan_into-rank.ensures in
+    let outside-is = rw (to_z-of_z {w = w64} c.ranges.start) at c.cell_outside.ensures in
     -- where it does not, 9 does not either
     let stays : let a = c.args in (row9 a.extents.now 1 (stride_row a.strides.now (length a.extents.now)) (a.start ∷ [])).applies ≡ false = let a = c.args in
     let n = length a.cells.now in
@@ -73,20 +66,19 @@ summary_on-summary-requires c =
     (if_begins a.machine a.extents.now a.strides.now c.requires a.start stays) (sym outside-is ∙ c.if-cell_outside.false) in
     rw (to_z-of_z {w = w64} c.ranges.start) (subst (λ (p : Plan). Summable p c.args.start c.args.cells.now) (sym plan-made) all-met)
 
-pub returns-else-cell_outside : goal.returns-else-cell_outside
-returns-else-cell_outside c =
-    let outside-is : let a = c.args in c.cell_outside.result ≡ outside a.extents.now a.strides.now a.start (length a.cells.now) = c.cell_outside.ensures ∙ ap (λ (z : ℤ). outside c.args.extents.now c.args.strides.now z (length c.args.cells.now)) (to_z-of_z {w = w64} c.ranges.start) in
+pub returns : goal.returns
+returns c =
+    let outside-is = rw (to_z-of_z {w = w64} c.ranges.start) at c.cell_outside.ensures in
     let stays : let a = c.args in (row9 a.extents.now 1 (stride_row a.strides.now (length a.extents.now)) (a.start ∷ [])).applies ≡ false = let a = c.args in
     let n = length a.cells.now in
     let room : n * 8 < 2 ^ 63 = omega arith in
     inside_stays a.machine a.extents.now a.strides.now c.requires a.start n (omega (arith, room)) (sym outside-is ∙ c.if-cell_outside.false) in
     let planMade : Plan = let m = c.plan_into-rank in plan_of m.result 1 m.new.es m.new.blocks m.new.table in
-    let plan-made : let a = c.args in planMade ≡ summary_plan a.machine a.extents.now a.strides.now = made_plan c.args.machine c.args.extents.now c.args.strides.now c.requires _ _ _ _ c.plan_into-rank.ensures in
+    let plan-made = made_plan c.args.machine c.args.extents.now c.args.strides.now c.requires _ _ _ _ c.plan_into-rank.ensures in
     let a = c.args in
     served_with a.machine a.extents.now a.strides.now a.start a.cells.now
     (not-refused a.machine a.extents.now a.strides.now c.requires a.start a.cells.now stays (sym outside-is ∙ c.if-cell_outside.false))
-    c.summary_on-summary.result refl
-    (c.summary_on-summary.ensures
+    (c.summary_on.ensures
     ∙ ap (λ (z : ℤ). met a.cells.now nothing_met (visits_of planMade z)) (to_z-of_z {w = w64} c.ranges.start)
     ∙ ap (λ (p : Plan). met a.cells.now nothing_met (visits_of p a.start)) plan-made
     ∙ all_summed a.machine a.extents.now a.strides.now a.start a.cells.now)

@@ -6,16 +6,16 @@ use Rattle.text.proofs.Listings.{answering, said-listed}
 use Rattle.text.proofs.walklist.Goals as goal
 use mir.Syntax.{w64}
 
-pub returns-in-Layout : goal.returns-in-Layout
-returns-in-Layout c =
+pub returns-in-Ok : goal.returns-in-Ok
+returns-in-Ok c =
     let room = c.args.room.now in
-    let w = c.read_text.ensures.layout _ _ _ c.in-Layout.is in
+    let w = c.read_text.ensures.layout _ c.in-Ok.is in
     lists_said w.1.form room _
     (answering (to_z-of_z {w = w64} (record { sfits = c.list_numbers.type_inv }))
     (c.list_numbers.ensures ∙ said-listed w.1 (record { axes = refl; few = refl; all = refl }) room))
 
-pub returns-in-Unformed : goal.returns-in-Unformed
-returns-in-Unformed c =
+pub returns-in-Err : goal.returns-in-Err
+returns-in-Err c =
     let room = c.args.room.now in
-    lists_unformed (c.read_text.ensures.unformed c.in-Unformed.is) room _
+    lists_unformed (c.read_text.ensures.unformed _ c.in-Err.is) room _
     (answering (to_z-of_z {w = w64} (record { sfits = c.negated.type_inv }) ∙ c.negated.ensures) refl)

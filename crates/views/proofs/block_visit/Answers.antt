@@ -1,29 +1,24 @@
 -- `views::block_visit` meets its contract. Assumes nothing.
-use mathlib.Core.Path.{◌∙◌}
+use Rattle.std.proofs.lemmas.Result.{err_from_is_err_and}
 use lib.ListN.{take}
 use Rattle.finding.proofs.Answers.{fitting, cells-few}
-use Rattle.views.proofs.Answers.{taken_long, told_as, value-refused, value_block}
+use Rattle.views.proofs.Answers.{told_as, value-refused, value_block}
 use Rattle.views.proofs.block_visit.Goals as goal
 
-pub slice_bounds-original_of_into-end : goal.slice_bounds-original_of_into-end
-slice_bounds-original_of_into-end c =
-    let k = c.requires.state in
-    taken_long c.args.plan.rank c.args.stepped.counters k.counters-all k.few
-
-pub original_of_into-told-requires : goal.original_of_into-told-requires
-original_of_into-told-requires c =
+pub original_of_into-requires : goal.original_of_into-requires
+original_of_into-requires c =
     let a = c.args in record { layout = fitting a.extents.now a.sizes.now a.strides.now a.purpose c.requires.layout; total = cells-few a.extents.now a.sizes.now a.strides.now a.purpose c.requires.layout }
 
-pub returns-in-Refused : goal.returns-in-Refused
-returns-in-Refused c =
+pub returns-in_err-original_of_into : goal.returns-in_err-original_of_into
+returns-in_err-original_of_into c =
     let a = c.args in
-    c.not_visited.ensures
-    ∙ value-refused a.extents.now a.sizes.now a.strides.now a.purpose a.plan a.stepped c.requires.block
-    (told_as a.extents.now a.sizes.now a.strides.now a.purpose c.requires.layout (take a.plan.rank a.stepped.counters) c.in-Refused.is c.original_of_into-told.ensures)
+    let p = err_from_is_err_and c.from_residual.result c.from_residual.ensures.1 in
+    rw (p.1, p.2) (value-refused a.extents.now a.sizes.now a.strides.now a.purpose a.plan a.stepped c.requires.block
+    (told_as a.extents.now a.sizes.now a.strides.now a.purpose c.requires.layout (take a.plan.rank a.stepped.counters) c.in_err-original_of_into.was c.original_of_into.ensures))
 
-pub returns-in-Served : goal.returns-in-Served
-returns-in-Served c =
+pub returns : goal.returns
+returns c =
     let a = c.args in
     value_block a.extents.now a.sizes.now a.strides.now a.purpose a.plan a.stepped c.requires.block
-    (told_as a.extents.now a.sizes.now a.strides.now a.purpose c.requires.layout (take a.plan.rank a.stepped.counters) c.in-Served.is c.original_of_into-told.ensures)
+    (told_as a.extents.now a.sizes.now a.strides.now a.purpose c.requires.layout (take a.plan.rank a.stepped.counters) c.in_ok-original_of_into.was c.original_of_into.ensures)
     c.number_of-number.ensures

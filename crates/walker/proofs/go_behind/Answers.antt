@@ -1,5 +1,5 @@
 -- `walker::go_behind` meets its contract. Assumes nothing.
-use Rattle.walker.proofs.Going.{may_go, gone_on, last_less, left_above, end_below, end_at, limit_less, gone_last, passed_short, passed_all}
+use Rattle.walker.proofs.Going.{may_go, gone_on, last_less, left_above, end_below, limit_less, gone_last, passed_short, passed_all}
 use Rattle.walker.proofs.go_behind.Goals as goal
 
 pub go_steps-requires : goal.go_steps-requires
@@ -15,15 +15,6 @@ returns-then-limit-left c =
 pub ends_axis-requires : goal.ends_axis-requires
 ends_axis-requires c =
     let k = c.requires in record { by_bound = end_below k.strides k.left_value.0; left_nonzero = (left_above k.strides k.left_value.0, k.left_value.1) }
-
-pub leave-requires : goal.leave-requires
-leave-requires c =
-    let k = c.requires in record { strides = k.strides; by_nonzero = end_at k.strides k.left_value.0 (c.ends_axis.ensures c.if-ends_axis.true) }
-
-pub returns-then-ends_axis : goal.returns-then-ends_axis
-returns-then-ends_axis c =
-    let k = c.requires in
-    passed_all k.strides k.left_value.0 _ c.if-limit-left.false c.leave.ensures
 
 pub overflow_sub-left : goal.overflow_sub-left
 overflow_sub-left c = let k = c.requires in left_above k.strides k.left_value.0

@@ -9,24 +9,20 @@ shift-requires c =
     let k = c.requires in
     shifts_there k.strides k.by_nonzero.0 (home_tile k.strides k.by_nonzero.0 c.if-y.true)
 
-pub carry-more-requires : goal.carry-more-requires
-carry-more-requires c =
+pub carry-requires : goal.carry-requires
+carry-requires c =
     let k = c.requires in
     let e = home_tile k.strides k.by_nonzero.0 c.if-y.true in record { roomy = roomy_there k.strides k.by_nonzero.0 e c.shift.ensures; tiled = tiled_stays k.strides k.by_nonzero.0 e refl; last_le_rank = k.strides.leads.single.most }
 
-pub returns-then-more : goal.returns-then-more
-returns-then-more c =
+pub returns-then-carry : goal.returns-then-carry
+returns-then-carry c =
     let k = c.requires in
-    left_inside_at k.strides k.by_nonzero.0 (home_tile k.strides k.by_nonzero.0 c.if-y.true) c.shift.ensures k.by_nonzero.1 c.if-y.true c.carry-more.ensures c.if-more.true
+    rw c.if-carry.true (left_inside_at k.strides k.by_nonzero.0 (home_tile k.strides k.by_nonzero.0 c.if-y.true) c.shift.ensures k.by_nonzero.1 c.if-y.true c.carry.ensures c.if-carry.true)
 
-pub carry-requires : goal.carry-requires
-carry-requires c =
-    let m = c.carry-more.ensures in record { roomy = m.roomy; tiled = m.tiled; last_le_rank = omega arith }
-
-pub returns-then-y : goal.returns-then-y
-returns-then-y c =
+pub returns-else-carry : goal.returns-else-carry
+returns-else-carry c =
     let k = c.requires in
-    left_tile_at k.strides k.by_nonzero.0 (home_tile k.strides k.by_nonzero.0 c.if-y.true) c.shift.ensures k.by_nonzero.1 c.if-y.true c.carry-more.ensures c.if-more.false c.carry.ensures
+    left_tile_at k.strides k.by_nonzero.0 (home_tile k.strides k.by_nonzero.0 c.if-y.true) c.shift.ensures k.by_nonzero.1 c.if-y.true c.carry.ensures c.if-carry.false c.carry-else-carry.ensures
 
 pub shift-requires-2 : goal.shift-requires-2
 shift-requires-2 c =

@@ -1,9 +1,7 @@
 -- `window::check_window` meets its contract: its tests are the rows of the window's table, one after the other. Assumes nothing.
-use lib.ListN.{length}
-use Rattle.layout.proofs.Table.{rows-laid}
-use Rattle.laws.specs.Refusals.Rows.{few-axes, few_operands, past_none, past_next, past_refused, past_served}
+use Rattle.laws.specs.Refusals.Rows.{past_none, past_next, past_refused, past_served}
 use Rattle.window.specs.Window.{window_rows, window_refused}
-use Rattle.window.proofs.Row15.{Passed, strides_counted}
+use Rattle.window.proofs.Row15.{Passed}
 use Rattle.window.proofs.check_window.Goals as goal
 
 pub returns-then-rank_over : goal.returns-then-rank_over
@@ -18,10 +16,6 @@ returns-then-operands_wrong c =
     -- no row up to the one just tested applies
     let passed-1 : let a = c.args in Passed 1 a.extents.now a.sizes.now a.strides.now a.firsts.now a.counts.now a.steps.now = past_next (past_none _) c.rank_over.ensures c.if-rank_over.false in
     past_refused passed-1 c.operands_wrong.ensures c.if-operands_wrong.true
-
-pub strides_wrong-requires : goal.strides_wrong-requires
-strides_wrong-requires c =
-    (few-axes _ c.rank_over.ensures c.if-rank_over.false, few_operands _ c.operands_wrong.ensures c.if-operands_wrong.false)
 
 pub returns-then-strides_wrong : goal.returns-then-strides_wrong
 unfolding window_refused
@@ -38,9 +32,6 @@ returns-then-total_over c =
     let passed-3 : let a = c.args in Passed 3 a.extents.now a.sizes.now a.strides.now a.firsts.now a.counts.now a.steps.now = past_next passed-2 c.strides_wrong.ensures c.if-strides_wrong.false in
     past_refused passed-3 c.total_over.ensures c.if-total_over.true
 
-pub reach_over-requires : goal.reach_over-requires
-reach_over-requires c = rows-laid _ _ _ c.strides_wrong.ensures c.if-strides_wrong.false
-
 pub returns-then-reach_over : goal.returns-then-reach_over
 unfolding window_refused
 returns-then-reach_over c =
@@ -49,11 +40,6 @@ returns-then-reach_over c =
     let passed-3 : let a = c.args in Passed 3 a.extents.now a.sizes.now a.strides.now a.firsts.now a.counts.now a.steps.now = past_next passed-2 c.strides_wrong.ensures c.if-strides_wrong.false in
     let passed-4 : let a = c.args in Passed 4 a.extents.now a.sizes.now a.strides.now a.firsts.now a.counts.now a.steps.now = past_next passed-3 c.total_over.ensures c.if-total_over.false in
     past_refused passed-4 c.reach_over.ensures c.if-reach_over.true
-
-pub window_wrong-requires : goal.window_wrong-requires
-window_wrong-requires c =
-    let a = c.args in
-    strides_counted a.extents.now (length a.sizes.now) a.strides.now c.strides_wrong.ensures c.if-strides_wrong.false
 
 pub returns-then-window_wrong : goal.returns-then-window_wrong
 unfolding window_refused

@@ -1,27 +1,27 @@
--- `window::window` meets its contract: what is made where no row applies, and the refusal beside zeros where one does. Assumes nothing.
-use mathlib.Core.Path.{◌≡◌, refl, sym, ◌∙◌}
-use mathlib.Core.Option.{none, some}
-use Rattle.laws.specs.Refusals.Rows.{served_none, refused_some}
-use Rattle.window.specs.Window.{window_refused}
+-- `window::window` meets its contract: what is made where no row applies, and the refusal where one does. Assumes nothing.
+use Rattle.std.proofs.Common.{◌≡◌, refl, sym, ◌∙◌}
+use Rattle.std.proofs.lemmas.Result.{err_from_is_err_and}
+use Rattle.laws.specs.Refusals.Rows.{served_none, refused_too}
+use Rattle.window.specs.Window.{window_refused, windowed}
 use Rattle.window.specs.Layouts.{window_taken}
-use Rattle.window.proofs.Answers.{serves, refuses}
+use Rattle.window.proofs.Answers.{serves}
+use Rattle.std.specs.Prelude.{None}
 use Rattle.window.proofs.window.Goals as goal
+
+pub returns-in_err-check_window : goal.returns-in_err-check_window
+unfolding windowed
+returns-in_err-check_window c =
+    let p = err_from_is_err_and c.from_residual.result c.from_residual.ensures.1 in
+    rw (p.1, p.2) (refused_too _ _ (sym c.in_err-check_window.was ∙ c.check_window.ensures))
 
 pub window_into-requires : goal.window_into-requires
 window_into-requires c =
+    let a = c.args in
     -- no row applies
-    let passed : let a = c.args in window_refused a.extents.now a.sizes.now a.strides.now a.firsts.now a.counts.now a.steps.now ≡ none = served_none _ (sym c.check_window-answer.ensures ∙ c.in-Served.is) in
-    let a = c.args in record { window_taken = window_taken a.extents.now a.sizes.now a.strides.now a.firsts.now a.counts.now a.steps.now passed; zeros = record { extents = refl; strides = refl; shifts = refl } }
+    let passed : window_refused a.extents.now a.sizes.now a.strides.now a.firsts.now a.counts.now a.steps.now ≡ None = served_none _ _ (sym c.check_window.ensures ∙ c.in_ok-check_window.was) in
+    record { window_taken = window_taken a.extents.now a.sizes.now a.strides.now a.firsts.now a.counts.now a.steps.now passed; zeros = record { extents = refl; strides = refl; shifts = refl } }
 
-pub returns-in-Served : goal.returns-in-Served
-returns-in-Served c =
-    let passed : let a = c.args in window_refused a.extents.now a.sizes.now a.strides.now a.firsts.now a.counts.now a.steps.now ≡ none = served_none _ (sym c.check_window-answer.ensures ∙ c.in-Served.is) in
+pub returns : goal.returns
+returns c =
     let a = c.args in
-    serves a.extents.now a.sizes.now a.strides.now a.firsts.now a.counts.now a.steps.now passed _ _ _ c.window_into.ensures _ c.in-Served.is
-
-pub returns-in-Refused : goal.returns-in-Refused
-returns-in-Refused c =
-    -- the row that applies
-    let refused : let a = c.args in window_refused a.extents.now a.sizes.now a.strides.now a.firsts.now a.counts.now a.steps.now ≡ some c.in-Refused.refusal = refused_some _ (sym c.check_window-answer.ensures ∙ c.in-Refused.is) in
-    let a = c.args in
-    refuses a.extents.now a.sizes.now a.strides.now a.firsts.now a.counts.now a.steps.now _ refused
+    serves a.extents.now a.sizes.now a.strides.now a.firsts.now a.counts.now a.steps.now (served_none _ _ (sym c.check_window.ensures ∙ c.in_ok-check_window.was)) _ _ _ c.window_into.ensures

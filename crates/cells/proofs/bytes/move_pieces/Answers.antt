@@ -11,9 +11,6 @@ use Rattle.cells.proofs.bytes.move_pieces.Goals as goal
 pub loop-i-init : goal.loop-i-init
 loop-i-init c = (omega arith, refl, moved_none _ _ _ _)
 
-pub move_bytes-requires : goal.move_bytes-requires
-move_bytes-requires c = record { n_bound = omega arith; n_in_bounds = omega arith; n_in_bounds_2 = omega arith }
-
 pub loop-i-preserved : goal.loop-i-preserved
 loop-i-preserved c =
     let m = c.move_bytes in
@@ -26,17 +23,6 @@ loop-i-preserved c =
           ∙ ap (λ (xs : List ℕ). moved xs (a.to + i) a.source.now (a.from + i) 16384) c.loop-i.invariant.2
           ∙ moved-add a.destination.now a.to a.source.now a.from i 16384,
     )
-
-pub move_bytes-requires-2 : goal.move_bytes-requires-2
-move_bytes-requires-2 c = record { n_bound = omega arith; n_in_bounds = omega arith; n_in_bounds_2 = omega arith }
-
-pub shape_of-destination : goal.shape_of-destination
-shape_of-destination c =
-    let m = c.move_bytes-2 in
-    let a = c.args in
-    let i : ℕ = c.loop-i.i in
-    let e : m.new.destination ≡ moved c.loop-i.destination (a.to + i) a.source.now (a.from + i) (a.n - i) = m.ensures in
-    ap length e ∙ moved_length c.loop-i.destination (a.to + i) a.source.now (a.from + i) (a.n - i) ∙ c.loop-i.invariant.1
 
 pub returns : goal.returns
 returns c =

@@ -32,9 +32,6 @@ loop-i-preserved c =
           ∙ crossing_more a.width a.j 4 a.to a.from a.destination.now a.source.now i,
     )
 
-pub shape_of-destination : goal.shape_of-destination
-shape_of-destination c = c.loop-i.invariant.1
-
 pub returns : goal.returns
 returns c =
     let a = c.args in

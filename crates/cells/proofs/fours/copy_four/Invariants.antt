@@ -1,6 +1,6 @@
 -- The invariants of `fours::copy_four`.
 use mathlib.Core.Path.{◌≡◌}
-use Prim.Native.Nat.{◌-◌, ◌≤◌}
+use Prim.Native.Nat.{◌≤◌}
 use lib.ListN.{length}
 use Rattle.cells.specs.Copy.{copied}
 use Rattle.cells.specs.Reaching.{crossing}
@@ -9,6 +9,3 @@ use Rattle.cells.proofs.fours.copy_four.Given as goal
 abbrev pub invariant-loop-i : goal.invariant-loop-i
 invariant-loop-i l =
     (l.i ≤ l.n) × (length l.destination ≡ length l.initial.destination) × (l.destination ≡ copied l.width (crossing l.i l.j 4 l.to l.from) l.initial.destination l.source)
-
-abbrev pub decreases-loop-i : goal.decreases-loop-i
-decreases-loop-i l = l.n - l.i

@@ -6,7 +6,7 @@ use native.Mathlib.Omega.{arith}
 use lib.ListN.{length}
 use Rattle.cells.specs.Copy.{moved, copied}
 use Rattle.cells.specs.Meaning.{moved_length}
-use Rattle.cells.specs.Patch.{place, run_cells, patch_cells}
+use Rattle.cells.specs.Patch.{place, run_cells}
 use Rattle.cells.proofs.Running.{run_more}
 use Rattle.cells.proofs.Patching.{patch_cell, patch_start}
 use Rattle.cells.proofs.Packing.{begin, packed-run, run-from, run-bytes, run-place}
@@ -70,12 +70,3 @@ loop-j-preserved c =
           ∙ ap (λ (xs : List ℕ). copied a.width (run_cells a.n0 a.to a.from j) xs a.source.now) c.loop-j.invariant.2
           ∙ run_more a.width a.to a.from a.destination.now a.source.now a.n0 j,
     )
-
-pub shape_of-destination : goal.shape_of-destination
-shape_of-destination c = c.loop-j.invariant.1
-
-pub returns : goal.returns
-returns c =
-    let a = c.args in
-    let e : c.loop-j.j ≡ a.n1 = omega arith in
-    c.loop-j.invariant.2 ∙ ap (λ (n : ℕ). copied a.width (patch_cells a.n0 n a.to a.from) a.destination.now a.source.now) e

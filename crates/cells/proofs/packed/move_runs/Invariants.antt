@@ -1,6 +1,6 @@
 -- The invariants of `packed::move_runs`.
 use mathlib.Core.Path.{◌≡◌}
-use Prim.Native.Nat.{◌-◌, ◌≤◌}
+use Prim.Native.Nat.{◌≤◌}
 use lib.ListN.{length}
 use Rattle.cells.specs.Copy.{copied}
 use Rattle.cells.specs.Patch.{patch_cells}
@@ -9,6 +9,3 @@ use Rattle.cells.proofs.packed.move_runs.Given as goal
 abbrev pub invariant-loop-j : goal.invariant-loop-j
 invariant-loop-j l =
     (l.j ≤ l.n1) × (length l.destination ≡ length l.initial.destination) × (l.destination ≡ copied l.width (patch_cells l.n0 l.j l.to l.from) l.initial.destination l.source)
-
-abbrev pub decreases-loop-j : goal.decreases-loop-j
-decreases-loop-j l = l.n1 - l.j

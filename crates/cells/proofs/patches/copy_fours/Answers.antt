@@ -6,7 +6,7 @@ use native.Mathlib.Omega.{arith}
 use lib.ListN.{length}
 use Rattle.cells.specs.Copy.{copied}
 use Rattle.cells.specs.Meaning.{copied-length}
-use Rattle.cells.specs.Patch.{run_cells, patch_cells}
+use Rattle.cells.specs.Patch.{run_cells}
 use Rattle.cells.specs.Reaching.{RunIn, RunsIn, runs_from}
 use Rattle.cells.proofs.Running.{run_more}
 use Rattle.cells.proofs.Patching.{patch-run, patch_runs, patch_start, runs_more, runs_apart}
@@ -52,12 +52,3 @@ loop-j-preserved c =
           ∙ ap (λ (xs : List ℕ). copied a.width (run_cells a.n0 a.to a.from j) xs a.source.now) c.loop-j.invariant.2
           ∙ run_more a.width a.to a.from a.destination.now a.source.now a.n0 j,
     )
-
-pub shape_of-destination : goal.shape_of-destination
-shape_of-destination c = c.loop-j.invariant.1
-
-pub returns : goal.returns
-returns c =
-    let a = c.args in
-    let e : c.loop-j.j ≡ a.n1 = omega arith in
-    c.loop-j.invariant.2 ∙ ap (λ (n : ℕ). copied a.width (patch_cells a.n0 n a.to a.from) a.destination.now a.source.now) e

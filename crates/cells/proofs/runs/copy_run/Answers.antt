@@ -4,9 +4,9 @@ use mathlib.Core.List.{List}
 use Prim.Native.Nat.{ℕ, ◌<◌}
 use native.Mathlib.Omega.{arith}
 use lib.ListN.{length}
-use Rattle.cells.specs.Copy.{moved, copied}
+use Rattle.cells.specs.Copy.{moved}
 use Rattle.cells.specs.Meaning.{moved_length}
-use Rattle.cells.specs.Patch.{place, run_cells}
+use Rattle.cells.specs.Patch.{place}
 use Rattle.cells.specs.Reaching.{CellIn}
 use Rattle.cells.proofs.Running.{none_copied, cell_more, cell_in_lem}
 use Rattle.cells.proofs.runs.copy_run.Goals as goal
@@ -32,12 +32,3 @@ loop-i-preserved c =
           ∙ ap (λ (xs : List ℕ). moved xs (place a.to i a.j) a.source.now (place a.from i a.j) a.width) c.loop-i.invariant.2
           ∙ cell_more a.width a.to a.from a.destination.now a.source.now a.j i,
     )
-
-pub shape_of-destination : goal.shape_of-destination
-shape_of-destination c = c.loop-i.invariant.1
-
-pub returns : goal.returns
-returns c =
-    let a = c.args in
-    let e : c.loop-i.i ≡ a.n = omega arith in
-    c.loop-i.invariant.2 ∙ ap (λ (n : ℕ). copied a.width (run_cells n a.to a.from a.j) a.destination.now a.source.now) e

@@ -1,6 +1,6 @@
 -- The invariants of `runs::copy_run`.
 use mathlib.Core.Path.{◌≡◌}
-use Prim.Native.Nat.{◌-◌, ◌≤◌}
+use Prim.Native.Nat.{◌≤◌}
 use lib.ListN.{length}
 use Rattle.cells.specs.Copy.{copied}
 use Rattle.cells.specs.Patch.{run_cells}
@@ -9,6 +9,3 @@ use Rattle.cells.proofs.runs.copy_run.Given as goal
 abbrev pub invariant-loop-i : goal.invariant-loop-i
 invariant-loop-i l =
     (l.i ≤ l.n) × (length l.destination ≡ length l.initial.destination) × (l.destination ≡ copied l.width (run_cells l.i l.to l.from l.j) l.initial.destination l.source)
-
-abbrev pub decreases-loop-i : goal.decreases-loop-i
-decreases-loop-i l = l.n - l.i

@@ -4,6 +4,3 @@ use Rattle.distinct.proofs.few.few_repeat.Given as goal
 
 abbrev pub invariant-loop-i : goal.invariant-loop-i
 invariant-loop-i l = Behind 64 l.extents l.strides l.list l.n l.i
-
-abbrev pub decreases-loop-i : goal.decreases-loop-i
-decreases-loop-i l = l.i

@@ -1,12 +1,7 @@
 -- `export::blocks::copy_blocks` meets its contract: the loop keeps `Copies`. Assumes nothing.
 use native.Mathlib.Omega.{arith}
-use mathlib.Core.Bool.{true}
-use Prim.Native.Nat.{◌-◌}
-use lib.ListN.{take}
-use Rattle.strided.specs.declared.Plan.{Plan}
-use Rattle.strided.specs.Memory.{plan_of}
 use Rattle.walker.proofs.Walked.{may_move}
-use Rattle.export.proofs.Copies.{Copies, copy_ready, copies_while, copies_none, first_taken, widths_some, copies_start, copies_asks, stretching, copies_next, number_fits, copies_less, copies_end}
+use Rattle.export.proofs.Copies.{copy_ready, copies_while, copies_none, first_taken, widths_some, copies_start, copies_asks, stretching, copies_next, number_fits, copies_less, copies_end}
 use Rattle.export.proofs.blocks.copy_blocks.Goals as goal
 
 pub returns-then-walk : goal.returns-then-walk
@@ -32,37 +27,28 @@ loop-more-init c =
 
 pub take_stretch-x-requires : goal.take_stretch-x-requires
 take_stretch-x-requires c =
-    -- the plan that the arguments tell
-    let plan : Plan = let a = c.args in plan_of a.shape.rank 2 a.e.now a.b.now a.s.now in
-    let runs : let a = c.args in let l = c.loop-more in Copies plan (take 2 a.walk.offsets) a.shape.width c.way_of-y.result c.widths-w.result a.destination.now a.source.now l.number true l.t l.c l.o l.destination = copies_while c.loop-more.invariant c.loop-more-test.true in
+    let runs = copies_while c.loop-more.invariant c.loop-more-test.true in
     copies_asks c.requires.copyable runs
 
 pub copy_stretch-requires : goal.copy_stretch-requires
 copy_stretch-requires c =
-    let plan : Plan = let a = c.args in plan_of a.shape.rank 2 a.e.now a.b.now a.s.now in
-    let runs : let a = c.args in let l = c.loop-more in Copies plan (take 2 a.walk.offsets) a.shape.width c.way_of-y.result c.widths-w.result a.destination.now a.source.now l.number true l.t l.c l.o l.destination = copies_while c.loop-more.invariant c.loop-more-test.true in
+    let runs = copies_while c.loop-more.invariant c.loop-more-test.true in
     stretching c.requires.copyable runs (omega arith) (omega arith) c.take_stretch-x.ensures c.moves_of-d.ensures
 
 pub overflow_add-number : goal.overflow_add-number
 overflow_add-number c =
-    let plan : Plan = let a = c.args in plan_of a.shape.rank 2 a.e.now a.b.now a.s.now in
-    let runs : let a = c.args in let l = c.loop-more in Copies plan (take 2 a.walk.offsets) a.shape.width c.way_of-y.result c.widths-w.result a.destination.now a.source.now l.number true l.t l.c l.o l.destination = copies_while c.loop-more.invariant c.loop-more-test.true in
+    let runs = copies_while c.loop-more.invariant c.loop-more-test.true in
     record { fits = number_fits c.requires.copyable runs (omega arith) (omega arith) c.take_stretch-x.ensures c.moves_of-d.ensures }
 
 pub loop-more-smaller : goal.loop-more-smaller
 loop-more-smaller c =
-    let plan : Plan = let a = c.args in plan_of a.shape.rank 2 a.e.now a.b.now a.s.now in
-    let runs : let a = c.args in let l = c.loop-more in Copies plan (take 2 a.walk.offsets) a.shape.width c.way_of-y.result c.widths-w.result a.destination.now a.source.now l.number true l.t l.c l.o l.destination = copies_while c.loop-more.invariant c.loop-more-test.true in
+    let runs = copies_while c.loop-more.invariant c.loop-more-test.true in
     copies_less c.requires.copyable runs (omega arith) (omega arith) c.take_stretch-x.ensures c.moves_of-d.ensures
 
 pub loop-more-preserved : goal.loop-more-preserved
 loop-more-preserved c =
-    let plan : Plan = let a = c.args in plan_of a.shape.rank 2 a.e.now a.b.now a.s.now in
-    let runs : let a = c.args in let l = c.loop-more in Copies plan (take 2 a.walk.offsets) a.shape.width c.way_of-y.result c.widths-w.result a.destination.now a.source.now l.number true l.t l.c l.o l.destination = copies_while c.loop-more.invariant c.loop-more-test.true in
+    let runs = copies_while c.loop-more.invariant c.loop-more-test.true in
     copies_next c.requires.copyable runs (omega arith) (omega arith) c.take_stretch-x.ensures c.moves_of-d.ensures c.copy_stretch.ensures
-
-pub shape_of-destination : goal.shape_of-destination
-shape_of-destination c = c.loop-more.invariant.long
 
 pub returns : goal.returns
 returns c = copies_end c.requires.copyable (copies_while c.loop-more.invariant c.loop-more-test.false)

@@ -1,41 +1,21 @@
 -- `export::packed::gapless` meets its contract. Assumes nothing.
 use mathlib.Core.Path.{◌≡◌, refl, sym, ◌∙◌}
 use mathlib.Core.List.{List}
-use Prim.Native.Nat.{ℕ, ◌+◌, ◌-◌, ◌*◌, ◌<◌}
+use Prim.Native.Nat.{ℕ, ◌+◌, ◌*◌, ◌<◌}
 use native.Mathlib.Nat.{one-mul, le_antisymm}
 use native.Mathlib.Omega.{arith}
 use lib.IntN.{ℤ, pos}
 use lib.ListN.{length, get_or}
 use Rattle.strided.specs.Layout.{stride_row}
-use Rattle.laws.specs.Base.Bits.{read_back}
+use mir.Facts.{to_z-of_z}
+use mir.Syntax.{w64}
+use mir.Val.{SFits}
+use borrow.Author.Rules.{rules}
 use Rattle.export.proofs.Gaps.{rest_start, rest-next, rest_end, product-next, product_fits, product_end, row_long, to_at, from_at}
 use Rattle.export.proofs.packed.gapless.Goals as goal
 
 pub loop-i-init : goal.loop-i-init
 loop-i-init c = (refl, omega arith, one-mul _, rest_start _ _, rest_start _ _)
-
-pub bounds-strides-i : goal.bounds-strides-i
-bounds-strides-i c = let m = c.requires.2 in omega (arith, m)
-
-pub returns-then-differs : goal.returns-then-differs
-returns-then-differs c = λ h. absurd (let z : ⊥ = omega (arith, h) in z)
-
-pub overflow_add-rank : goal.overflow_add-rank
-overflow_add-rank c = let m = c.requires.2 in omega (arith, m)
-
-pub bounds-strides-rank : goal.bounds-strides-rank
-bounds-strides-rank c =
-    let m = c.requires.2 in
-    let t = c.loop-i-test.true in
-    omega (arith, m, t)
-
-pub returns-then-differs-2 : goal.returns-then-differs-2
-returns-then-differs-2 c = λ h. absurd (let z : ⊥ = omega (arith, h) in z)
-
-pub bounds-extents-i : goal.bounds-extents-i
-bounds-extents-i c =
-    let below : c.loop-i.i < length c.args.extents.now = c.loop-i-test.true in
-    below
 
 pub overflow_mul-n : goal.overflow_mul-n
 overflow_mul-n c =
@@ -49,10 +29,10 @@ loop-i-preserved c =
     let below : c.loop-i.i < length c.args.extents.now = c.loop-i-test.true in
     -- the stride of axis i is the product so far, of both operands
     let to-right : get_or c.args.strides.now c.loop-i.i (pos 0) ≡ pos c.loop-i.n = let z : ℤ = get_or c.args.strides.now c.loop-i.i (pos 0) in
-    sym (read_back z c.differs-arg-1.given) ∙ c.differs.ensures c.if-differs.false in
+    sym (to_z-of_z {w = w64} (let f : SFits w64 z = search rules in f)) ∙ c.differs.ensures c.if-differs.false in
     let from-right : let a = c.args in get_or a.strides.now (length a.extents.now + c.loop-i.i) (pos 0) ≡ pos c.loop-i.n = let a = c.args in
     let z : ℤ = get_or a.strides.now (length a.extents.now + c.loop-i.i) (pos 0) in
-    sym (read_back z c.differs-arg-in-loop-i-1.given) ∙ c.differs-in-loop-i.ensures c.if-differs-2.false in
+    sym (to_z-of_z {w = w64} (let f : SFits w64 z = search rules in f)) ∙ c.differs-else-differs.ensures c.if-differs-2.false in
     let es : List ℕ = c.args.extents.now in
     let ss : List ℤ = c.args.strides.now in
     let n : ℕ = c.loop-i.n in
@@ -67,7 +47,7 @@ loop-i-preserved c =
     )
 
 pub returns : goal.returns
-returns c = λ h.
+returns c =
     let es : List ℕ = c.args.extents.now in
     let ss : List ℤ = c.args.strides.now in
     let n : ℕ = c.loop-i.n in

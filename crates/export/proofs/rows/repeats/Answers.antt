@@ -1,15 +1,22 @@
 -- `export::rows::repeats` meets its contract. Assumes nothing.
-use mathlib.Core.Path.{ap, ◌∙◌}
-use mathlib.Core.Bool.{not}
+use Rattle.std.specs.Prelude.{not}
 use Rattle.strided.specs.declared.Mark.{Mark}
-use Rattle.strided.specs.declared.Marked.{Marked}
 use Rattle.export.specs.Export.{is_no}
-use Rattle.export.proofs.Tests.{first_long, mark_told}
+use Rattle.export.proofs.Tests.{mark_says, mark_given}
+use Rattle.std.proofs.Common.{sym, ap, ◌∙◌}
 use Rattle.export.proofs.rows.repeats.Goals as goal
 
-pub slice_bounds-repeat_mark-end : goal.slice_bounds-repeat_mark-end
-slice_bounds-repeat_mark-end c = first_long _ _ c.requires
+pub returns-in-Ok-No : goal.returns-in-Ok-No
+returns-in-Ok-No c =
+    sym (ap (λ (m : Mark). not (is_no m)) c.in-Ok-No.field-0-is) ∙ mark_says c.args.extents.now c.args.strides.now c.requires c.repeat_mark.ensures c.in-Ok-No.is
 
-pub returns : goal.returns
-returns c =
-    c.not_no.ensures ∙ ap (λ (m : Mark). not (is_no m)) (ap (λ (m : Marked). m.mark) c.repeat_mark-marked.ensures ∙ mark_told c.args.extents.now c.args.strides.now c.requires)
+pub returns-in-Ok-Yes : goal.returns-in-Ok-Yes
+returns-in-Ok-Yes c =
+    sym (ap (λ (m : Mark). not (is_no m)) c.in-Ok-Yes.field-0-is) ∙ mark_says c.args.extents.now c.args.strides.now c.requires c.repeat_mark.ensures c.in-Ok-Yes.is
+
+pub returns-in-Ok-Undecided : goal.returns-in-Ok-Undecided
+returns-in-Ok-Undecided c =
+    sym (ap (λ (m : Mark). not (is_no m)) c.in-Ok-Undecided.field-0-is) ∙ mark_says c.args.extents.now c.args.strides.now c.requires c.repeat_mark.ensures c.in-Ok-Undecided.is
+
+pub returns-in-Err : goal.returns-in-Err
+returns-in-Err c = absurd (mark_given c.args.extents.now c.args.strides.now c.requires c.repeat_mark.ensures c.in-Err.is)

@@ -15,11 +15,11 @@ loop-i-init c =
       done_none c.requires.arrays a.index.now c.requires.inside a.rank a.out.now c.requires.rank c.requires.zeros,
     )
 
-pub offset_bounds-order-h : goal.offset_bounds-order-h
-offset_bounds-order-h c = omega (arith, c.loop-i.invariant.0, c.requires.arrays.few-axes)
+pub offset_bounds-order-i : goal.offset_bounds-order-i
+offset_bounds-order-i c = omega (arith, c.loop-i.invariant.0, c.requires.arrays.few-axes)
 
-pub bounds-order-h : goal.bounds-order-h
-bounds-order-h c = omega (arith, c.loop-i.invariant.0, c.requires.arrays.few-axes)
+pub bounds-order-i : goal.bounds-order-i
+bounds-order-i c = omega (arith, c.loop-i.invariant.0, c.requires.arrays.few-axes)
 
 pub offset_bounds-extents-a : goal.offset_bounds-extents-a
 offset_bounds-extents-a c =
@@ -53,16 +53,16 @@ overflow_add-z c =
     let sum_fits_lem : let a = c.args in let i = c.loop-i.i in c.loop-i.z * get_or a.extents.now (get_or a.order.now (i - 1) 0) 0 + get_or a.index.now (get_or a.order.now (i - 1) 0) 0 < 2 ^ 64 = done_fits c.requires.arrays c.args.index.now c.requires.inside c.loop-i.i c.loop-i.j c.loop-i.z c.loop-i.out c.loop-i-test.true c.loop-i.invariant.0 c.loop-i.invariant.2 in
     record { fits = sum_fits_lem }
 
-pub offset_bounds-fused-h : goal.offset_bounds-fused-h
-offset_bounds-fused-h c = omega (arith, c.loop-i.invariant.0, c.requires.arrays.few-axes)
+pub offset_bounds-fused-i : goal.offset_bounds-fused-i
+offset_bounds-fused-i c = omega (arith, c.loop-i.invariant.0, c.requires.arrays.few-axes)
 
-pub bounds-fused-h : goal.bounds-fused-h
-bounds-fused-h c = omega (arith, c.loop-i.invariant.0, c.requires.arrays.few-axes)
+pub bounds-fused-i : goal.bounds-fused-i
+bounds-fused-i c = omega (arith, c.loop-i.invariant.0, c.requires.arrays.few-axes)
 
 pub overflow_sub-j : goal.overflow_sub-j
 overflow_sub-j c =
     -- a counter is left to store
-    let left_one : 0 < c.loop-i.j = done_left c.requires.arrays c.args.index.now c.requires.inside c.loop-i.i c.loop-i.j c.loop-i.z c.loop-i.out c.loop-i-test.true c.loop-i.invariant.0 c.loop-i.invariant.2 c.if-fused-h-ne1.true in
+    let left_one : 0 < c.loop-i.j = done_left c.requires.arrays c.args.index.now c.requires.inside c.loop-i.i c.loop-i.j c.loop-i.z c.loop-i.out c.loop-i-test.true c.loop-i.invariant.0 c.loop-i.invariant.2 c.if-fused-i-ne1.true in
     left_one
 
 pub offset_bounds-out-j : goal.offset_bounds-out-j
@@ -70,21 +70,21 @@ offset_bounds-out-j c = omega (arith, c.loop-i.invariant.1)
 
 pub bounds-out-j : goal.bounds-out-j
 bounds-out-j c =
-    let left_one : 0 < c.loop-i.j = done_left c.requires.arrays c.args.index.now c.requires.inside c.loop-i.i c.loop-i.j c.loop-i.z c.loop-i.out c.loop-i-test.true c.loop-i.invariant.0 c.loop-i.invariant.2 c.if-fused-h-ne1.true in
+    let left_one : 0 < c.loop-i.j = done_left c.requires.arrays c.args.index.now c.requires.inside c.loop-i.i c.loop-i.j c.loop-i.z c.loop-i.out c.loop-i-test.true c.loop-i.invariant.0 c.loop-i.invariant.2 c.if-fused-i-ne1.true in
     omega (arith, left_one, c.loop-i.invariant.1)
 
-pub loop-i-preserved-then-fused-h-ne1 : goal.loop-i-preserved-then-fused-h-ne1
-loop-i-preserved-then-fused-h-ne1 c = (
+pub loop-i-preserved-then-fused-i-ne1 : goal.loop-i-preserved-then-fused-i-ne1
+loop-i-preserved-then-fused-i-ne1 c = (
   omega (arith, c.loop-i.invariant.0),
   omega (arith, c.loop-i.invariant.1),
-  done_other c.requires.arrays c.args.index.now c.requires.inside c.loop-i.i c.loop-i.j c.loop-i.z c.loop-i.out c.loop-i-test.true c.loop-i.invariant.0 c.loop-i.invariant.2 c.if-fused-h-ne1.true,
+  done_other c.requires.arrays c.args.index.now c.requires.inside c.loop-i.i c.loop-i.j c.loop-i.z c.loop-i.out c.loop-i-test.true c.loop-i.invariant.0 c.loop-i.invariant.2 c.if-fused-i-ne1.true,
 )
 
 pub loop-i-preserved : goal.loop-i-preserved
 loop-i-preserved c = (
   omega (arith, c.loop-i.invariant.0),
   c.loop-i.invariant.1,
-  done_one c.requires.arrays c.args.index.now c.requires.inside c.loop-i.i c.loop-i.j c.loop-i.z c.loop-i.out c.loop-i-test.true c.loop-i.invariant.0 c.loop-i.invariant.2 c.if-fused-h-ne1.false,
+  done_one c.requires.arrays c.args.index.now c.requires.inside c.loop-i.i c.loop-i.j c.loop-i.z c.loop-i.out c.loop-i-test.true c.loop-i.invariant.0 c.loop-i.invariant.2 c.if-fused-i-ne1.false,
 )
 
 pub returns : goal.returns

@@ -6,6 +6,3 @@ use Rattle.finding.proofs.radix.ravel_index.Given as goal
 
 abbrev pub invariant-loop-i : goal.invariant-loop-i
 invariant-loop-i l = (l.i ≤ length l.extents) × (l.j ≤ 64) × Done l.extents l.order l.fused l.index l.i l.j l.z l.out
-
-abbrev pub decreases-loop-i : goal.decreases-loop-i
-decreases-loop-i l = l.i

@@ -1,14 +1,16 @@
 -- `gougelily::codes::code_of` meets its contract. Assumes nothing.
-use mathlib.Core.Path.{sym, ap, ◌∙◌}
-use lib.IntN.{pos}
-use Rattle.strided.specs.Memory.{code_or}
-use Rattle.strided.specs.declared.Answer.{Answer}
+use Rattle.std.proofs.Common.{sym, ap, ◌∙◌, pos}
+use Rattle.std.specs.Prelude.{Result}
+use Rattle.strided.specs.Memory.{code_of}
+use Rattle.strided.specs.declared.Refusal.{Refusal}
 use mir.Facts.{to_z-of_z}
-use Rattle.gougelily.proofs.codes.code_of.Goals as goal
 use mir.Syntax.{w64}
+use Rattle.gougelily.proofs.codes.code_of.Goals as goal
 
-pub returns-in-Served : goal.returns-in-Served
-returns-in-Served c = sym (ap (λ (a : Answer). code_or a (pos 0)) c.in-Served.is)
+pub returns-in-Ok : goal.returns-in-Ok
+returns-in-Ok c = sym (ap (λ (a : Result (Unit {0}) Refusal). code_of (λ value. pos 0) a) c.in-Ok.is)
 
-pub returns-in-Refused : goal.returns-in-Refused
-returns-in-Refused c = to_z-of_z {w = w64} (record { sfits = c.negated.type_inv }) ∙ c.negated.ensures ∙ sym (ap (λ (a : Answer). code_or a (pos 0)) c.in-Refused.is)
+pub returns-in-Err : goal.returns-in-Err
+returns-in-Err c =
+    to_z-of_z {w = w64} (record { sfits = c.negated.type_inv }) ∙ c.negated.ensures
+    ∙ sym (ap (λ (a : Result (Unit {0}) Refusal). code_of (λ value. pos 0) a) c.in-Err.is)

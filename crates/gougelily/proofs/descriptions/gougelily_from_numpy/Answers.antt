@@ -3,25 +3,23 @@
 use mathlib.Core.Path.{refl, ◌∙◌}
 use mir.Facts.{to_z-of_z}
 use Rattle.numpy.specs.Memory.{described_memory}
-use Rattle.numpy.specs.declared.Described.{Described}
 use Rattle.gougelily.proofs.Answers.{handed-refused, handed_served}
 use Rattle.gougelily.proofs.descriptions.gougelily_from_numpy.Goals as goal
 use mir.Syntax.{w64}
 
-pub returns-in-Refused : goal.returns-in-Refused
-returns-in-Refused c =
+pub returns-in-Err : goal.returns-in-Err
+returns-in-Err c =
     record {
-      says = c.from_numpy-said.result;
-      from = c.from_numpy-said.ensures;
+      says = c.from_numpy.result;
+      from = c.from_numpy.ensures;
       handed =
-          handed-refused (λ (d : Described). d.answer) described_memory refl c.in-Refused.is
-          (to_z-of_z {w = w64} (record { sfits = c.negated.type_inv }) ∙ c.negated.ensures);
+          handed-refused described_memory refl c.in-Err.is (to_z-of_z {w = w64} (record { sfits = c.negated.type_inv }) ∙ c.negated.ensures);
     }
 
-pub returns-in-Served : goal.returns-in-Served
-returns-in-Served c =
+pub returns-in-Ok : goal.returns-in-Ok
+returns-in-Ok c =
     record {
-      says = c.from_numpy-said.result;
-      from = c.from_numpy-said.ensures;
-      handed = handed_served (λ (d : Described). d.answer) described_memory refl c.in-Served.is refl;
+      says = c.from_numpy.result;
+      from = c.from_numpy.ensures;
+      handed = handed_served described_memory refl c.in-Ok.is refl;
     }

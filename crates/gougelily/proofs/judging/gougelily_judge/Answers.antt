@@ -18,22 +18,22 @@ number_small Outside = omega arith
 
 pub overflow_cast-result : goal.overflow_cast-result
 overflow_cast-result c =
-    let small : c.verdict_number.result < 2 ^ 63 = omega (arith, c.verdict_number.ensures, number_small c.in-Told.verdict) in
+    let small : c.verdict_number.result < 2 ^ 63 = omega (arith, c.verdict_number.ensures, number_small c.in-Ok.verdict) in
     record { sfits = small }
 
-pub returns-in-Told : goal.returns-in-Told
-returns-in-Told c =
-    let small : c.verdict_number.result < 2 ^ 63 = omega (arith, c.verdict_number.ensures, number_small c.in-Told.verdict) in
+pub returns-in-Ok : goal.returns-in-Ok
+returns-in-Ok c =
+    let small : c.verdict_number.result < 2 ^ 63 = omega (arith, c.verdict_number.ensures, number_small c.in-Ok.verdict) in
     record {
       answer = c.judge-judged.result;
       judges = c.judge-judged.ensures;
-      code = to_z_pos w64 small ∙ ap pos c.verdict_number.ensures ∙ sym (ap judged_number c.in-Told.is);
+      code = to_z_pos w64 small ∙ ap pos c.verdict_number.ensures ∙ sym (ap judged_number c.in-Ok.is);
     }
 
-pub returns-in-Refused : goal.returns-in-Refused
-returns-in-Refused c =
+pub returns-in-Err : goal.returns-in-Err
+returns-in-Err c =
     record {
       answer = c.judge-judged.result;
       judges = c.judge-judged.ensures;
-      code = to_z-of_z {w = w64} (record { sfits = c.negated.type_inv }) ∙ c.negated.ensures ∙ sym (ap judged_number c.in-Refused.is);
+      code = to_z-of_z {w = w64} (record { sfits = c.negated.type_inv }) ∙ c.negated.ensures ∙ sym (ap judged_number c.in-Err.is);
     }

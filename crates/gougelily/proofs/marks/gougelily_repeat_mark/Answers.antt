@@ -18,14 +18,14 @@ number_small Undecided = omega arith
 
 pub overflow_cast-result : goal.overflow_cast-result
 overflow_cast-result c =
-    let small : c.mark_number.result < 2 ^ 63 = omega (arith, c.mark_number.ensures, number_small c.repeat_mark-marked.result.mark) in
+    let small : c.mark_number.result < 2 ^ 63 = omega (arith, c.mark_number.ensures, number_small c.in-Ok.mark) in
     record { sfits = small }
 
-pub returns-in-Refused : goal.returns-in-Refused
-returns-in-Refused c =
-    mark_refused_lem c.repeat_mark-marked.ensures c.in-Refused.is (to_z-of_z {w = w64} (record { sfits = c.negated.type_inv }) ∙ c.negated.ensures)
+pub returns-in-Err : goal.returns-in-Err
+returns-in-Err c =
+    mark_refused_lem c.in-Err.ensures (to_z-of_z {w = w64} (record { sfits = c.negated.type_inv }) ∙ c.negated.ensures)
 
-pub returns-in-Served : goal.returns-in-Served
-returns-in-Served c =
-    let small : c.mark_number.result < 2 ^ 63 = omega (arith, c.mark_number.ensures, number_small c.repeat_mark-marked.result.mark) in
-    mark_served c.repeat_mark-marked.ensures c.in-Served.is (to_z_pos w64 small ∙ ap pos c.mark_number.ensures)
+pub returns-in-Ok : goal.returns-in-Ok
+returns-in-Ok c =
+    let small : c.mark_number.result < 2 ^ 63 = omega (arith, c.mark_number.ensures, number_small c.in-Ok.mark) in
+    mark_served c.in-Ok.ensures (to_z_pos w64 small ∙ ap pos c.mark_number.ensures)

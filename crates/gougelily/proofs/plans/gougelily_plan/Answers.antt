@@ -1,13 +1,12 @@
 -- `gougelily::plans::gougelily_plan` meets its contract: what is made where rows 1 to 6 and 24 pass, and every lent byte kept where one applies.
 -- Assumes nothing.
 use mathlib.Core.Path.{◌≡◌, refl, sym, ◌∙◌}
-use mathlib.Core.Option.{none}
+use Rattle.std.specs.Prelude.{None}
 use mir.Facts.{to_z-of_z}
 use Rattle.strided.specs.Machine.{machine_of}
 use Rattle.strided.specs.Plan.{planned}
 use Rattle.strided.specs.Refusals.{planning_refused}
 use Rattle.strided.specs.Memory.{plan_memory}
-use Rattle.strided.specs.declared.Planned.{Planned}
 use Rattle.laws.specs.Refusals.Accepted.{accepted}
 use Rattle.laws.specs.Refusals.Record.{planning_allowed, planning_layout}
 use Rattle.laws.specs.Refusals.Rows.{served_none, refused_some}
@@ -20,26 +19,26 @@ use mir.Syntax.{w64}
 pub plan_into-axes-requires : goal.plan_into-axes-requires
 plan_into-axes-requires c =
     -- rows 1 to 6 and 24 let the layout through
-    let passed : let a = c.args in planning_refused (machine_of a.line a.cache a.way a.live) a.extents.now a.sizes.now a.strides.now c.purpose_of-wanted.result ≡ none = served_none _ (sym c.check_planning-answer.ensures ∙ c.in-Served.is) in
+    let passed : let a = c.args in planning_refused (machine_of a.line a.cache a.way a.live) a.extents.now a.sizes.now a.strides.now c.purpose_of-wanted.result ≡ None = served_none _ _ (sym c.check_planning.ensures ∙ c.in_default.is) in
     let a = c.args in
     let mc = machine_of a.line a.cache a.way a.live in
     let u = c.purpose_of-wanted.result in record { allowed = planning_allowed mc a.extents.now a.sizes.now a.strides.now u passed; accepted = accepted a.extents.now a.sizes.now a.strides.now u (planning_layout mc a.extents.now a.sizes.now a.strides.now u passed); zeros = c.clear_axes.ensures }
 
-pub returns-in-Refused : goal.returns-in-Refused
-returns-in-Refused c =
+pub returns-in-Err : goal.returns-in-Err
+returns-in-Err c =
     let a = c.args in
-    handed-refused (λ (p : Planned). p.answer) (λ (p : Planned). plan_memory p.plan)
+    handed-refused plan_memory
     (called (planned (machine_of a.line a.cache a.way a.live) a.extents.now a.sizes.now a.strides.now)
-    (sym (planned-refused (machine_of a.line a.cache a.way a.live) a.extents.now a.sizes.now a.strides.now c.purpose_of-wanted.result _ (refused_some _ (sym c.check_planning-answer.ensures ∙ c.in-Refused.is))))
+    (sym (planned-refused (machine_of a.line a.cache a.way a.live) a.extents.now a.sizes.now a.strides.now c.purpose_of-wanted.result _ (refused_some _ _ (sym c.check_planning.ensures ∙ c.in-Err.is))))
     c.purpose_of-wanted.ensures)
     refl (to_z-of_z {w = w64} (record { sfits = c.negated.type_inv }) ∙ c.negated.ensures)
 
-pub returns-in-Served : goal.returns-in-Served
-returns-in-Served c =
-    let passed : let a = c.args in planning_refused (machine_of a.line a.cache a.way a.live) a.extents.now a.sizes.now a.strides.now c.purpose_of-wanted.result ≡ none = served_none _ (sym c.check_planning-answer.ensures ∙ c.in-Served.is) in
+pub returns : goal.returns
+returns c =
+    let passed : let a = c.args in planning_refused (machine_of a.line a.cache a.way a.live) a.extents.now a.sizes.now a.strides.now c.purpose_of-wanted.result ≡ None = served_none _ _ (sym c.check_planning.ensures ∙ c.in_default.is) in
     let a = c.args in
-    handed_served (λ (p : Planned). p.answer) (λ (p : Planned). plan_memory p.plan)
+    handed_served plan_memory
     (called (planned (machine_of a.line a.cache a.way a.live) a.extents.now a.sizes.now a.strides.now)
-    (serves (machine_of a.line a.cache a.way a.live) a.extents.now a.sizes.now a.strides.now c.purpose_of-wanted.result passed _ _ _ _ c.plan_into-axes.ensures _ c.in-Served.is)
+    (serves (machine_of a.line a.cache a.way a.live) a.extents.now a.sizes.now a.strides.now c.purpose_of-wanted.result passed _ _ _ _ c.plan_into-axes.ensures)
     c.purpose_of-wanted.ensures)
-    c.in-Served.is refl
+    refl refl

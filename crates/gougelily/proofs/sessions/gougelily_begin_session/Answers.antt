@@ -1,8 +1,7 @@
 -- `gougelily::sessions::gougelily_begin_session` meets its contract. Assumes nothing.
 use mathlib.Core.Path.{◌≡◌, ◌∙◌, subst}
-use Rattle.strided.specs.Memory.{purpose_of}
+use Rattle.strided.specs.Memory.{purpose_of, code_of}
 use Rattle.strided.specs.Machine.{machine_of}
-use Rattle.strided.specs.declared.Answer.{Answer}
 use Rattle.strided.specs.declared.Purpose.{Purpose}
 use Rattle.session.specs.Session.{Given, given, begun}
 use Rattle.session.specs.declared.Session.{Session}
@@ -11,9 +10,11 @@ use mir.Facts.{to_z-of_z}
 use Rattle.gougelily.proofs.Numbers.{handed}
 use Rattle.gougelily.proofs.sessions.gougelily_begin_session.Goals as goal
 use mir.Syntax.{w64}
+use Rattle.std.specs.Prelude.{Result}
+use Rattle.strided.specs.declared.Refusal.{Refusal}
 
 -- for the purpose that the two numbers tell
-lent_as : (f : Purpose → Given) {u v : Purpose} → u ≡ v → {old new : Session} {a : Answer} → Lent (begun (f u)) old new a → Lent (begun (f v)) old new a
+lent_as : (f : Purpose → Given) {u v : Purpose} → u ≡ v → {old new : Session} {a : Result (Unit {0}) Refusal} → Lent (begun (f u)) old new a → Lent (begun (f v)) old new a
 lent_as f e {old} {new} {a} l = subst (λ (w : Purpose). Lent (begun (f w)) old new a) e l
 
 pub returns : goal.returns
@@ -24,4 +25,4 @@ returns c =
     c.read_numbers-numbers.ensures
     c.put_numbers.ensures
     (to_z-of_z {w = w64} (record { sfits = c.code_of.type_inv }) ∙ c.code_of.ensures)
-    (lent_as of c.purpose_of.ensures c.begin_lent-moved.ensures)
+    (lent_as of c.purpose_of.ensures c.begin_lent-answer.ensures)

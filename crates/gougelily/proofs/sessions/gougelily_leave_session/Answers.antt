@@ -6,6 +6,7 @@ use mathlib.Core.Path.{◌∙◌}
 use Rattle.gougelily.proofs.Numbers.{handed}
 use Rattle.gougelily.proofs.sessions.gougelily_leave_session.Goals as goal
 use mir.Syntax.{w64}
+use Rattle.strided.specs.Memory.{code_of}
 
 pub returns : goal.returns
 returns c =
@@ -14,4 +15,4 @@ returns c =
     c.read_numbers-numbers.ensures
     c.put_numbers.ensures
     (to_z-of_z {w = w64} (record { sfits = c.code_of.type_inv }) ∙ c.code_of.ensures)
-    c.leave_lent-moved.ensures
+    c.leave_lent-answer.ensures

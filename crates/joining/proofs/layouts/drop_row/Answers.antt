@@ -1,46 +1,9 @@
--- `joining::layouts::drop_row` meets its contract. Assumes nothing.
-use mathlib.Core.Path.{◌≡◌, ap, ◌∙◌}
-use Prim.Native.Nat.{◌+◌, ◌*◌, ◌≤◌}
-use native.Mathlib.Omega.{arith}
-use lib.ListN.{length, take}
-use Rattle.laws.specs.Base.Arrays.{length-padded}
-use Rattle.laws.specs.Base.Rows.{row_fits}
-use Rattle.session.specs.Afresh.{few_strides}
-use Rattle.joining.proofs.Closing.{still-blank, rows_closed}
+-- `joining::layouts::drop_row` meets its contract: the later rows move up, and the last places are cleared. Assumes nothing.
+use Rattle.std.proofs.Common.{refl}
+use Rattle.joining.proofs.Closing.{rows_closed}
 use Rattle.joining.proofs.layouts.drop_row.Goals as goal
 
-pub overflow_mul-end : goal.overflow_mul-end
-overflow_mul-end c =
-    -- the rows, and row k among them
-    let room : c.args.width * c.args.rows ≤ 512 = few_strides c.args.width c.args.rows c.requires.k_lt_rows.1.1 c.requires.k_lt_rows.1.0 in
-    let r = room in omega (arith, r)
-
-pub overflow_mul-k : goal.overflow_mul-k
-overflow_mul-k c =
-    let room : c.args.width * c.args.rows ≤ 512 = few_strides c.args.width c.args.rows c.requires.k_lt_rows.1.1 c.requires.k_lt_rows.1.0 in
-    let fits : c.args.k * c.args.width + c.args.width ≤ c.args.width * c.args.rows = row_fits c.args.k c.args.width c.args.rows c.requires.k_lt_rows.0 in
-    let r = room in let f = fits in omega (arith, r, f)
-
-pub move_up-requires : goal.move_up-requires
-move_up-requires c =
-    let fits : c.args.k * c.args.width + c.args.width ≤ c.args.width * c.args.rows = row_fits c.args.k c.args.width c.args.rows c.requires.k_lt_rows.0 in
-    let room : c.args.width * c.args.rows ≤ 512 = few_strides c.args.width c.args.rows c.requires.k_lt_rows.1.1 c.requires.k_lt_rows.1.0 in
-    let long : length c.args.out.now ≡ 512 = ap length c.requires.out_value ∙ length-padded 0 512 (take (c.args.width * c.args.rows) c.args.out.now) in
-    (fits, (room, long))
-
-pub overflow_sub-end : goal.overflow_sub-end
-overflow_sub-end c =
-    let fits : c.args.k * c.args.width + c.args.width ≤ c.args.width * c.args.rows = row_fits c.args.k c.args.width c.args.rows c.requires.k_lt_rows.0 in
-    let f = fits in omega (arith, f)
-
-pub clear_from-requires : goal.clear_from-requires
-clear_from-requires c =
-    let room : c.args.width * c.args.rows ≤ 512 = few_strides c.args.width c.args.rows c.requires.k_lt_rows.1.1 c.requires.k_lt_rows.1.0 in
-    let long : length c.args.out.now ≡ 512 = ap length c.requires.out_value ∙ length-padded 0 512 (take (c.args.width * c.args.rows) c.args.out.now) in
-    record { start_le_end = (omega arith, room); out_value = still-blank 0 c.args.out.now c.args.width c.args.rows c.args.k c.requires.k_lt_rows.0 room long c.requires.out_value _ c.move_up.ensures }
-
 pub returns : goal.returns
-returns c =
-    let room : c.args.width * c.args.rows ≤ 512 = few_strides c.args.width c.args.rows c.requires.k_lt_rows.1.1 c.requires.k_lt_rows.1.0 in
-    let long : length c.args.out.now ≡ 512 = ap length c.requires.out_value ∙ length-padded 0 512 (take (c.args.width * c.args.rows) c.args.out.now) in
-    rows_closed 0 c.args.out.now c.args.width c.args.rows c.args.k c.requires.k_lt_rows.0 room long c.requires.out_value _ c.move_up.ensures c.clear_from.ensures
+returns g c =
+    let a = c.args in
+    rows_closed a.zero a.out.now _ a.width a.rows a.k c.requires.k_lt_rows.0 c.requires.k_lt_rows.1 refl c.requires.out_value _ c.copy_within.ensures.after c.clear.ensures

@@ -1,25 +1,11 @@
--- `joining::layouts::lay` meets its contract. Assumes nothing.
-use mathlib.Core.Path.{refl, ◌∙◌}
-use Prim.Native.Nat.{◌-◌}
-use native.Mathlib.Omega.{arith}
-use lib.ListN.{length-set}
-use Rattle.joining.proofs.Laying.{lay_next, lay_over}
+-- `joining::layouts::lay` meets its contract: the zeros behind the elements stay. Assumes nothing.
+use Rattle.std.proofs.Common.{length, drop, [], ◌++◌, sym, ap, ap₂, ◌∙◌, arith}
+use Rattle.laws.specs.Base.Filling.{drop_behind, padded_is}
 use Rattle.joining.proofs.layouts.lay.Goals as goal
 
-pub loop-i-init : goal.loop-i-init
-loop-i-init c = (c.requires.list_in_bounds, refl, omega arith, c.requires.out_value)
-
-pub bounds-out-i : goal.bounds-out-i
-bounds-out-i c = let l = c.loop-i in let t = c.loop-i-test.true in let a = l.invariant.0 in let b = l.invariant.1 in omega (arith, a, b, t)
-
-pub loop-i-preserved : goal.loop-i-preserved
-loop-i-preserved c =
-    let l = c.loop-i in
-    let t = c.loop-i-test.true in
-    (l.invariant.0, length-set l.out l.i _ ∙ l.invariant.1, omega arith, lay_next _ 0 _ l.invariant.0 l.i l.out t l.invariant.3)
-
-pub shape_of-out : goal.shape_of-out
-shape_of-out c = c.loop-i.invariant.1
-
 pub returns : goal.returns
-returns c = let l = c.loop-i in lay_over _ 0 _ l.invariant.0 l.i l.out c.loop-i-test.false l.invariant.3
+returns c =
+    let xs = c.args.list.now in
+    let n = length c.args.out.now in
+    ap₂ ◌++◌ c.copy_from_slice.ensures.after (ap (drop (length xs)) c.requires.out_value ∙ drop_behind n (length xs) 0 [] (omega arith))
+    ∙ sym (padded_is n 0 xs c.requires.list_in_bounds)

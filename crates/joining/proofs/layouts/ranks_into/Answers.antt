@@ -1,24 +1,16 @@
 -- `joining::layouts::ranks_into` meets its contract. Assumes nothing.
-use mathlib.Core.Path.{refl, ap, ◌∙◌}
-use Prim.Native.Nat.{ℕ, ◌-◌}
+use mathlib.Core.Path.{refl}
 use native.Mathlib.Omega.{arith}
 use lib.ListN.{get_or}
 use mathlib.Core.List.{[]}
-use Rattle.strided.specs.Base.{padded}
-use Rattle.laws.specs.Base.Filling.{fill_none}
-use native.Mathlib.Nat.{le_antisymm}
 use Rattle.joining.proofs.Laying.{rows-front, rows_next}
-use Rattle.session.specs.Made.{rows_of}
 use Rattle.joining.proofs.layouts.ranks_into.Goals as goal
-
-pub loop-k-init : goal.loop-k-init
-loop-k-init c = (c.requires.operands_bound, omega arith, c.requires.out_value ∙ fill_none 512 0)
 
 pub put_row-requires : goal.put_row-requires
 put_row-requires c =
     let l = c.loop-k in
     let t = c.loop-k-test.true in
-    let few = l.invariant.0 in record { out_value = rows-front 512 0 64 8 (λ k. get_or c.args.table.now k []) (λ j h. (c.requires.even.rows j h).long) l.k (omega (arith, few, t)) (omega (arith, few, t)) l.out l.invariant.2; at_bound = (omega (arith, few, t), c.requires.even.rows l.k (omega (arith, few, t))) }
+    let few = l.invariant.0 in record { out_value = rows-front 512 0 64 8 (λ k. get_or c.args.table.now k []) (λ j h. (c.requires.even.rows j h).long) l.k (omega (arith, few, t)) (omega (arith, few, t)) l.out l.invariant.2; at_bound = omega (arith, few, t) }
 
 pub loop-k-preserved : goal.loop-k-preserved
 loop-k-preserved c =
@@ -26,8 +18,3 @@ loop-k-preserved c =
     let t = c.loop-k-test.true in
     let few = l.invariant.0 in
     (few, omega arith, rows_next 512 0 64 8 (λ k. get_or c.args.table.now k []) (λ j h. (c.requires.even.rows j h).long) l.k (omega (arith, few, t)) (omega (arith, few, t)) l.out l.invariant.2 refl c.put_row.ensures)
-
-pub returns : goal.returns
-returns c =
-    let l = c.loop-k in
-    l.invariant.2 ∙ ap (λ (k : ℕ). padded 512 0 (rows_of c.args.table.now k)) (le_antisymm l.invariant.1 c.loop-k-test.false)

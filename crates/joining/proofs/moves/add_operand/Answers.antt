@@ -1,10 +1,9 @@
 -- `joining::moves::add_operand` meets its contract. Assumes nothing.
 use mathlib.Core.Path.{refl}
-use Prim.Native.Nat.{◌+◌, ◌≤◌}
+use Prim.Native.Nat.{◌≤◌}
 use native.Mathlib.Omega.{arith}
-use Rattle.session.specs.Afresh.{few_strides}
-use Rattle.session.proofs.Tabling.{table_even, table_front}
-use Rattle.joining.proofs.Moving.{stand_table, ranks-front, table_after, add_stands}
+use Rattle.session.proofs.Tabling.{table_front}
+use Rattle.joining.proofs.Moving.{stand_table, ranks-front, add_stands}
 use Rattle.joining.proofs.moves.add_operand.Goals as goal
 
 pub add_row-requires : goal.add_row-requires
@@ -20,27 +19,8 @@ put_row-requires c =
     let a = c.args in
     let r = c.requires.operands_bound.0 in record {
       out_value = ranks-front a.numbers.rank a.numbers.operands a.sizes.now a.strides.now a.ranks.now a.table.now few c.requires.standing;
-      at_bound = (
-        omega (arith, r),
-        (table_even _ a.numbers.rank _ c.requires.standing.fits.rank-few _
-            (table_after a.numbers.rank a.numbers.operands a.sizes.now a.strides.now a.ranks.now a.table.now few c.requires.standing r a.size a.joining.now c.requires.operands_bound.1 refl refl c.add_row.ensures)
-            ).rows a.numbers.operands (omega (arith, r)),
-      );
+      at_bound = omega (arith, r);
     }
-
-pub overflow_mul-numbers : goal.overflow_mul-numbers
-overflow_mul-numbers c =
-    let few : c.args.numbers.operands ≤ 8 = let r = c.requires.operands_bound.0 in omega (arith, r) in
-    let a = c.args in
-    let f = few_strides a.numbers.rank a.numbers.operands c.requires.standing.fits.rank-few few in
-    omega (arith, f)
-
-pub put_strides-requires : goal.put_strides-requires
-put_strides-requires c =
-    let a = c.args in
-    let e = c.requires.operands_bound.1 in
-    let r = c.requires.operands_bound.0 in
-    let f = few_strides a.numbers.rank (a.numbers.operands + 1) c.requires.standing.fits.rank-few (omega (arith, r)) in record { out_value = c.requires.standing.strides; row_bound = omega (arith, e, f) }
 
 pub returns : goal.returns
 returns c =

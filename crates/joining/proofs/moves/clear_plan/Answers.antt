@@ -1,15 +1,16 @@
 -- `joining::moves::clear_plan` meets its contract. Assumes nothing.
-use mathlib.Core.Path.{sym, ◌∙◌}
-use native.Mathlib.Omega.{arith}
-use lib.IntN.{pos}
+use Rattle.std.proofs.Common.{◌≡◌, ℕ, ◌*◌, ◌-◌, List, ℤ, pos, ◌++◌, length, take, drop, replicate, sym, ap, ◌∙◌, arith, length-take-le}
 use Rattle.laws.specs.Base.Filling.{fill_none}
+use Rattle.joining.proofs.Closing.{cleared}
 use Rattle.joining.proofs.moves.clear_plan.Goals as goal
 
-pub overflow_mul-numbers : goal.overflow_mul-numbers
-overflow_mul-numbers c = let h = c.requires.plan_operands_bound in omega (arith, h)
-
-pub clear_signed_from-requires : goal.clear_signed_from-requires
-clear_signed_from-requires c = let h = c.requires.plan_operands_bound in record { start_le_end = (omega arith, omega (arith, h)); out_value = c.requires.plan_strides_value }
-
 pub returns : goal.returns
-returns c = c.clear_signed_from.ensures ∙ sym (fill_none 512 (pos 0))
+returns c =
+    let S = c.args.plan_strides.now in
+    let k = c.args.numbers.plan_operands * 64 in
+    let few = c.requires.plan_operands_bound in
+    let long = c.told-plan_strides in
+    let some : length (take k S) ≡ k - 0 = length-take-le k S (omega (arith, few, long)) ∙ (let e : k ≡ k - 0 = omega arith in e) in
+    ap (λ (l : List ℤ). l ++ drop k S) (c.fill.ensures.after (λ y h. h) ∙ ap (λ (n : ℕ). replicate n (pos 0)) some)
+    ∙ cleared (pos 0) 512 0 k S long (omega arith) (omega (arith, few)) c.requires.plan_strides_value
+    ∙ sym (fill_none 512 (pos 0))

@@ -1,32 +1,23 @@
 -- `joining::moves::keep` meets its contract. Assumes nothing.
-use mathlib.Core.Path.{◌≡◌, refl, sym, ap, ap₂, ◌∙◌, subst}
+use mathlib.Core.Path.{◌≡◌, sym, ap, ap₂, ◌∙◌, subst}
 use Prim.Native.Nat.{ℕ}
 use native.Mathlib.Omega.{arith}
 use Rattle.strided.specs.Base.{padded}
 use Rattle.strided.specs.Costs.{costs}
 use Rattle.session.specs.declared.Numbers.{Numbers}
 use Rattle.session.specs.Made.{AxesAt, Cuttable, with_plan}
-use Rattle.session.proofs.Holding.{laid_of, weighed_of, cuttable, parts_kept}
+use Rattle.session.proofs.Holding.{cuttable, parts_kept}
 use Rattle.joining.proofs.moves.keep.Goals as goal
 
-pub weights_kept-w-requires : goal.weights_kept-w-requires
-weights_kept-w-requires c =
-    let a = c.args in
-    laid_of a.numbers a.extents.now a.sizes.now a.strides.now c.requires.layout_right a.table.now c.requires.table_of
-
-pub axes_kept_into-axes-requires : goal.axes_kept_into-axes-requires
-axes_kept_into-axes-requires c =
-    let a = c.args in record { weighed = weighed_of a.numbers a.extents.now a.sizes.now a.strides.now c.requires.layout_right c.weights_kept-w.result c.weights_kept-w.ensures; zeros = record { extents = refl; strides = c.requires.plan_strides_value } }
-
-pub compute_costs-c-requires : goal.compute_costs-c-requires
-compute_costs-c-requires c =
+pub compute_costs-requires : goal.compute_costs-requires
+compute_costs-requires c =
     -- the numbers have the plan's
     let counted : c.planned-after.result ≡ with_plan c.args.numbers c.planned-after.result.plan_rank = c.planned-after.ensures
     ∙ ap (with_plan c.args.numbers) (sym (ap (λ (x : Numbers). x.plan_rank) c.planned-after.ensures)) in
     -- and its axes are in the arrays
-    let laid : let a = c.args in let l = c.axes_kept_into-axes.new in AxesAt a.numbers a.extents.now a.strides.now c.planned-after.result.plan_rank c.weights_kept-w.result l.es l.plan_strides = let a = c.args in
+    let laid : let a = c.args in let l = c.axes_kept_into-axes.new in AxesAt a.numbers a.extents.now a.strides.now c.planned-after.result.plan_rank c.weights_kept.result l.es l.plan_strides = let a = c.args in
     let l = c.axes_kept_into-axes.new in
-    subst (λ (r : ℕ). AxesAt a.numbers a.extents.now a.strides.now r c.weights_kept-w.result l.es l.plan_strides)
+    subst (λ (r : ℕ). AxesAt a.numbers a.extents.now a.strides.now r c.weights_kept.result l.es l.plan_strides)
     (sym (ap (λ (c : Numbers). c.plan_rank) c.planned-after.ensures)) c.axes_kept_into-axes.ensures in
     let cut : let a = c.args in let l = c.axes_kept_into-axes.new in Cuttable c.planned-after.result a.extents.now a.sizes.now l.es l.plan_strides = let a = c.args in
     cuttable a.numbers a.extents.now a.sizes.now a.strides.now c.requires.layout_right c.planned-after.result counted laid in
@@ -40,9 +31,9 @@ pub blocks_kept_into-requires : goal.blocks_kept_into-requires
 blocks_kept_into-requires c =
     let counted : c.planned-after.result ≡ with_plan c.args.numbers c.planned-after.result.plan_rank = c.planned-after.ensures
     ∙ ap (with_plan c.args.numbers) (sym (ap (λ (x : Numbers). x.plan_rank) c.planned-after.ensures)) in
-    let laid : let a = c.args in let l = c.axes_kept_into-axes.new in AxesAt a.numbers a.extents.now a.strides.now c.planned-after.result.plan_rank c.weights_kept-w.result l.es l.plan_strides = let a = c.args in
+    let laid : let a = c.args in let l = c.axes_kept_into-axes.new in AxesAt a.numbers a.extents.now a.strides.now c.planned-after.result.plan_rank c.weights_kept.result l.es l.plan_strides = let a = c.args in
     let l = c.axes_kept_into-axes.new in
-    subst (λ (r : ℕ). AxesAt a.numbers a.extents.now a.strides.now r c.weights_kept-w.result l.es l.plan_strides)
+    subst (λ (r : ℕ). AxesAt a.numbers a.extents.now a.strides.now r c.weights_kept.result l.es l.plan_strides)
     (sym (ap (λ (c : Numbers). c.plan_rank) c.planned-after.ensures)) c.axes_kept_into-axes.ensures in
     let cut : let a = c.args in let l = c.axes_kept_into-axes.new in Cuttable c.planned-after.result a.extents.now a.sizes.now l.es l.plan_strides = let a = c.args in
     cuttable a.numbers a.extents.now a.sizes.now a.strides.now c.requires.layout_right c.planned-after.result counted laid in
@@ -52,9 +43,9 @@ pub returns : goal.returns
 returns c =
     let counted : c.planned-after.result ≡ with_plan c.args.numbers c.planned-after.result.plan_rank = c.planned-after.ensures
     ∙ ap (with_plan c.args.numbers) (sym (ap (λ (x : Numbers). x.plan_rank) c.planned-after.ensures)) in
-    let laid : let a = c.args in let l = c.axes_kept_into-axes.new in AxesAt a.numbers a.extents.now a.strides.now c.planned-after.result.plan_rank c.weights_kept-w.result l.es l.plan_strides = let a = c.args in
+    let laid : let a = c.args in let l = c.axes_kept_into-axes.new in AxesAt a.numbers a.extents.now a.strides.now c.planned-after.result.plan_rank c.weights_kept.result l.es l.plan_strides = let a = c.args in
     let l = c.axes_kept_into-axes.new in
-    subst (λ (r : ℕ). AxesAt a.numbers a.extents.now a.strides.now r c.weights_kept-w.result l.es l.plan_strides)
+    subst (λ (r : ℕ). AxesAt a.numbers a.extents.now a.strides.now r c.weights_kept.result l.es l.plan_strides)
     (sym (ap (λ (c : Numbers). c.plan_rank) c.planned-after.ensures)) c.axes_kept_into-axes.ensures in
     let a = c.args in
     let e = ap (λ (x : Numbers). x.operands) c.planned-after.ensures in
@@ -62,5 +53,5 @@ returns c =
     let S = c.axes_kept_into-axes.new.plan_strides in record {
       numbers = counted;
       kept = parts_kept a.numbers a.extents.now a.sizes.now a.strides.now c.requires.layout_right c.planned-after.result counted laid
-          (record { costs = c.compute_costs-c.ensures ∙ ap₂ (λ (m r : ℕ). padded 64 0 (costs S m r)) (sym e) (sym f); blocks = c.blocks_kept_into.ensures });
+          (record { costs = c.compute_costs.ensures ∙ ap₂ (λ (m r : ℕ). padded 64 0 (costs S m r)) (sym e) (sym f); blocks = c.blocks_kept_into.ensures });
     }

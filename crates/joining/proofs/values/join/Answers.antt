@@ -1,14 +1,22 @@
 -- `joining::values::join` meets its contract. Assumes nothing.
-use mathlib.Core.Path.{◌∙◌}
-use Rattle.joining.proofs.Answering.{joined-value, joined_none}
+use Rattle.std.proofs.Common.{ap, ◌∙◌}
+use Rattle.std.proofs.lemmas.Result.{err_from_is_err_and}
+use Rattle.session.specs.declared.Numbers.{Numbers}
+use Rattle.session.specs.declared.Session.{Session}
+use Rattle.session.specs.Session.{joined}
+use Rattle.joining.proofs.Answering.{laid_out, value_served, value_refused}
+use Rattle.std.specs.Prelude.{Ok}
 use Rattle.joining.proofs.values.join.Goals as goal
 
-pub returns-then-served : goal.returns-then-served
-returns-then-served c =
+pub returns-in_err-join_lent : goal.returns-in_err-join_lent
+returns-in_err-join_lent c =
     let a = c.args in
-    c.together.ensures ∙ joined-value a.session c.numbers_of.result c.numbers_of.ensures a.size a.joining.now c.join_lent-moved.ensures (c.served.ensures.yes c.if-served.true)
+    let p = err_from_is_err_and c.from_residual.result c.from_residual.ensures.1 in
+    rw (p.1, p.2) (value_refused _ c.join_lent.ensures.answers c.in_err-join_lent.was ∙ ap (λ (n : Numbers). joined (laid_out a.session n) a.size a.joining.now) c.numbers_of-numbers.ensures)
 
 pub returns : goal.returns
 returns c =
     let a = c.args in
-    c.refused.ensures ∙ joined_none a.session c.numbers_of.result c.numbers_of.ensures a.size a.joining.now c.join_lent-moved.ensures (c.served.ensures.no c.if-served.false)
+    ap (λ (s : Session). Ok s) c.together.ensures
+    ∙ value_served _ c.join_lent.ensures c.in_ok-join_lent.was
+    ∙ ap (λ (n : Numbers). joined (laid_out a.session n) a.size a.joining.now) c.numbers_of-numbers.ensures

@@ -4,17 +4,17 @@ use mathlib.Core.Path.{sym, ◌∙◌}
 use Rattle.judge.proofs.Fronts.{visit_told, visit_open, visit_unsound, visit_none}
 use Rattle.judge.proofs.line.read_visit.Goals as goal
 
-pub returns-in-To : goal.returns-in-To
-returns-in-To c =
-    visit_told c.read_front.ensures _ _ _ c.in-Told.is (sym c.sound.ensures ∙ c.if-sound.true) _ (c.read_row.ensures.to _ c.in-To.is)
+pub returns-in_err-front : goal.returns-in_err-front
+returns-in_err-front c = rw c.from_residual.ensures (visit_none c.read_front.ensures c.in_err-front.was)
 
-pub returns-in-Bad-read_row : goal.returns-in-Bad-read_row
-returns-in-Bad-read_row c =
-    visit_open c.read_front.ensures _ _ _ c.in-Told.is (c.read_row.ensures.bad c.in-Bad-read_row.is)
+pub returns-then-not-sound : goal.returns-then-not-sound
+returns-then-not-sound c =
+    visit_unsound c.read_front.ensures _ c.in_ok-front.was (sym c.sound.ensures ∙ c.if-not-sound.true)
 
-pub returns-else-sound : goal.returns-else-sound
-returns-else-sound c =
-    visit_unsound c.read_front.ensures _ _ _ c.in-Told.is (sym c.sound.ensures ∙ c.if-sound.false)
+pub returns-in_err-next : goal.returns-in_err-next
+returns-in_err-next c =
+    rw c.from_residual-in_err-next.ensures (visit_open c.read_front.ensures _ c.in_ok-front.was (c.read_row.ensures.bad c.in_err-next.was))
 
-pub returns-in-Bad : goal.returns-in-Bad
-returns-in-Bad c = visit_none c.read_front.ensures c.in-Bad.is
+pub returns : goal.returns
+returns c =
+    visit_told c.read_front.ensures _ c.in_ok-front.was (sym c.sound.ensures ∙ c.if-not-sound.false) _ (c.read_row.ensures.to _ c.in_ok-next.was)

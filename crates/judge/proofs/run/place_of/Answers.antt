@@ -1,17 +1,14 @@
 -- `judge::run::place_of` meets its contract: Horner over the axes from i on.
 -- Assumes nothing.
-use mathlib.Core.Path.{◌≡◌, ap, ◌∙◌}
-use Prim.Native.Nat.{ℕ, ◌+◌, ◌-◌}
+use mathlib.Core.Path.{◌≡◌}
+use Prim.Native.Nat.{◌+◌, ◌-◌}
 use native.Mathlib.Omega.{arith}
 use lib.ListN.{drop}
 use borrow.Author.Rules.{rules}
 use Rattle.laws.specs.Base.Layouts.{within-length}
 use Rattle.judge.specs.Laying.{place}
-use Rattle.judge.proofs.Steps.{Turned, place_end, place_turn}
+use Rattle.judge.proofs.Steps.{Turned, place_turn}
 use Rattle.judge.proofs.run.place_of.Goals as goal
-
-pub loop-i-init : goal.loop-i-init
-loop-i-init c = (omega arith, place_end c.args.extents.now c.args.index.now)
 
 pub overflow_mul-at : goal.overflow_mul-at
 overflow_mul-at c =
@@ -47,10 +44,3 @@ loop-i-preserved c =
     place_turn c.args.extents.now c.args.index.now (l.i - 1) l.at c.requires.0 c.requires.1 (omega arith) q in
     let t = turned in
     (omega arith, t.next)
-
-pub returns : goal.returns
-returns c =
-    let l = c.loop-i in
-    let h = c.loop-i-test.false in
-    let e : l.i ≡ 0 = omega arith in
-    l.invariant.1 ∙ ap (λ (k : ℕ). place (drop k c.args.extents.now) (drop k c.args.index.now)) e

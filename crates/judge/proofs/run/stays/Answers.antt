@@ -1,8 +1,7 @@
 -- `judge::run::stays` meets its contract: on every axis before i the run stays.
 -- Assumes nothing.
 use mathlib.Core.Path.{◌≡◌, sym, ap, ◌∙◌}
-use mathlib.Core.Bool.{true}
-use Prim.Native.Nat.{ℕ, ◌+◌, ◌-◌}
+use Prim.Native.Nat.{ℕ, ◌+◌}
 use native.Mathlib.Nat.{le_antisymm}
 use native.Mathlib.Omega.{arith}
 use lib.Dec.{leb}
@@ -23,16 +22,16 @@ loop-i-preserved c =
     c.below.ensures ∙ ap (λ (n : ℕ). leb (get_or a.index.now c.loop-i.i 0 + n) (get_or a.extents.now c.loop-i.i 0)) c.span-n.ensures in
     let a = c.args in
     let t = c.loop-i-test.true in
-    (omega arith, every-next (stays_at a.extents.now a.index.now a.axis a.len) c.loop-i.i c.loop-i.invariant.1 (sym answer ∙ c.if-below.true))
+    (omega arith, every-next (stays_at a.extents.now a.index.now a.axis a.len) c.loop-i.i c.loop-i.invariant.1 (sym answer ∙ c.if-not-below.false))
 
-pub returns-else-below : goal.returns-else-below
+pub returns-then-not-below : goal.returns-then-not-below
 unfolding stays
-returns-else-below c =
+returns-then-not-below c =
     let answer : let a = c.args in c.below.result ≡ stays_at a.extents.now a.index.now a.axis a.len c.loop-i.i = let a = c.args in
     c.below.ensures ∙ ap (λ (n : ℕ). leb (get_or a.index.now c.loop-i.i 0 + n) (get_or a.extents.now c.loop-i.i 0)) c.span-n.ensures in
     let a = c.args in
     let t = c.loop-i-test.true in
-    sym (every_fails_at (stays_at a.extents.now a.index.now a.axis a.len) (length a.extents.now) c.loop-i.i t (sym answer ∙ c.if-below.false))
+    sym (every_fails_at (stays_at a.extents.now a.index.now a.axis a.len) (length a.extents.now) c.loop-i.i t (sym answer ∙ c.if-not-below.true))
 
 pub returns : goal.returns
 unfolding stays

@@ -1,8 +1,7 @@
 -- `judge::run::step_at` meets its contract: the product of the first i extents.
 -- Assumes nothing.
 use mathlib.Core.Path.{◌≡◌, sym, ap, ◌∙◌}
-use Prim.Native.Nat.{ℕ, ◌+◌, ◌*◌, ◌≤◌, ◌-◌}
-use native.Mathlib.Nat.{le_antisymm}
+use Prim.Native.Nat.{ℕ, ◌+◌, ◌*◌, ◌≤◌}
 use native.Mathlib.Numerals.{add-one}
 use native.Mathlib.Omega.{arith}
 use lib.ListN.{get_or}
@@ -31,8 +30,3 @@ loop-i-preserved c =
     ap (λ (k : ℕ). k * get_or c.args.extents.now l.i 0) l.invariant.1 ∙ sym (step-next c.args.extents.now l.i (omega (arith, t, c.requires.2))) ∙ ap (step_of c.args.extents.now) (sym (add-one l.i)) in
     let t = c.loop-i-test.true in
     (omega arith, next)
-
-pub returns : goal.returns
-returns c =
-    let l = c.loop-i in
-    l.invariant.1 ∙ ap (λ (k : ℕ). step_of c.args.extents.now k) (le_antisymm l.invariant.0 c.loop-i-test.false)

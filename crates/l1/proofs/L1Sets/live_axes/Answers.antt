@@ -1,8 +1,10 @@
 -- `l1::L1Sets::live_axes` meets its contract. The invariant: no axis before i has a byte stride below a line, and the set holds those whose
 -- stride is a multiple of the way. Assumes nothing.
 use native.Mathlib.Omega.{arith}
-use mathlib.Core.Path.{◌≡◌, sym, ap, ◌∙◌}
-use Prim.Native.Nat.{ℕ, ◌+◌, ◌*◌, ◌%◌, ◌^◌}
+use mathlib.Core.Path.{◌≡◌, sym, ap, subst⁻¹, ◌∙◌}
+use mathlib.Core.List.{List}
+use Prim.Native.Nat.{ℕ, ◌+◌, ◌*◌, ◌%◌, ◌^◌, ◌<◌}
+use Rattle.strided.specs.declared.Machine.{Machine}
 use native.Mathlib.Nat.{sub-zero}
 use lib.Dec.{eqb}
 use lib.Pow.{pow_mono}
@@ -25,41 +27,36 @@ pub loop-i-init : goal.loop-i-init
 unfolding reuse
 loop-i-init c =
     let a = c.args in
-    (omega arith, ap (seek (near a.machine a.bytes.now a.k) 0) (sub-zero a.rank), holds_none)
-
-pub wide-s-requires : goal.wide-s-requires
-wide-s-requires c = tt
+    (ap (seek (near a.machine.numbers a.bytes.now a.k) 0) (sub-zero a.rank), holds_none)
 
 pub returns-then-s-machine : goal.returns-then-s-machine
 unfolding live_count
 returns-then-s-machine c = let a = c.args in
-    let e : reuse a.machine a.bytes.now a.rank a.k ≡ c.loop-i.i = sym c.loop-i.invariant.1 ∙ seek_hit (near a.machine a.bytes.now a.k) c.loop-i.i a.rank (omega arith) (lt-ltb (byte_at a.bytes.now a.k c.loop-i.i) a.machine.line (omega (arith, c.wide-s.ensures, c.if-s-machine.true))) in
-    record { count = rw (ne_eqb _ _ c.if-size-eq0.false, e, lt-ltb c.loop-i.i a.rank (omega arith)); few = omega arith; aliased = c.loop-i.invariant.2 }
+    let e : reuse a.machine.numbers a.bytes.now a.rank a.k ≡ c.loop-i.i = sym c.loop-i.invariant.0 ∙ seek_hit (near a.machine.numbers a.bytes.now a.k) c.loop-i.i a.rank (omega arith) (lt-ltb (byte_at a.bytes.now a.k c.loop-i.i) a.machine.numbers.line (omega (arith, c.from-s.ensures, c.if-s-machine.true))) in
+    record { count = rw (ne_eqb _ _ c.if-size-eq0.false, e, lt-ltb c.loop-i.i a.rank (omega arith)); few = omega arith; aliased = c.loop-i.invariant.1 }
 
-pub overflow_cast-aliased : goal.overflow_cast-aliased
-overflow_cast-aliased c = tt
+-- the set with axis i: its byte stride is a line at least, so not 0
+stored : (mc : Machine) (bytes : List ℕ) (k i : ℕ) {aliased s r : ℕ} → Holds (aliases_at mc bytes k) i aliased → i < 64 → s ≡ byte_at bytes k i → 0 < s
+    → r ≡ bool_byte (eqb (s % mc.way) 0) → Holds (aliases_at mc bytes k) (i + 1) (aliased + r * 2 ^ i % 2 ^ 64)
+stored mc bytes k i {aliased} {s} {r} h l e p q =
+    subst⁻¹ (λ (x : ℕ). Holds (aliases_at mc bytes k) (i + 1) (aliased + x * 2 ^ i % 2 ^ 64)) q
+    (holds_more (eqb (s % mc.way) 0) h l (rw (ne_eqb (byte_at bytes k i) 0 (λ z. omega (arith, e, z)), e)))
 
 pub overflow_add-aliased : goal.overflow_add-aliased
 overflow_add-aliased c =
-    -- the set with axis i: its byte stride is a line at least, so not 0
-    let stored : let a = c.args in let i : ℕ = c.loop-i.i in Holds (aliases_at a.machine a.bytes.now a.k) (i + 1) (c.loop-i.aliased + bool_byte (eqb (c.wide-s.result % a.machine.way) 0) * 2 ^ i % 2 ^ 64) = let a = c.args in
-    let s : ℕ = byte_at a.bytes.now a.k c.loop-i.i in
-    let e : c.wide-s.result ≡ s = c.wide-s.ensures in
-    holds_more (eqb (c.wide-s.result % a.machine.way) 0) c.loop-i.invariant.2 (omega arith) (rw (ne_eqb s 0 (λ z. omega (arith, e, z)), e)) in
-    let i : ℕ = c.loop-i.i in omega (arith, stored.below, pow_mono {i = i + 1} {j = 64} (omega arith))
+    let i : ℕ = c.loop-i.i in
+    omega (arith, (stored c.args.machine.numbers c.args.bytes.now c.args.k i c.loop-i.invariant.1 (omega arith) c.from-s.ensures (omega arith) c.from.ensures).below, pow_mono {i = i + 1} {j = 64} (omega arith))
 
 pub loop-i-preserved : goal.loop-i-preserved
 loop-i-preserved c =
-    let stored : let a = c.args in let i : ℕ = c.loop-i.i in Holds (aliases_at a.machine a.bytes.now a.k) (i + 1) (c.loop-i.aliased + bool_byte (eqb (c.wide-s.result % a.machine.way) 0) * 2 ^ i % 2 ^ 64) = let a = c.args in
-    let s : ℕ = byte_at a.bytes.now a.k c.loop-i.i in
-    let e : c.wide-s.result ≡ s = c.wide-s.ensures in
-    holds_more (eqb (c.wide-s.result % a.machine.way) 0) c.loop-i.invariant.2 (omega arith) (rw (ne_eqb s 0 (λ z. omega (arith, e, z)), e)) in
     let a = c.args in
-    let l = c.loop-i in
-    (omega arith, sym (seek_miss (near a.machine a.bytes.now a.k) l.i a.rank (omega arith) (le-ltb (byte_at a.bytes.now a.k l.i) a.machine.line (omega (arith, c.wide-s.ensures, c.if-s-machine.false)))) ∙ l.invariant.1, stored)
+    let i : ℕ = c.loop-i.i in (
+      sym (seek_miss (near a.machine.numbers a.bytes.now a.k) i a.rank (omega arith) (le-ltb (byte_at a.bytes.now a.k i) a.machine.numbers.line (omega (arith, c.from-s.ensures, c.if-s-machine.false)))) ∙ c.loop-i.invariant.0,
+      stored a.machine.numbers a.bytes.now a.k i c.loop-i.invariant.1 (omega arith) c.from-s.ensures (omega arith) c.from.ensures,
+    )
 
 pub returns : goal.returns
 unfolding live_count
 returns c = let a = c.args in
-    let e : reuse a.machine a.bytes.now a.rank a.k ≡ c.loop-i.i = sym c.loop-i.invariant.1 ∙ seek_none (near a.machine a.bytes.now a.k) c.loop-i.i a.rank (omega arith) in
+    let e : reuse a.machine.numbers a.bytes.now a.rank a.k ≡ c.loop-i.i = sym c.loop-i.invariant.0 ∙ seek_none (near a.machine.numbers a.bytes.now a.k) c.loop-i.i a.rank (omega arith) in
     record { count = rw (ne_eqb _ _ c.if-size-eq0.false, e, le-ltb c.loop-i.i a.rank (omega arith)); few = omega arith; aliased = holds_none }

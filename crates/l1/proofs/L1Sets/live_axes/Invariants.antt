@@ -2,7 +2,7 @@
 use mathlib.Core.Path.{◌≡◌}
 use mathlib.Core.Bool.{Bool}
 use mathlib.Core.List.{List}
-use Prim.Native.Nat.{ℕ, ◌-◌, ◌≤◌}
+use Prim.Native.Nat.{ℕ, ◌-◌}
 use lib.Dec.{ltb}
 use Rattle.strided.specs.Base.{seek}
 use Rattle.strided.specs.Region.{byte_at}
@@ -16,8 +16,5 @@ abbrev pub near : Machine → List ℕ → ℕ → ℕ → Bool
 near mc bytes k j = ltb (byte_at bytes k j) mc.line
 
 abbrev pub invariant-loop-i : goal.invariant-loop-i
-invariant-loop-i l = (l.i ≤ l.rank) × (seek (near l.machine l.bytes l.k) l.i (l.rank - l.i) ≡ reuse l.machine l.bytes l.rank l.k)
-    × (Holds (aliases_at l.machine l.bytes l.k) l.i l.aliased)
-
-abbrev pub decreases-loop-i : goal.decreases-loop-i
-decreases-loop-i l = l.rank - l.i
+invariant-loop-i l = (seek (near l.machine.numbers l.bytes l.k) l.i (l.rank - l.i) ≡ reuse l.machine.numbers l.bytes l.rank l.k)
+    × (Holds (aliases_at l.machine.numbers l.bytes l.k) l.i l.aliased)

@@ -12,11 +12,12 @@ use Rattle.l1.specs.Live.{top, product_by}
 use Rattle.l1.proofs.L1Sets.operand_load.Goals as goal
 use Rattle.l1.proofs.L1Sets.operand_load.Goals.{then-live-i-eq1, else-live-i-eq1}
 
-pub overflow_cast-m : goal.overflow_cast-m
-overflow_cast-m c = tt
+-- a product that is saturated is cut off as the product itself
+cut_off : (x : ℕ) {y r : ℕ} → y ≡ min x 18446744073709551615 → r ≡ min y top → r ≡ min x top
+cut_off x h k = omega arith
 
 pub loop-i-init : goal.loop-i-init
-loop-i-init c = let a = c.args in (omega arith, product_by_none a.live a.blocks.now)
+loop-i-init c = let a = c.args in c.from-m.ensures ∙ product_by_none a.live a.blocks.now
 
 pub loop-i-preserved : goal.loop-i-preserved
 loop-i-preserved c = let a = c.args in
@@ -25,12 +26,12 @@ loop-i-preserved c = let a = c.args in
     let b : ℕ = get_or a.blocks.now i 0 in
     let e = product_by_more a.live a.blocks.now i in
     elim c.if-live-i-eq1.branch [
-      | then-live-i-eq1 w ↦ (omega arith, rw (e, eq-eqb _ _ w.if-live-i-eq1.true) (w.m-is ∙ w.sat_mul-m.ensures ∙ ap (λ (x : ℕ). min (x * b) top) c.loop-i.invariant.1 ∙ min-mul-left p b top))
-      | else-live-i-eq1 w ↦ (omega arith, rw (e, ne_eqb _ _ w.if-live-i-eq1.false, mul-one) (w.m-is ∙ c.loop-i.invariant.1))
+      | then-live-i-eq1 w ↦ rw (e, eq-eqb _ _ w.if-live-i-eq1.true) (w.m-is ∙ cut_off (c.loop-i.m * b) w.saturating_mul.ensures w.min-m.ensures ∙ ap (λ (x : ℕ). min (x * b) top) c.loop-i.invariant ∙ min-mul-left p b top)
+      | else-live-i-eq1 w ↦ rw (e, ne_eqb _ _ w.if-live-i-eq1.false, mul-one) (w.m-is ∙ c.loop-i.invariant)
     ]
 
 pub returns : goal.returns
 returns c = let l = c.loop-i in
     let a = c.args in
     let e : l.i ≡ a.live.count = omega arith in
-    l.invariant.1 ∙ ap (λ (i : ℕ). min (product_by a.live a.blocks.now i) top) e
+    l.invariant ∙ ap (λ (i : ℕ). min (product_by a.live a.blocks.now i) top) e

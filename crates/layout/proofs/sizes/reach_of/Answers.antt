@@ -1,9 +1,11 @@
 -- `layout::sizes::reach_of` meets its contract. Assumes nothing.
-use mathlib.Core.Path.{◌∙◌, ap}
+use Rattle.std.proofs.Common.{rules}
 use native.Mathlib.Nat.{le_antisymm}
 use native.Mathlib.Omega.{arith}
-use lib.IntN.{nat_abs}
-use Rattle.layout.proofs.Caps.{elem_read, summed_start, summed_turn, summed_end}
+use lib.IntN.{nat_abs, pos}
+use lib.ListN.{get_or}
+use mathlib.Core.Path.{◌≡◌}
+use Rattle.layout.proofs.Caps.{summed_start, summed_turn, summed_end}
 use Rattle.layout.proofs.sizes.reach_of.Goals as goal
 
 pub loop-i-init : goal.loop-i-init
@@ -15,8 +17,8 @@ add_cap-sum-requires c = c.loop-i.invariant.1.0
 pub loop-i-preserved : goal.loop-i-preserved
 loop-i-preserved c =
     let l = c.loop-i in
-    let n = c.magnitude-size.ensures ∙ ap nat_abs (elem_read c.args.strides.now l.i c.magnitude-arg-1.given) in
-    (omega arith, summed_turn _ _ _ l.i _ _ _ _ c.loop-i-test.true c.requires l.invariant.1 n c.less_one.ensures c.mul_cap-term.ensures c.add_cap-sum.ensures)
+    let n : c.unsigned_abs.result ≡ nat_abs (get_or c.args.strides.now l.i (pos 0)) = search rules in
+    (omega arith, summed_turn _ _ _ l.i _ _ _ _ c.loop-i-test.true c.requires l.invariant.1 n c.saturating_sub.ensures c.mul_cap-way.ensures c.add_cap-sum.ensures)
 
 pub returns : goal.returns
 returns c = summed_end _ _ _ _ (le_antisymm c.loop-i.invariant.0 c.loop-i-test.false) c.loop-i.invariant.1

@@ -1,12 +1,8 @@
 -- The invariants of `sizes::total_at_most`.
 use mathlib.Core.Path.{◌≡◌}
-use Prim.Native.Nat.{◌-◌, ◌≤◌}
-use lib.ListN.{length, take}
+use lib.ListN.{take}
 use Rattle.strided.specs.Layout.{total}
 use Rattle.layout.proofs.sizes.total_at_most.Given as goal
 
 abbrev pub invariant-loop-i : goal.invariant-loop-i
-invariant-loop-i l = (l.i ≤ length l.extents) × (l.t ≡ total (take l.i l.extents))
-
-abbrev pub decreases-loop-i : goal.decreases-loop-i
-decreases-loop-i l = length l.extents - l.i
+invariant-loop-i l = l.t ≡ total (take l.i l.extents)

@@ -7,6 +7,3 @@ use Rattle.mark.proofs.quick.reach_up_to.Given as goal
 
 abbrev pub invariant-loop-i : goal.invariant-loop-i
 invariant-loop-i l = (l.i ≤ length l.extents) × (l.sum ≡ reach_up_to l.b (drop l.i l.extents) (drop l.i l.strides))
-
-abbrev pub decreases-loop-i : goal.decreases-loop-i
-decreases-loop-i l = l.i

@@ -15,12 +15,12 @@ is_clear-requires c = (c.requires.0, c.requires.1, c.loop-i-test.true)
 
 pub loop-i-preserved : goal.loop-i-preserved
 loop-i-preserved c =
-    (omega arith, below_more (ClearAt c.args.extents.now c.args.strides.now) c.loop-i.i c.loop-i.invariant.1 (c.is_clear.ensures.0 c.if-is_clear.true))
+    (omega arith, below_more (ClearAt c.args.extents.now c.args.strides.now) c.loop-i.i c.loop-i.invariant.1 (c.is_clear.ensures.0 c.if-not-is_clear.false))
 
-pub returns-else-is_clear : goal.returns-else-is_clear
-returns-else-is_clear c =
+pub returns-then-not-is_clear : goal.returns-then-not-is_clear
+returns-then-not-is_clear c =
     sym (unclear_rises c.args.extents.now c.args.strides.now c.requires.0 c.loop-i.i c.loop-i-test.true
-    (λ h. false≢true (sym c.if-is_clear.false ∙ c.is_clear.ensures.1 h)))
+    (λ h. false≢true (sym c.if-not-is_clear.true ∙ c.is_clear.ensures.1 h)))
 
 pub returns : goal.returns
 returns c =

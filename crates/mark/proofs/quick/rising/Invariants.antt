@@ -1,11 +1,8 @@
 -- The invariants of `quick::rising`.
-use Prim.Native.Nat.{ℕ, ◌-◌, ◌≤◌, ◌<◌}
+use Prim.Native.Nat.{ℕ, ◌≤◌, ◌<◌}
 use lib.ListN.{length}
 use Rattle.laws.specs.Mark.Sizes.{ClearAt}
 use Rattle.mark.proofs.quick.rising.Given as goal
 
 abbrev pub invariant-loop-i : goal.invariant-loop-i
 invariant-loop-i l = (l.i ≤ length l.extents) × ((k : ℕ) → k < l.i → ClearAt l.extents l.strides k)
-
-abbrev pub decreases-loop-i : goal.decreases-loop-i
-decreases-loop-i l = length l.extents - l.i

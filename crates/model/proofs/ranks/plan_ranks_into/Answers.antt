@@ -15,7 +15,7 @@ use Rattle.model.proofs.ranks.plan_ranks_into.Goals as goal
 use Rattle.model.proofs.ranks.plan_ranks_into.Invariants.{row_of}
 
 pub loop-k-init : goal.loop-k-init
-loop-k-init c = (omega arith, c.requires.table_value ∙ fill_none 8 (replicate 64 0))
+loop-k-init c = c.requires.table_value ∙ fill_none 8 (replicate 64 0)
 
 pub overflow_mul-start : goal.overflow_mul-start
 overflow_mul-start c =
@@ -60,10 +60,7 @@ pub ranks_into-requires : goal.ranks_into-requires
 ranks_into-requires c =
     let small : c.loop-k.k < 8 = omega (arith, c.loop-k-test, c.requires.sizes_len_bound.0) in
     let k = c.loop-k.k in
-    let row = row_of c.args.sizes.now c.args.strides.now c.args.rank in record { strides_len_bound = rw length-take (omega (arith, c.requires.sizes_len_bound.1.1)); row_value = ap (λ (t : List (List ℕ)). get_or t k []) c.loop-k.invariant.1 ∙ fill_here 8 (replicate 64 0) [] row k small }
-
-pub loop-k-smaller : goal.loop-k-smaller
-loop-k-smaller c = omega (arith, c.loop-k-test)
+    let row = row_of c.args.sizes.now c.args.strides.now c.args.rank in record { strides_len_bound = rw length-take (omega (arith, c.requires.sizes_len_bound.1.1)); row_value = ap (λ (t : List (List ℕ)). get_or t k []) c.loop-k.invariant ∙ fill_here 8 (replicate 64 0) [] row k small }
 
 pub loop-k-preserved : goal.loop-k-preserved
 loop-k-preserved c =
@@ -76,18 +73,16 @@ loop-k-preserved c =
     let e : at + rank - at ≡ rank = omega arith in
     let long : length (take rank (drop at ss)) ≡ rank = length-take rank (drop at ss) ∙ omega (arith, length-drop at ss, small, c.requires.sizes_len_bound.1.0, c.requires.sizes_len_bound.1.1) in
     let row = row_of sizes ss rank in
-    let made : List ℤ → ℕ → List ℕ = λ part n. padded 64 0 (cond (eqb (get_or sizes k 0) 0) (replicate n 1) (ranks part)) in (
-      omega (arith, c.loop-k-test),
-      ap (set c.loop-k.table k) (c.ranks_into.ensures ∙ ap (λ (n : ℕ). made (take n (drop at ss)) (length (take n (drop at ss)))) e ∙ ap (made (take rank (drop at ss))) long)
-          ∙ ap (λ (t : List (List ℕ)). set t k (row k)) c.loop-k.invariant.1
-          ∙ fill_next 8 (replicate 64 0) row k small,
-    )
+    let made : List ℤ → ℕ → List ℕ = λ part n. padded 64 0 (cond (eqb (get_or sizes k 0) 0) (replicate n 1) (ranks part)) in
+    ap (set c.loop-k.table k) (c.ranks_into.ensures ∙ ap (λ (n : ℕ). made (take n (drop at ss)) (length (take n (drop at ss)))) e ∙ ap (made (take rank (drop at ss))) long)
+    ∙ ap (λ (t : List (List ℕ)). set t k (row k)) c.loop-k.invariant
+    ∙ fill_next 8 (replicate 64 0) row k small
 
 pub returns : goal.returns
 returns c =
     let sizes = c.args.sizes.now in
     let ss = c.args.strides.now in
     let e : c.loop-k.k ≡ length sizes = omega (arith, c.loop-k-test) in
-    c.loop-k.invariant.1
+    c.loop-k.invariant
     ∙ ap (λ (n : ℕ). padded 8 (replicate 64 0) (map (row_of sizes ss c.args.rank) (run 0 n))) e
     ∙ sym (ranks-rows sizes ss c.args.rank (replicate 64 0))

@@ -1,9 +1,9 @@
 -- The invariants of `ranks::plan_ranks_into`.
 use mathlib.Core.Path.{◌≡◌}
 use mathlib.Core.List.{List, map}
-use Prim.Native.Nat.{ℕ, ◌-◌, ◌≤◌}
+use Prim.Native.Nat.{ℕ}
 use lib.IntN.{ℤ}
-use lib.ListN.{length, replicate}
+use lib.ListN.{replicate}
 use Rattle.strided.specs.Base.{padded, run}
 use Rattle.laws.specs.Plan.Ranks.{rank_row}
 use Rattle.model.proofs.ranks.plan_ranks_into.Given as goal
@@ -14,7 +14,4 @@ row_of sizes strides rank k = padded 64 0 (rank_row sizes strides rank k)
 
 abbrev pub invariant-loop-k : goal.invariant-loop-k
 invariant-loop-k l =
-    (l.k ≤ length l.sizes) × (l.table ≡ padded 8 (replicate 64 0) (map (row_of l.sizes l.strides l.rank) (run 0 l.k)))
-
-abbrev pub decreases-loop-k : goal.decreases-loop-k
-decreases-loop-k l = length l.sizes - l.k
+    (l.table ≡ padded 8 (replicate 64 0) (map (row_of l.sizes l.strides l.rank) (run 0 l.k)))

@@ -2,30 +2,16 @@
 -- Assumes nothing.
 use mathlib.Core.Path.{◌≡◌, ◌∙◌}
 use mathlib.Core.List.{map}
-use Prim.Native.Nat.{◌+◌, ◌-◌, ◌^◌, ◌≤◌, ◌<◌}
+use Prim.Native.Nat.{◌+◌, ◌^◌, ◌≤◌, ◌<◌}
 use native.Mathlib.Omega.{arith}
 use lib.IntN.{pos}
 use lib.ListN.{length, take}
 use mir.Facts.{to_z-of_z}
 use Rattle.strided.specs.Layout.{total}
-use Rattle.laws.specs.Base.Filling.{fill_none}
 use Rattle.numpy.specs.Units.{firsts}
 use Rattle.numpy.proofs.Fills.{filling_turn, filling_end, packed-length, packed-at, step-near, step_turn}
 use Rattle.numpy.proofs.units.packed_strides.Goals as goal
 use mir.Syntax.{w64}
-
-pub loop-i-init : goal.loop-i-init
-loop-i-init c = (omega arith, fill_none 64 (pos 0), omega arith)
-
-pub positive-requires : goal.positive-requires
-positive-requires c =
-    -- the step is the product itself
-    let whole : let es = c.args.extents.now in (c.loop-i.step ≡ total (take c.loop-i.i es)) × (c.loop-i.step < 2 ^ 63) = let es = c.args.extents.now in
-    let h = c.loop-i-test.true in
-    let n = c.requires.1 c.loop-i.i h in
-    let e = step-near es c.loop-i.i c.loop-i.step c.requires.1 h c.loop-i.invariant.2 in
-    (e, omega (arith, e, n)) in
-    whole.1
 
 pub loop-i-preserved : goal.loop-i-preserved
 loop-i-preserved c =

@@ -1,7 +1,7 @@
 -- The invariants of `units::packed_strides`.
 use mathlib.Core.Path.{◌≡◌}
 use mathlib.Core.List.{map}
-use Prim.Native.Nat.{◌-◌, ◌^◌, ◌≤◌, min}
+use Prim.Native.Nat.{◌^◌, ◌≤◌, min}
 use lib.IntN.{pos}
 use lib.ListN.{length, take}
 use Rattle.strided.specs.Base.{padded}
@@ -12,6 +12,3 @@ use Rattle.numpy.proofs.units.packed_strides.Given as goal
 abbrev pub invariant-loop-i : goal.invariant-loop-i
 invariant-loop-i l =
     (l.i ≤ length l.extents) × (l.out ≡ padded 64 (pos 0) (take l.i (map pos (firsts 1 l.extents)))) × (l.step ≡ min (total (take l.i l.extents)) (2 ^ 63))
-
-abbrev pub decreases-loop-i : goal.decreases-loop-i
-decreases-loop-i l = length l.extents - l.i

@@ -5,18 +5,19 @@ use native.Mathlib.Omega.{arith}
 use Rattle.reading.proofs.Lines.{size_short, operand_told, operand_open, operand_none}
 use Rattle.reading.proofs.line.read_operand.Goals as goal
 
-pub read_signed_row-requires : goal.read_signed_row-requires
-read_signed_row-requires c =
-    let l = size_short (c.read_size.ensures.value _ _ c.in-Value.is) in
+pub returns-in_err-size : goal.returns-in_err-size
+returns-in_err-size c = rw c.from_residual.ensures (operand_none (c.read_size.ensures.bad c.in_err-size.was))
+
+pub read_row_from-requires : goal.read_row_from-requires
+read_row_from-requires c =
+    let l = size_short (c.read_size.ensures.value _ _ c.in_ok-size.was) in
     omega arith
 
-pub returns-in-To : goal.returns-in-To
-returns-in-To c =
-    operand_told c.in-Value.p (c.read_size.ensures.value _ _ c.in-Value.is) _ (c.read_signed_row.ensures.to _ c.in-To.is)
+pub returns-in_err-next : goal.returns-in_err-next
+returns-in_err-next c =
+    rw c.from_residual-in_err-next.ensures
+    (operand_open c.in_ok-size.p (c.read_size.ensures.value _ _ c.in_ok-size.was) (c.read_row_from.ensures.bad c.in_err-next.was))
 
-pub returns-in-Bad-read_signed_row : goal.returns-in-Bad-read_signed_row
-returns-in-Bad-read_signed_row c =
-    operand_open c.in-Value.p (c.read_size.ensures.value _ _ c.in-Value.is) (c.read_signed_row.ensures.bad c.in-Bad-read_signed_row.is)
-
-pub returns-in-Bad : goal.returns-in-Bad
-returns-in-Bad c = operand_none (c.read_size.ensures.bad c.in-Bad.is)
+pub returns : goal.returns
+returns c =
+    operand_told c.in_ok-size.p (c.read_size.ensures.value _ _ c.in_ok-size.was) _ (c.read_row_from.ensures.to _ c.in_ok-next.was)

@@ -29,12 +29,12 @@ returns-then-axes_right c =
     (λ b. keeps_of a.numbers a.extents.now a.sizes.now a.strides.now c.requires.layout_right y.0 y.1 b)
     (λ k. keeps_blocks a.numbers a.extents.now a.sizes.now a.strides.now c.requires.layout_right k)
 
-pub returns-then-weights_right : goal.returns-then-weights_right
-returns-then-weights_right c =
+pub returns-else-axes_right : goal.returns-else-axes_right
+returns-else-axes_right c =
     let a = c.args in
-    decides_not (λ k. c.axes_right.ensures.no c.if-axes_right.false (keeps_axes a.numbers a.extents.now a.sizes.now a.strides.now c.requires.layout_right k))
+    rw c.if-axes_right.false (decides_not (λ k. c.axes_right.ensures.no c.if-axes_right.false (keeps_axes a.numbers a.extents.now a.sizes.now a.strides.now c.requires.layout_right k)))
 
-pub returns : goal.returns
-returns c =
+pub returns-else-weights_right : goal.returns-else-weights_right
+returns-else-weights_right c =
     let a = c.args in
-    decides_not (λ k. c.weights_right.ensures.no c.if-weights_right.false (keeps_axes a.numbers a.extents.now a.sizes.now a.strides.now c.requires.layout_right k).1.weights)
+    rw c.if-weights_right.false (decides_not (λ k. c.weights_right.ensures.no c.if-weights_right.false (keeps_axes a.numbers a.extents.now a.sizes.now a.strides.now c.requires.layout_right k).1.weights))

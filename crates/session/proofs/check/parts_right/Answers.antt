@@ -1,6 +1,5 @@
 -- `session::check::parts_right` meets its contract. Assumes nothing.
 use mathlib.Core.Path.{◌≡◌, sym, ◌∙◌}
-use mathlib.Core.Bool.{false≢true}
 use Rattle.session.specs.Session.{ranks_of}
 use Rattle.session.specs.Made.{LayoutRight, ranks_in, given_in}
 use Rattle.session.proofs.Tabling.{table_even}
@@ -35,8 +34,8 @@ returns-then-ranks_right c =
       table = (λ h. c.table_into.ensures);
     }
 
-pub returns : goal.returns
-returns c =
+pub returns-else-ranks_right : goal.returns-else-ranks_right
+returns-else-ranks_right c =
     let right : LayoutRight c.args.numbers c.args.extents.now c.args.sizes.now c.args.strides.now = c.requires.layout_right in
     let same : let a = c.args in ranks_in c.table_into.new.table a.numbers.operands ≡ ranks_of (given_in a.numbers a.extents.now a.sizes.now a.strides.now) = let a = c.args in own_ranks a.numbers a.extents.now a.sizes.now a.strides.now right _ c.table_into.ensures in
-    let a = c.args in record { told = decides_not (λ h. c.ranks_right.ensures.no c.if-ranks_right.false (right-ranks a.numbers a.extents.now a.sizes.now a.strides.now a.ranks.now a.weights.now a.costs.now a.plan_extents.now a.blocks.now a.plan_strides.now h ∙ sym same)); table = (λ h. absurd (false≢true h)) }
+    let a = c.args in rw c.if-ranks_right.false (record { told = decides_not (λ h. c.ranks_right.ensures.no c.if-ranks_right.false (right-ranks a.numbers a.extents.now a.sizes.now a.strides.now a.ranks.now a.weights.now a.costs.now a.plan_extents.now a.blocks.now a.plan_strides.now h ∙ sym same)); table = (λ h. cc) })

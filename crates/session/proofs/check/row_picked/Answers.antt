@@ -1,11 +1,11 @@
 -- `session::check::row_picked` meets its contract. Assumes nothing.
-use mathlib.Core.Path.{◌≡◌, refl, sym, ap, ◌∙◌}
+use mathlib.Core.Path.{◌≡◌, sym, ap, ◌∙◌}
 use mathlib.Core.Bool.{◌&&◌}
-use Prim.Native.Nat.{ℕ, ◌+◌, ◌-◌}
+use Prim.Native.Nat.{ℕ, ◌+◌}
 use native.Mathlib.Nat.{le_antisymm}
 use native.Mathlib.Omega.{arith}
 use mir.Syntax.{w64}
-use mir.Val.{Fits, of_z}
+use mir.Val.{Fits, SFits, of_z}
 use Rattle.std.proofs.Math.Facts.{Fits-or, Fits-xor, Fits-of_z, of_z-to_z}
 use lib.Dec.{eqb}
 use lib.IntN.{ℤ, pos}
@@ -17,25 +17,8 @@ use Rattle.session.specs.Session.{same_ints}
 use Rattle.session.proofs.Comparing.{xor_none, same_z-next}
 use Rattle.session.proofs.Holding.{rest_is}
 use Rattle.session.proofs.Picking.{fresh, fresh_long, fresh_at, row-over}
+use borrow.Author.Rules.{rules}
 use Rattle.session.proofs.check.row_picked.Goals as goal
-
-pub loop-i-init : goal.loop-i-init
-loop-i-init c = (c.requires.axes_len.0, c.requires.axes_len.1.0, c.requires.axes_len.1.1, c.requires.by_index, omega arith, refl)
-
-pub overflow_cast-axis : goal.overflow_cast-axis
-overflow_cast-axis c =
-    let g = c.well_formed.0.1 in
-    let h = c.loop-i.invariant.3 c.loop-i.i c.loop-i-test.true in
-    omega (arith, g, h)
-
-pub overflow_add-differing : goal.overflow_add-differing
-overflow_add-differing c = let l = c.loop-i in let h = l.invariant.3 l.i c.loop-i-test.true in omega (arith, h)
-
-pub offset_bounds-strides-from : goal.offset_bounds-strides-from
-offset_bounds-strides-from c = let l = c.loop-i in let h = l.invariant.3 l.i c.loop-i-test.true in omega (arith, h)
-
-pub bounds-strides-from : goal.bounds-strides-from
-bounds-strides-from c = let l = c.loop-i in l.invariant.3 l.i c.loop-i-test.true
 
 pub loop-i-preserved : goal.loop-i-preserved
 loop-i-preserved c =
@@ -48,8 +31,10 @@ loop-i-preserved c =
     let h = rw (of_z-to_z {w = w64} l.auto.differing-fits) at l.invariant.5 in
     let x : ℤ = get_or a.strides.now (a.from + get_or a.axes.now l.i 0) (pos 0) in
     let y : ℤ = get_or a.row.now l.i (pos 0) in
-    let p : Fits w64 (of_z w64 x) = Fits-of_z {z = x} (record { sfits = c.differing-1.given }) in
-    let q : Fits w64 (of_z w64 y) = Fits-of_z {z = y} (record { sfits = c.differing-in-loop-i-1.given }) in (
+    let fx : SFits w64 x = search rules in
+    let fy : SFits w64 y = search rules in
+    let p : Fits w64 (of_z w64 x) = Fits-of_z {z = x} fx in
+    let q : Fits w64 (of_z w64 y) = Fits-of_z {z = y} fy in (
       l.invariant.0,
       few,
       e,
@@ -57,7 +42,7 @@ loop-i-preserved c =
       omega (arith, t),
       rw (of_z-to_z {w = w64} (Fits-or l.auto.differing-fits (Fits-xor p q)))
           (same_z-next (fresh a.strides.now a.from a.axes.now a.count) a.row.now l.i l.differing-bits _ (omega (arith, f, few, t)) (omega (arith, e, few, t))
-          (xor_none (of_z w64 x) (of_z w64 y) ∙ eqb_bits x y (record { sfits = c.differing-1.given }) (record { sfits = c.differing-in-loop-i-1.given })
+          (xor_none (of_z w64 x) (of_z w64 y) ∙ eqb_bits x y fx fy
           ∙ ap (λ (v : ℤ). eq_z v y) (sym (fresh_at a.strides.now a.from a.axes.now a.count c.requires.axes_len.0 c.requires.axes_len.1.0 l.i t))) h),
     )
 

@@ -1,7 +1,7 @@
 -- The invariants of `check::row_picked`.
 use mathlib.Core.Path.{◌≡◌}
 use mathlib.Core.Bool.{◌&&◌}
-use Prim.Native.Nat.{ℕ, ◌+◌, ◌-◌, ◌≤◌, ◌<◌}
+use Prim.Native.Nat.{ℕ, ◌+◌, ◌≤◌, ◌<◌}
 use mir.Syntax.{w64}
 use mir.Val.{of_z}
 use lib.Dec.{eqb}
@@ -14,6 +14,3 @@ abbrev pub invariant-loop-i : goal.invariant-loop-i
 invariant-loop-i l =
     (length l.axes ≡ 64) × (l.count ≤ 64) × (length l.row ≡ 64) × ((j : ℕ) → j < l.count → l.from + get_or l.axes j 0 < length l.strides) × (l.i ≤ l.count)
     × ((eqb (of_z w64 l.differing) 0 && same_ints (drop l.i (fresh l.strides l.from l.axes l.count)) (drop l.i l.row)) ≡ same_ints (fresh l.strides l.from l.axes l.count) l.row)
-
-abbrev pub decreases-loop-i : goal.decreases-loop-i
-decreases-loop-i l = l.count - l.i

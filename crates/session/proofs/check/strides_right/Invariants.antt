@@ -1,6 +1,6 @@
 -- The invariants of `check::strides_right`.
 use mathlib.Core.Path.{◌≡◌}
-use Prim.Native.Nat.{◌-◌, ◌*◌, ◌≤◌}
+use Prim.Native.Nat.{◌*◌, ◌≤◌}
 use lib.ListN.{length, take}
 use Rattle.laws.specs.Fuse.Arrays.{pick_rows}
 use Rattle.session.specs.Session.{same_ints}
@@ -10,6 +10,3 @@ abbrev pub invariant-loop-k : goal.invariant-loop-k
 invariant-loop-k l =
     (l.operands ≤ 8) × (l.operands * l.pitch ≤ length l.strides) × (length l.plan_strides ≡ 512) × (l.k ≤ l.operands)
     × (l.alike ≡ same_ints (pick_rows l.strides l.pitch (take l.count l.axes) l.k) (take (l.k * 64) l.plan_strides))
-
-abbrev pub decreases-loop-k : goal.decreases-loop-k
-decreases-loop-k l = l.operands - l.k

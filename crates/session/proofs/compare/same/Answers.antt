@@ -1,6 +1,5 @@
 -- `session::compare::same` meets its contract. Assumes nothing.
 use mathlib.Core.Path.{refl}
-use Prim.Native.Nat.{◌-◌}
 use native.Mathlib.Omega.{arith}
 use Rattle.session.proofs.Comparing.{same_next, same_over}
 use Rattle.session.proofs.compare.same.Goals as goal

@@ -7,8 +7,5 @@ use lib.ListN.{length, drop}
 use Rattle.states.specs.Near.{all_below}
 use Rattle.states.proofs.near.all_below.Given as goal
 
-abbrev pub invariant-loop-i : goal.invariant-loop-i
-invariant-loop-i l = (l.i ≤ length l.numbers) × ((eqb l.above 0 && all_below (2 ^ l.bits) (drop l.i l.numbers)) ≡ all_below (2 ^ l.bits) l.numbers)
-
-abbrev pub decreases-loop-i : goal.decreases-loop-i
-decreases-loop-i l = length l.numbers - l.i
+abbrev pub invariant-loop-n : goal.invariant-loop-n
+invariant-loop-n l = (l.n-index ≤ length l.numbers) × ((eqb l.above 0 && all_below (2 ^ l.bits) (drop l.n-index l.numbers)) ≡ all_below (2 ^ l.bits) l.numbers)

@@ -7,17 +7,17 @@ use Rattle.states.proofs.near.rows_near.Goals as goal
 pub loop-k-init : goal.loop-k-init
 loop-k-init c = let a = c.args in (omega arith, rows_none a.extents.now a.strides.now)
 
-pub row_near-near-requires : goal.row_near-near-requires
-row_near-near-requires c =
+pub row_near-requires : goal.row_near-requires
+row_near-requires c =
     row_room c.args.extents.now c.args.strides.now c.loop-k.k _ c.requires c.loop-k-test.true
 
 pub loop-k-preserved : goal.loop-k-preserved
 loop-k-preserved c =
     let a = c.args in
-    (omega arith, rows_next a.extents.now a.strides.now c.loop-k.k c.loop-k.invariant.1 c.row_near-near.ensures c.if-near.true)
+    (omega arith, rows_next a.extents.now a.strides.now c.loop-k.k c.loop-k.invariant.1 c.row_near.ensures c.if-not-row_near.false)
 
-pub returns-else-near : goal.returns-else-near
-returns-else-near c = λ h. absurd (false≢true h)
+pub returns-then-not-row_near : goal.returns-then-not-row_near
+returns-then-not-row_near c = λ h. absurd (false≢true h)
 
 pub returns : goal.returns
 returns c =

@@ -5,6 +5,3 @@ use Rattle.states.proofs.near.rows_near.Given as goal
 
 abbrev pub invariant-loop-k : goal.invariant-loop-k
 invariant-loop-k l = (l.k ≤ l.operands) × RowsNear l.extents l.strides l.k
-
-abbrev pub decreases-loop-k : goal.decreases-loop-k
-decreases-loop-k l = l.operands - l.k

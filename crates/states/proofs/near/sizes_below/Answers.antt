@@ -1,4 +1,5 @@
 -- `states::near::sizes_below` meets its contract. Assumes nothing.
+use Rattle.std.proofs.Common.{rules}
 use mathlib.Core.Path.{◌≡◌, refl, ◌∙◌, ap}
 use Prim.Native.Nat.{ℕ, ◌^◌}
 use native.Mathlib.Omega.{arith}
@@ -10,17 +11,17 @@ use Rattle.states.proofs.Blanks.{gathered_next, gathered_end}
 use Rattle.states.proofs.Nearness.{each_size, shifted_none}
 use Rattle.states.proofs.near.sizes_below.Goals as goal
 
-pub loop-i-init : goal.loop-i-init
-loop-i-init c = (omega arith, refl)
+pub loop-n-init : goal.loop-n-init
+loop-n-init c = (omega arith, refl)
 
-pub loop-i-preserved : goal.loop-i-preserved
-loop-i-preserved c =
-    let l = c.loop-i in
+pub loop-n-preserved : goal.loop-n-preserved
+loop-n-preserved c =
+    let l = c.loop-n in
     let ns = c.args.numbers.now in
-    let m : c.magnitude-size.result ≡ nat_abs (get_or ns l.i (pos 0)) = c.magnitude-size.ensures ∙ ap nat_abs (elem_read ns l.i c.magnitude-arg-1.given) in
-    (omega arith, gathered_next (each_size (2 ^ c.args.bits)) (pos 0) ns l.i l.above _ c.loop-i-test.true (shifted_none c.magnitude-size.result c.args.bits ∙ ap (λ (n : ℕ). ltb n (2 ^ c.args.bits)) m) l.invariant.1)
+    let m : c.unsigned_abs.result ≡ nat_abs (get_or ns l.n-index (pos 0)) = search rules in
+    (omega arith, gathered_next (each_size (2 ^ c.args.bits)) (pos 0) ns l.n-index l.above _ c.loop-n-test.true (shifted_none c.unsigned_abs.result c.args.bits ∙ ap (λ (n : ℕ). ltb n (2 ^ c.args.bits)) m) l.invariant.1)
 
 pub returns : goal.returns
 returns c =
-    let l = c.loop-i in
-    gathered_end (each_size (2 ^ c.args.bits)) (pos 0) c.args.numbers.now l.i l.above c.loop-i-test.false l.invariant.1
+    let l = c.loop-n in
+    gathered_end (each_size (2 ^ c.args.bits)) (pos 0) c.args.numbers.now l.n-index l.above c.loop-n-test.false l.invariant.1

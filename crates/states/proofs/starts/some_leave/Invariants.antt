@@ -8,6 +8,3 @@ use Rattle.states.proofs.starts.some_leave.Given as goal
 
 abbrev pub invariant-loop-k : goal.invariant-loop-k
 invariant-loop-k l = (l.k ≤ l.operands) × (some_of (leaves_at l.extents l.strides l.counters l.offsets) 0 l.k ≡ false)
-
-abbrev pub decreases-loop-k : goal.decreases-loop-k
-decreases-loop-k l = l.operands - l.k

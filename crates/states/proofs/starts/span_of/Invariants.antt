@@ -6,6 +6,3 @@ use Rattle.states.proofs.starts.span_of.Given as goal
 
 abbrev pub invariant-loop-i : goal.invariant-loop-i
 invariant-loop-i l = (l.i ≤ length l.extents) × (Further l.extents l.strides l.reach l.i × Left l.extents l.strides l.counters l.below l.i)
-
-abbrev pub decreases-loop-i : goal.decreases-loop-i
-decreases-loop-i l = length l.extents - l.i

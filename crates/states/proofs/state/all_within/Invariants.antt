@@ -7,6 +7,3 @@ use Rattle.states.proofs.state.all_within.Given as goal
 
 abbrev pub invariant-loop-i : goal.invariant-loop-i
 invariant-loop-i l = (l.i ≤ length l.extents) × (within (drop l.i l.extents) (drop l.i l.counters) ≡ within l.extents l.counters)
-
-abbrev pub decreases-loop-i : goal.decreases-loop-i
-decreases-loop-i l = length l.extents - l.i

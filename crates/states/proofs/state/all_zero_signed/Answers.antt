@@ -1,30 +1,17 @@
 -- `states::state::all_zero_signed` meets its contract. Assumes nothing.
-use lib.IntN.{ℤ, pos}
-use Rattle.laws.specs.Base.Bits.{zero_bits}
-use mathlib.Core.Path.{refl, sym}
-use native.Mathlib.Omega.{arith}
-use lib.ListN.{get_or}
+use Rattle.std.proofs.Common.{rules, arith, refl, sym, ap, ◌≡◌, ℕ, eqb, nat_abs, get_or, pos}
 use Rattle.states.proofs.Blanks.{each_zero_z, gathered_next, gathered_end}
-use mir.Syntax.{w64}
-use mir.Val.{Fits, of_z}
-use Rattle.std.proofs.Math.Facts.{Fits-or, Fits-of_z, of_z-to_z}
 use Rattle.states.proofs.state.all_zero_signed.Goals as goal
 
-pub loop-i-init : goal.loop-i-init
-loop-i-init c = (omega arith, refl)
+pub loop-n-init : goal.loop-n-init
+loop-n-init c = (omega arith, refl)
 
-pub loop-i-preserved : goal.loop-i-preserved
-loop-i-preserved c =
-    let l = c.loop-i in
-    let v : ℤ = get_or c.args.numbers.now l.i (pos 0) in
-    let f : Fits w64 (of_z w64 v) = Fits-of_z {z = v} (record { sfits = c.bits-1.given }) in
-    let h = rw (of_z-to_z {w = w64} l.auto.bits) at l.invariant.1 in (
-      omega arith,
-      rw (of_z-to_z {w = w64} (Fits-or l.auto.bits f))
-          (gathered_next each_zero_z (pos 0) c.args.numbers.now l.i l.bits-bits _ c.loop-i-test.true (sym (zero_bits v c.bits-1.given)) h),
-    )
+pub loop-n-preserved : goal.loop-n-preserved
+loop-n-preserved c =
+    let l = c.loop-n in
+    let ns = c.args.numbers.now in
+    let m : c.unsigned_abs-seen.result ≡ nat_abs (get_or ns l.n-index (pos 0)) = search rules in
+    (omega arith, gathered_next each_zero_z (pos 0) ns l.n-index l.seen _ c.loop-n-test.true (ap (λ (n : ℕ). eqb n 0) m) l.invariant.1)
 
 pub returns : goal.returns
-returns c =
-    let l = c.loop-i in
-    gathered_end each_zero_z (pos 0) c.args.numbers.now l.i l.bits-bits c.loop-i-test.false (rw (of_z-to_z {w = w64} l.auto.bits) at l.invariant.1)
+returns c = let l = c.loop-n in gathered_end each_zero_z (pos 0) c.args.numbers.now l.n-index l.seen c.loop-n-test.false l.invariant.1

@@ -5,12 +5,7 @@ use lib.Dec.{eqb}
 use lib.ListN.{length, drop}
 use mathlib.Core.Bool.{◌&&◌}
 use Rattle.strided.specs.Step.{blank_z}
-use mir.Syntax.{w64}
-use mir.Val.{of_z}
 use Rattle.states.proofs.state.all_zero_signed.Given as goal
 
-abbrev pub invariant-loop-i : goal.invariant-loop-i
-invariant-loop-i l = (l.i ≤ length l.numbers) × ((eqb (of_z w64 l.bits) 0 && blank_z (drop l.i l.numbers)) ≡ blank_z l.numbers)
-
-abbrev pub decreases-loop-i : goal.decreases-loop-i
-decreases-loop-i l = length l.numbers - l.i
+abbrev pub invariant-loop-n : goal.invariant-loop-n
+invariant-loop-n l = (l.n-index ≤ length l.numbers) × ((eqb l.seen 0 && blank_z (drop l.n-index l.numbers)) ≡ blank_z l.numbers)

@@ -1,4 +1,5 @@
 -- `states::state::stands` meets its contract. Assumes nothing.
+use Rattle.std.proofs.Common.{◌∙◌}
 use Rattle.states.proofs.Reaching.{stands_ended, stands_out, stands_on}
 use Rattle.states.proofs.state.stands.Goals as goal
 
@@ -12,7 +13,7 @@ returns-then-all_within c =
     let a = c.args in
     stands_on a.extents.now a.blocks.now a.counters.now c.requires.1 c.if-ended.false c.all_within.ensures c.if-all_within.true c.on_start.ensures
 
-pub returns : goal.returns
-returns c =
+pub returns-else-all_within : goal.returns-else-all_within
+returns-else-all_within c =
     let a = c.args in
-    stands_out a.extents.now a.blocks.now a.counters.now c.requires.1 c.if-ended.false c.all_within.ensures c.if-all_within.false
+    c.if-all_within.false ∙ stands_out a.extents.now a.blocks.now a.counters.now c.requires.1 c.if-ended.false c.all_within.ensures c.if-all_within.false

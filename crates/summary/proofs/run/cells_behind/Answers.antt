@@ -1,6 +1,6 @@
 -- `summary::run::cells_behind` meets its contract: the loop keeps `Going`. Assumes nothing.
 use mathlib.Core.Path.{◌≡◌, refl, ap, ◌∙◌}
-use Prim.Native.Nat.{◌-◌, ◌*◌, ◌<◌, ◌^◌}
+use Prim.Native.Nat.{◌*◌, ◌<◌, ◌^◌}
 use native.Mathlib.Omega.{arith}
 use lib.IntN.{◌+ℤ◌}
 use lib.ListN.{length}
@@ -8,12 +8,8 @@ use mir.Facts.{to_z-of_z}
 use mir.Syntax.{w64}
 use mir.Val.{to_z, of_z}
 use Rattle.summary.specs.Sums.{with_cell}
-use Rattle.summary.proofs.Meeting.{in_fits, running_in, running_room, going_none, going_next, going_end}
+use Rattle.summary.proofs.Meeting.{in_fits, running_in, running_room, going_next, going_end}
 use Rattle.summary.proofs.run.cells_behind.Goals as goal
-
-pub loop-k-init : goal.loop-k-init
-loop-k-init c =
-    rw (to_z-of_z {w = w64} c.ranges.last, to_z-of_z {w = w64} c.ranges.stride) (going_none c.requires)
 
 pub moved-o-requires : goal.moved-o-requires
 moved-o-requires c =
@@ -34,9 +30,6 @@ pub loop-k-preserved : goal.loop-k-preserved
 loop-k-preserved c =
     let moved-is : to_z w64 (of_z w64 c.moved-o.result) ≡ to_z w64 c.loop-k.o-bits +ℤ to_z w64 (of_z w64 c.args.stride) = to_z-of_z {w = w64} (record { sfits = c.moved-o.type_inv }) ∙ c.moved-o.ensures in
     going_next c.loop-k.invariant c.loop-k-test.true moved-is (c.with_cell-t.ensures ∙ ap (with_cell c.loop-k.t) c.cell_at-x.ensures)
-
-pub anew-requires : goal.anew-requires
-anew-requires c = tt
 
 pub returns : goal.returns
 returns c =

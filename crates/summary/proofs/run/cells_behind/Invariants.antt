@@ -1,5 +1,4 @@
 -- The invariants of `run::cells_behind`.
-use Prim.Native.Nat.{◌-◌}
 use lib.IntN.{◌+ℤ◌}
 use Rattle.summary.specs.Ahead.{run_from, met}
 use Rattle.summary.proofs.Meeting.{Going}
@@ -7,7 +6,4 @@ use Rattle.summary.proofs.run.cells_behind.Given as goal
 
 abbrev pub invariant-loop-k : goal.invariant-loop-k
 invariant-loop-k l =
-    Going l.cells l.stride l.n (met l.cells l.initial.t (run_from (l.last +ℤ l.stride) l.stride l.n)) l.last l.k l.t l.o
-
-abbrev pub decreases-loop-k : goal.decreases-loop-k
-decreases-loop-k l = l.n - l.k
+    Going l.cells l.stride l.n (met l.cells l.initial.t (run_from (l.last +ℤ l.stride) l.stride l.n)) l.last l._k l.t l.o

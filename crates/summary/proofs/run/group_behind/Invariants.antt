@@ -1,5 +1,4 @@
 -- The invariants of `run::group_behind`.
-use Prim.Native.Nat.{◌-◌}
 use lib.IntN.{◌+ℤ◌}
 use Rattle.summary.specs.Ahead.{run_from, met}
 use Rattle.summary.specs.Parts.{group}
@@ -8,7 +7,4 @@ use Rattle.summary.proofs.run.group_behind.Given as goal
 
 abbrev pub invariant-loop-k : goal.invariant-loop-k
 invariant-loop-k l =
-    Grouping l.cells l.stride group (met l.cells l.s (run_from (l.last +ℤ l.stride) l.stride group)) l.s l.last l.k l.sum l.quiet l.o
-
-abbrev pub decreases-loop-k : goal.decreases-loop-k
-decreases-loop-k l = 8 - l.k
+    Grouping l.cells l.stride group (met l.cells l.s (run_from (l.last +ℤ l.stride) l.stride group)) l.s l.last l._k l.sum l.quiet l.o

@@ -3,26 +3,24 @@ use native.Mathlib.Omega.{arith}
 use mathlib.Core.Path.{◌≡◌, refl, sym, ◌∙◌}
 use mathlib.Core.Bool.{true, false}
 use mathlib.Core.List.{List}
-use Prim.Native.Nat.{ℕ, ◌-◌}
+use Prim.Native.Nat.{ℕ}
 use lib.IntN.{ℤ, pos}
 use lib.ListN.{get_or}
 use mir.Facts.{to_z-of_z}
 use mir.Syntax.{w64}
-use mir.Val.{to_z, of_z}
+use mir.Val.{SFits}
+use borrow.Author.Rules.{rules}
 use Rattle.strided.specs.Begin.{plan_extents}
 use Rattle.strided.specs.Layout.{has_zero}
 use Rattle.strided.specs.Memory.{plan_of}
 use Rattle.strided.specs.declared.Plan.{Plan}
 use Rattle.advance.specs.Axis.{widths_to}
 use Rattle.walker.proofs.Walked.{may_move}
-use Rattle.summary.proofs.Summing.{Summing, summable_ready, no_cells, first_taken, summing_start, summing_while, summing_asks, summing_fit, summing_rows, summing_next, summing_number, summing_less, summing_end}
+use Rattle.summary.proofs.Summing.{summable_ready, no_cells, first_taken, summing_start, summing_while, summing_asks, summing_fit, summing_rows, summing_next, summing_number, summing_less, summing_end}
 use Rattle.summary.proofs.visits.summary_on.Goals as goal
 
 pub no_block-requires : goal.no_block-requires
 no_block-requires c = let r = summable_ready c.requires in let l = c.requires.sized.extents-all in omega (arith, r.axes, l)
-
-pub nothing_met-requires : goal.nothing_met-requires
-nothing_met-requires c = tt
 
 pub returns-then-no_block : goal.returns-then-no_block
 returns-then-no_block c =
@@ -46,9 +44,6 @@ moves_of-d-requires c =
     let some : false ≡ has_zero (plan_extents plan) = sym c.if-no_block.false ∙ c.no_block.ensures in
     may_move widths-are c.way_of-y.ensures (first_taken c.requires some)
 
-pub nothing_met-sum-requires : goal.nothing_met-sum-requires
-nothing_met-sum-requires c = tt
-
 pub loop-more-init : goal.loop-more-init
 loop-more-init c =
     let plan : Plan = let a = c.args in plan_of a.rank 1 a.e.now a.b.now a.s.now in
@@ -59,49 +54,41 @@ loop-more-init c =
 
 pub take_stretch-x-requires : goal.take_stretch-x-requires
 take_stretch-x-requires c =
-    let widthsIn : List ℕ = c.widths_into.new.w in
-    let runs : Summing c.args.rank c.args.e.now c.args.b.now c.args.s.now (to_z w64 (of_z w64 c.args.start)) c.args.cells.now c.way_of-y.result widthsIn c.loop-more.number true c.loop-more.sum c.loop-more.t c.loop-more.c c.loop-more.o = summing_while c.loop-more.invariant c.loop-more-test.true in
-    summing_asks runs
+    summing_asks (summing_while c.loop-more.invariant c.loop-more-test.true)
 
 pub with_blocks-sum-requires : goal.with_blocks-sum-requires
 with_blocks-sum-requires c =
-    let firstIn : List ℤ = c.take_stretch-x.new.first in
-    let from_is : to_z w64 (of_z w64 (get_or firstIn 0 (pos 0))) ≡ get_or firstIn 0 (pos 0) = to_z-of_z {w = w64} (record { sfits = c.from-1.given }) in
     -- the numbers read from arrays
-    let by-is : to_z w64 (of_z w64 (get_or c.moves_of-d.result 0 (pos 0))) ≡ get_or c.moves_of-d.result 0 (pos 0) = to_z-of_z {w = w64} (record { sfits = c.by-1.given }) in
-    let stride-is : to_z w64 (of_z w64 (get_or c.args.s.now 0 (pos 0))) ≡ get_or c.args.s.now 0 (pos 0) = to_z-of_z {w = w64} (record { sfits = c.stride-1.given }) in
-    let widthsIn : List ℕ = c.widths_into.new.w in
-    let runs : Summing c.args.rank c.args.e.now c.args.b.now c.args.s.now (to_z w64 (of_z w64 c.args.start)) c.args.cells.now c.way_of-y.result widthsIn c.loop-more.number true c.loop-more.sum c.loop-more.t c.loop-more.c c.loop-more.o = summing_while c.loop-more.invariant c.loop-more-test.true in
+    let firstIn : List ℤ = c.take_stretch-x.new.first in
+    let from_is = to_z-of_z {w = w64} (let f : SFits w64 (get_or firstIn 0 (pos 0)) = search rules in f) in
+    let by-is = to_z-of_z {w = w64} (let f : SFits w64 (get_or c.moves_of-d.result 0 (pos 0)) = search rules in f) in
+    let stride-is = to_z-of_z {w = w64} (let f : SFits w64 (get_or c.args.s.now 0 (pos 0)) = search rules in f) in
+    let runs = summing_while c.loop-more.invariant c.loop-more-test.true in
     let d = c.moves_of-d.ensures in
     rw (from_is, by-is, stride-is) (record { runs_fit = summing_fit runs c.take_stretch-x.ensures d; ahead = summing_rows runs c.take_stretch-x.ensures d })
 
 pub overflow_add-number : goal.overflow_add-number
 overflow_add-number c =
-    let widthsIn : List ℕ = c.widths_into.new.w in
-    let runs : Summing c.args.rank c.args.e.now c.args.b.now c.args.s.now (to_z w64 (of_z w64 c.args.start)) c.args.cells.now c.way_of-y.result widthsIn c.loop-more.number true c.loop-more.sum c.loop-more.t c.loop-more.c c.loop-more.o = summing_while c.loop-more.invariant c.loop-more-test.true in
+    let runs = summing_while c.loop-more.invariant c.loop-more-test.true in
     record { fits = summing_number runs c.take_stretch-x.ensures c.moves_of-d.ensures }
 
 pub loop-more-smaller : goal.loop-more-smaller
 loop-more-smaller c =
-    let widthsIn : List ℕ = c.widths_into.new.w in
-    let runs : Summing c.args.rank c.args.e.now c.args.b.now c.args.s.now (to_z w64 (of_z w64 c.args.start)) c.args.cells.now c.way_of-y.result widthsIn c.loop-more.number true c.loop-more.sum c.loop-more.t c.loop-more.c c.loop-more.o = summing_while c.loop-more.invariant c.loop-more-test.true in
+    let runs = summing_while c.loop-more.invariant c.loop-more-test.true in
     summing_less runs c.take_stretch-x.ensures c.moves_of-d.ensures (omega arith)
 
 pub loop-more-preserved : goal.loop-more-preserved
 loop-more-preserved c =
-    let widthsIn : List ℕ = c.widths_into.new.w in
-    let runs : Summing c.args.rank c.args.e.now c.args.b.now c.args.s.now (to_z w64 (of_z w64 c.args.start)) c.args.cells.now c.way_of-y.result widthsIn c.loop-more.number true c.loop-more.sum c.loop-more.t c.loop-more.c c.loop-more.o = summing_while c.loop-more.invariant c.loop-more-test.true in
+    let runs = summing_while c.loop-more.invariant c.loop-more-test.true in
     let firstIn : List ℤ = c.take_stretch-x.new.first in
-    let from_is : to_z w64 (of_z w64 (get_or firstIn 0 (pos 0))) ≡ get_or firstIn 0 (pos 0) = to_z-of_z {w = w64} (record { sfits = c.from-1.given }) in
-    let by-is : to_z w64 (of_z w64 (get_or c.moves_of-d.result 0 (pos 0))) ≡ get_or c.moves_of-d.result 0 (pos 0) = to_z-of_z {w = w64} (record { sfits = c.by-1.given }) in
-    let stride-is : to_z w64 (of_z w64 (get_or c.args.s.now 0 (pos 0))) ≡ get_or c.args.s.now 0 (pos 0) = to_z-of_z {w = w64} (record { sfits = c.stride-1.given }) in
+    let from_is = to_z-of_z {w = w64} (let f : SFits w64 (get_or firstIn 0 (pos 0)) = search rules in f) in
+    let by-is = to_z-of_z {w = w64} (let f : SFits w64 (get_or c.moves_of-d.result 0 (pos 0)) = search rules in f) in
+    let stride-is = to_z-of_z {w = w64} (let f : SFits w64 (get_or c.args.s.now 0 (pos 0)) = search rules in f) in
     summing_next runs c.take_stretch-x.ensures c.moves_of-d.ensures
     (rw (from_is, by-is, stride-is) at c.with_blocks-sum.ensures)
 
 pub returns : goal.returns
 returns c =
-    let widthsIn : List ℕ = c.widths_into.new.w in
     -- and behind it, it has ended
-    let ended : Summing c.args.rank c.args.e.now c.args.b.now c.args.s.now (to_z w64 (of_z w64 c.args.start)) c.args.cells.now c.way_of-y.result widthsIn c.loop-more.number false c.loop-more.sum c.loop-more.t c.loop-more.c c.loop-more.o = summing_while c.loop-more.invariant c.loop-more-test.false in
-    let e = summing_end ended in
+    let e = summing_end (summing_while c.loop-more.invariant c.loop-more-test.false) in
     rw (to_z-of_z {w = w64} c.ranges.start) at e

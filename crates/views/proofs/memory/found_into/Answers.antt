@@ -12,16 +12,16 @@ told_into-told-requires c =
     let a = c.args in
     let k = c.requires.state in record { layout = fitting a.extents.now a.sizes.now a.strides.now a.purpose c.requires.layout; total = cells-few a.extents.now a.sizes.now a.strides.now a.purpose c.requires.layout; counters = subst (λ (n : ℕ). a.rank ≤ n) (sym k.counters-all) (axes-few _ _ k) }
 
-pub number_of-n-requires : goal.number_of-n-requires
-number_of-n-requires c =
+pub number_of-requires : goal.number_of-requires
+number_of-requires c =
     countable _ _ c.requires.state refl
 
-pub returns-in-Refused : goal.returns-in-Refused
-returns-in-Refused c =
+pub returns-in-Err : goal.returns-in-Err
+returns-in-Err c =
     let a = c.args in
-    visit_refused_lem _ _ c.requires.state refl a.extents.now a.sizes.now a.strides.now a.purpose (told_as a.extents.now a.sizes.now a.strides.now a.purpose c.requires.layout (take a.rank a.counters.now) c.in-Refused.is c.told_into-told.ensures) _ _
+    visit_refused_lem _ _ c.requires.state refl a.extents.now a.sizes.now a.strides.now a.purpose (told_as a.extents.now a.sizes.now a.strides.now a.purpose c.requires.layout (take a.rank a.counters.now) c.in-Err.is c.told_into-told.ensures) _ _
 
-pub returns-in-Served : goal.returns-in-Served
-returns-in-Served c =
+pub returns-in-Ok : goal.returns-in-Ok
+returns-in-Ok c =
     let a = c.args in
-    visit_block _ _ c.requires.state refl a.extents.now a.sizes.now a.strides.now a.purpose (told_as a.extents.now a.sizes.now a.strides.now a.purpose c.requires.layout (take a.rank a.counters.now) c.in-Served.is c.told_into-told.ensures) c.number_of-n.ensures c.block_into.ensures
+    visit_block _ _ c.requires.state refl a.extents.now a.sizes.now a.strides.now a.purpose (told_as a.extents.now a.sizes.now a.strides.now a.purpose c.requires.layout (take a.rank a.counters.now) c.in-Ok.is c.told_into-told.ensures) c.number_of.ensures c.block_into.ensures

@@ -17,8 +17,8 @@ loop-i-init c =
     let a = c.args in
     (omega (arith, c.if-rank-eq0.false), omega arith, sym (tally_none a.rank a.e.now a.b.now a.c.now))
 
-pub tally_axis-more-requires : goal.tally_axis-more-requires
-tally_axis-more-requires c =
+pub tally_axis-t-requires : goal.tally_axis-t-requires
+tally_axis-t-requires c =
     let a = c.args in
     let j : ℕ = c.loop-i.i - 1 in
     let i : j + 1 ≡ c.loop-i.i = omega arith in
@@ -33,7 +33,7 @@ loop-i-preserved c =
     let i : c.loop-i.i ≡ j + 1 = omega arith in (
       omega arith,
       omega arith,
-      c.tally_axis-more.ensures
+      c.tally_axis-t.ensures
           ∙ ap (tallied (get_or a.e.now j 0) c.width_of-width.result (get_or a.c.now j 0))
           (c.loop-i.invariant.2 ∙ ap (tally_from a.rank a.e.now a.b.now a.c.now) i)
           ∙ tally_step a.rank a.e.now a.b.now a.c.now c.requires j (omega arith) c.width_of-width.ensures,

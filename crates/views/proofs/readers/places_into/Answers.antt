@@ -1,24 +1,24 @@
 -- `views::readers::places_into` meets its contract. Assumes nothing.
-use mathlib.Core.Path.{◌∙◌, ap}
-use Prim.Native.Nat.{ℕ, ◌-◌}
-use native.Mathlib.Nat.{le_antisymm}
-use native.Mathlib.Omega.{arith}
-use lib.ListN.{take}
+use Rattle.std.proofs.Common.{◌≡◌, refl, ap, ap₂, ◌∙◌, arith, List, [], ◌∷◌, ◌++◌, ℕ, zero, suc, ◌≤◌, length, drop, take}
+use Rattle.std.specs.Prelude.{replicate}
 use Rattle.strided.specs.Base.{padded}
 use Rattle.laws.specs.Base.Filling.{fill_none}
-use Rattle.laws.specs.Base.Stores.{fill_first}
+use Rattle.views.proofs.Answers.{taken_long}
 use Rattle.views.proofs.readers.places_into.Goals as goal
 
-pub loop-i-init : goal.loop-i-init
-loop-i-init c = (omega arith, c.requires.zeros ∙ fill_none 64 0)
-
-pub loop-i-preserved : goal.loop-i-preserved
-loop-i-preserved c =
-    let few = c.requires.few in (
-      omega (arith, c.loop-i-test.true),
-      rw c.loop-i.invariant.1 (fill_first 0 64 c.args.index.now c.loop-i.i (omega (arith, few.1)) (omega (arith, few.0, few.1, c.loop-i-test.true))),
-    )
+-- a list copied over the front of an array of zeros
+laid_over : (n : ℕ) (xs : List ℕ) → length xs ≤ n → xs ++ drop (length xs) (replicate n 0) ≡ padded n 0 xs
+laid_over zero [] h = refl
+laid_over zero (x ∷ xs) h = absurd (omega arith)
+laid_over (suc n) [] h = fill_none (suc n) 0
+laid_over (suc n) (x ∷ xs) h = ap (λ (l : List ℕ). x ∷ l) (laid_over n xs (omega arith))
 
 pub returns : goal.returns
 returns c =
-    c.loop-i.invariant.1 ∙ ap (λ (n : ℕ). padded 64 0 (take n c.args.index.now)) (le_antisymm c.loop-i.invariant.0 c.loop-i-test.false)
+    let a = c.args in
+    let few = c.requires.few in
+    let xs : List ℕ = take a.count a.index.now in
+    let long : a.count ≡ length xs = taken_long a.count a.index.now few.1 few.0 in
+    ap₂ (λ (ys zs : List ℕ). ys ++ drop a.count zs) c.copy_from_slice.ensures.after c.requires.zeros
+    ∙ ap (λ (n : ℕ). xs ++ drop n (replicate 64 0)) long
+    ∙ laid_over 64 xs (omega (arith, long, few.0))

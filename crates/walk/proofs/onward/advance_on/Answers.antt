@@ -1,20 +1,11 @@
 -- `walk::onward::advance_on` meets its contract. Assumes nothing.
 use mathlib.Core.Path.{sym, subst}
 use Prim.Native.Nat.{ℕ}
-use native.Mathlib.Omega.{arith}
 use Rattle.advance.specs.Carry.{Single}
 use Rattle.advance.proofs.Turns.{inside_done, tile_done}
 use Rattle.walk.specs.Onward.{widths_of}
 use Rattle.walk.proofs.Widths.{inner-single}
 use Rattle.walk.proofs.onward.advance_on.Goals as goal
-
-pub carry_on-more-requires : goal.carry_on-more-requires
-carry_on-more-requires c =
-    -- the axes that the carry inside a tile leaves out have blocks of 1
-    let single : let a = c.args in Single c.inner_of-inner.result a.rank (widths_of a.rank a.e.now a.b.now) = let a = c.args in
-    subst (λ (n : ℕ). Single n a.rank (widths_of a.rank a.e.now a.b.now)) (sym c.inner_of-inner.ensures)
-    (inner-single a.rank c.requires.axes a.e.now a.b.now) in
-    record { roomy = c.requires; last_le_rank = single.most }
 
 pub returns-then-more : goal.returns-then-more
 returns-then-more c =
@@ -22,9 +13,6 @@ returns-then-more c =
     subst (λ (n : ℕ). Single n a.rank (widths_of a.rank a.e.now a.b.now)) (sym c.inner_of-inner.ensures)
     (inner-single a.rank c.requires.axes a.e.now a.b.now) in
     (_, inside_done single c.carry_on-more.ensures.1 c.if-more.true)
-
-pub carry_on-requires : goal.carry_on-requires
-carry_on-requires c = record { roomy = c.carry_on-more.ensures.1.roomy; last_le_rank = omega arith }
 
 pub returns : goal.returns
 returns c =

@@ -4,6 +4,7 @@ use Prim.Native.Nat.{ℕ, ◌≤◌}
 use native.Mathlib.Nat.{div-mul-le_self}
 use mathlib.Core.Path.{sym, subst}
 use Rattle.walk.proofs.onward.inside_at.Goals as goal
+use Rattle.walk.proofs.onward.inside_at.Goals.{else-at-start-via-then-at-start+else-at-extent, else-at-start-via-else-at-start}
 
 pub overflow_sub-at : goal.overflow_sub-at
 overflow_sub-at c = let a = c.args in subst (λ (n : ℕ). n ≤ a.at) (sym c.start_at-start.ensures) (div-mul-le_self a.at a.width)
@@ -11,8 +12,8 @@ overflow_sub-at c = let a = c.args in subst (λ (n : ℕ). n ≤ a.at) (sym c.st
 pub returns-then-at-extent : goal.returns-then-at-extent
 returns-then-at-extent c = inside_ahead _ _ _ _ c.start_at-start.ensures c.if-at-start.true c.if-at-extent.true
 
-pub returns-else-at-extent : goal.returns-else-at-extent
-returns-else-at-extent c = inside_last _ _ _ _ c.start_at-start.ensures c.if-at-start.true c.if-at-extent.false
-
-pub returns-else-at-start : goal.returns-else-at-start
-returns-else-at-start c = inside_back _ _ _ _ c.start_at-start.ensures c.if-at-start.false
+pub returns : goal.returns
+returns c = elim c.else-at-start.branch [
+  | else-at-start-via-then-at-start+else-at-extent w ↦ inside_last _ _ _ _ c.start_at-start.ensures w.if-at-start.true w.if-at-extent.false
+  | else-at-start-via-else-at-start w ↦ inside_back _ _ _ _ c.start_at-start.ensures w.if-at-start.false
+]

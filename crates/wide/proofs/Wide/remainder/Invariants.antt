@@ -6,6 +6,3 @@ use Rattle.wide.proofs.Wide.remainder.Given as goal
 
 abbrev pub invariant-loop-i : goal.invariant-loop-i
 invariant-loop-i l = (l.i ≤ 64) × (l.rest ≡ front l.self.high l.self.low l.i % l.by)
-
-abbrev pub decreases-loop-i : goal.decreases-loop-i
-decreases-loop-i l = l.i

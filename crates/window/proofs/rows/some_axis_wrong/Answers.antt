@@ -1,13 +1,12 @@
 -- `window::rows::some_axis_wrong` meets its contract. Assumes nothing.
 use mathlib.Core.Path.{◌≡◌, sym, ◌∙◌, ap}
-use native.Mathlib.Nat.{le_antisymm}
 use native.Mathlib.Omega.{arith}
 use lib.IntN.{ℤ, pos}
 use lib.ListN.{get_or}
-use Rattle.strided.specs.Base.{some_of}
-use Rattle.laws.specs.Base.Bits.{read_back}
+use Rattle.laws.specs.Base.Signs.{back}
 use Rattle.laws.specs.Refusals.Operands.{some_of_empty, some_of_step, some_of_found}
 use Rattle.window.specs.Window.{axis_wrong, axis_wrong_at}
+use borrow.Author.Rules.{rules}
 use Rattle.window.proofs.rows.some_axis_wrong.Goals as goal
 
 pub loop-i-init : goal.loop-i-init
@@ -20,7 +19,7 @@ returns-then-axis_wrong c =
     let i = c.loop-i.i in
     let s : ℤ = get_or a.steps.now i (pos 0) in
     c.axis_wrong.ensures
-    ∙ ap (axis_wrong (get_or a.extents.now i 0) (get_or a.firsts.now i 0) (get_or a.counts.now i 0)) (read_back s c.axis_wrong-arg-1.given) in
+    ∙ ap (axis_wrong (get_or a.extents.now i 0) (get_or a.firsts.now i 0) (get_or a.counts.now i 0)) (back s (search rules)) in
     sym (some_of_found _ c.loop-i.i _ c.loop-i-test.true (sym answer ∙ c.if-axis_wrong.true))
 
 pub loop-i-preserved : goal.loop-i-preserved
@@ -29,8 +28,5 @@ loop-i-preserved c =
     let i = c.loop-i.i in
     let s : ℤ = get_or a.steps.now i (pos 0) in
     c.axis_wrong.ensures
-    ∙ ap (axis_wrong (get_or a.extents.now i 0) (get_or a.firsts.now i 0) (get_or a.counts.now i 0)) (read_back s c.axis_wrong-arg-1.given) in
+    ∙ ap (axis_wrong (get_or a.extents.now i 0) (get_or a.firsts.now i 0) (get_or a.counts.now i 0)) (back s (search rules)) in
     (omega arith, some_of_step _ c.loop-i.i c.loop-i.invariant.1 (sym answer ∙ c.if-axis_wrong.false))
-
-pub returns : goal.returns
-returns c = sym (ap (some_of _ 0) (le_antisymm c.loop-i-test.false c.loop-i.invariant.0) ∙ c.loop-i.invariant.1)

@@ -8,9 +8,6 @@ returns-then-has_zero c =
     let a = c.args in
     shifts_none a.firsts.now a.counts.now a.strides.now a.operands (sym c.has_zero.ensures ∙ c.if-has_zero.true) c.requires.operands_bound.0 _ c.requires.shifts_value
 
-pub sums_into-requires : goal.sums_into-requires
-sums_into-requires c = record { operands_bound = c.requires.operands_bound; by_index = c.requires.k_bound (sym c.has_zero.ensures ∙ c.if-has_zero.false); shifts_value = c.requires.shifts_value }
-
 pub returns : goal.returns
 returns c =
     let a = c.args in

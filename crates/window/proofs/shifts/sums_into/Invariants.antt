@@ -1,7 +1,7 @@
 -- The invariants of `shifts::sums_into`.
 use mathlib.Core.Path.{◌≡◌}
 use mathlib.Core.List.{map}
-use Prim.Native.Nat.{◌≤◌, ◌-◌}
+use Prim.Native.Nat.{◌≤◌}
 use lib.IntN.{pos}
 use Rattle.strided.specs.Base.{padded, run}
 use Rattle.window.specs.Counted.{sum_at}
@@ -9,6 +9,3 @@ use Rattle.window.proofs.shifts.sums_into.Given as goal
 
 abbrev pub invariant-loop-k : goal.invariant-loop-k
 invariant-loop-k l = (l.k ≤ l.operands) × (l.shifts ≡ padded 8 (pos 0) (map (sum_at l.firsts l.strides) (run 0 l.k)))
-
-abbrev pub decreases-loop-k : goal.decreases-loop-k
-decreases-loop-k l = l.operands - l.k

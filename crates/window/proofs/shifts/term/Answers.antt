@@ -3,22 +3,9 @@ use Prim.Native.Nat.{◌^◌, ◌<◌}
 use lib.IntN.{pos, ◌*ℤ◌}
 use mir.Syntax.{w64}
 use mir.Facts.{to_z_pos}
-use Rattle.laws.specs.Base.Signs.{back, size_zero, size_some}
-use Rattle.window.proofs.Sums.{term_none, term_fits_lem, first_small}
+use Rattle.laws.specs.Base.Signs.{back, size_some}
+use Rattle.window.proofs.Sums.{term_fits_lem, first_small}
 use Rattle.window.proofs.shifts.term.Goals as goal
-
-pub returns-then-stride-eq0 : goal.returns-then-stride-eq0
-returns-then-stride-eq0 c = term_none c.args.first c.args.stride (size_zero c.args.stride c.ranges.stride c.if-stride-eq0.true)
-
-pub overflow_cast-result : goal.overflow_cast-result
-overflow_cast-result c =
-    let small : c.args.first < 2 ^ 63 = first_small c.args.first c.args.stride c.requires (size_some c.args.stride c.ranges.stride c.if-stride-eq0.false) in
-    record { sfits = small }
-
-pub overflow_mul-result : goal.overflow_mul-result
-overflow_mul-result c =
-    let small : c.args.first < 2 ^ 63 = first_small c.args.first c.args.stride c.requires (size_some c.args.stride c.ranges.stride c.if-stride-eq0.false) in
-    rw (back c.args.stride c.ranges.stride, to_z_pos w64 small) (term_fits_lem c.args.first c.args.stride c.requires)
 
 pub returns : goal.returns
 returns c =

@@ -1,50 +1,22 @@
 -- `window::strides::some_stride_over` meets its contract. Assumes nothing.
 use mathlib.Core.Path.{◌≡◌, sym, ◌∙◌, ap, ap₂}
 use mathlib.Core.Bool.{not}
-use Prim.Native.Nat.{ℕ, ◌<◌}
+use Prim.Native.Nat.{ℕ}
 use native.Mathlib.Nat.{le_antisymm, zero-mod}
 use native.Mathlib.Omega.{arith}
 use lib.IntN.{ℤ, pos}
 use lib.ListN.{get_or}
 use Rattle.strided.specs.Base.{some_of}
 use Rattle.strided.specs.Layout.{in_i64}
-use Rattle.laws.specs.Base.Bits.{read_back}
+use Rattle.laws.specs.Base.Signs.{back}
 use Rattle.laws.specs.Refusals.Operands.{some_of_empty, some_of_step, some_of_found}
 use Rattle.window.specs.Window.{stepped_stride, stride_over, window_strides}
-use Rattle.window.specs.Places.{window_length, axis_below, over-at, axis_next}
+use Rattle.window.specs.Places.{window_length, over-at, axis_next}
+use borrow.Author.Rules.{rules}
 use Rattle.window.proofs.strides.some_stride_over.Goals as goal
 
 pub loop-j-init : goal.loop-j-init
 loop-j-init c = (omega arith, some_of_empty _, sym (zero-mod c.args.rank))
-
-pub offset_bounds-counts-i : goal.offset_bounds-counts-i
-offset_bounds-counts-i c =
-    -- the axis of place j
-    let below : c.loop-j.i < c.args.rank = let a = c.args in
-    let l = c.loop-j in
-    axis_below a.counts.now a.steps.now a.strides.now a.rank a.operands c.requires l.j c.loop-j-test.true l.i l.invariant.2 in
-    omega (arith, below)
-
-pub bounds-counts-i : goal.bounds-counts-i
-bounds-counts-i c =
-    let below : c.loop-j.i < c.args.rank = let a = c.args in
-    let l = c.loop-j in
-    axis_below a.counts.now a.steps.now a.strides.now a.rank a.operands c.requires l.j c.loop-j-test.true l.i l.invariant.2 in
-    omega (arith, below)
-
-pub offset_bounds-steps-i : goal.offset_bounds-steps-i
-offset_bounds-steps-i c =
-    let below : c.loop-j.i < c.args.rank = let a = c.args in
-    let l = c.loop-j in
-    axis_below a.counts.now a.steps.now a.strides.now a.rank a.operands c.requires l.j c.loop-j-test.true l.i l.invariant.2 in
-    omega (arith, below)
-
-pub bounds-steps-i : goal.bounds-steps-i
-bounds-steps-i c =
-    let below : c.loop-j.i < c.args.rank = let a = c.args in
-    let l = c.loop-j in
-    axis_below a.counts.now a.steps.now a.strides.now a.rank a.operands c.requires l.j c.loop-j-test.true l.i l.invariant.2 in
-    omega (arith, below)
 
 pub returns-then-stride_over : goal.returns-then-stride_over
 returns-then-stride_over c =
@@ -57,18 +29,11 @@ returns-then-stride_over c =
     let u : ℤ = get_or a.strides.now j (pos 0) in
     over-at a.counts.now a.steps.now a.strides.now a.rank a.operands c.requires j c.loop-j-test.true i c.loop-j.invariant.2
     (c.stride_over.ensures
-    ∙ ap₂ (λ (x y : ℤ). not (in_i64 (stepped_stride n x y))) (read_back t c.stride_over-arg-1.given) (read_back u c.stride_over-arg-in-loop-j-1.given)) in
+    ∙ ap₂ (λ (x y : ℤ). not (in_i64 (stepped_stride n x y))) (back t (search rules)) (back u (search rules))) in
     let a = c.args in
     sym (some_of_found _ c.loop-j.j _
     (omega (arith, c.loop-j-test.true, window_length a.counts.now a.steps.now a.strides.now a.rank a.operands c.requires))
     (sym answer ∙ c.if-stride_over.true))
-
-pub axis_after-i-requires : goal.axis_after-i-requires
-axis_after-i-requires c =
-    let below : c.loop-j.i < c.args.rank = let a = c.args in
-    let l = c.loop-j in
-    axis_below a.counts.now a.steps.now a.strides.now a.rank a.operands c.requires l.j c.loop-j-test.true l.i l.invariant.2 in
-    below
 
 pub loop-j-preserved : goal.loop-j-preserved
 loop-j-preserved c =
@@ -80,7 +45,7 @@ loop-j-preserved c =
     let u : ℤ = get_or a.strides.now j (pos 0) in
     over-at a.counts.now a.steps.now a.strides.now a.rank a.operands c.requires j c.loop-j-test.true i c.loop-j.invariant.2
     (c.stride_over.ensures
-    ∙ ap₂ (λ (x y : ℤ). not (in_i64 (stepped_stride n x y))) (read_back t c.stride_over-arg-1.given) (read_back u c.stride_over-arg-in-loop-j-1.given)) in
+    ∙ ap₂ (λ (x y : ℤ). not (in_i64 (stepped_stride n x y))) (back t (search rules)) (back u (search rules))) in
     let a = c.args in (
       omega (arith, c.loop-j-test.true),
       some_of_step _ c.loop-j.j c.loop-j.invariant.1 (sym answer ∙ c.if-stride_over.false),

@@ -10,12 +10,12 @@ use lib.Seq.{take-length}
 use mir.Syntax.{w64}
 use mir.Val.{to_z, of_z}
 use Rattle.strided.specs.Base.{padded}
-use Rattle.laws.specs.Base.Bits.{read_back}
 use Rattle.laws.specs.Base.Filling.{fill_none}
 use Rattle.laws.specs.Base.Stores.{fill_first}
 use Rattle.window.specs.Window.{stepped_stride, window_strides}
 use Rattle.window.specs.Places.{window_length, axis_below, window_at_lem, held_at, axis_next, few_places}
 use Rattle.laws.specs.Base.Signs.{back}
+use borrow.Author.Rules.{rules}
 use Rattle.window.proofs.strides.strides_into.Goals as goal
 
 pub loop-j-init : goal.loop-j-init
@@ -57,7 +57,7 @@ new_stride-requires c =
     let i = c.loop-j.i in
     let t : ℤ = get_or a.steps.now i (pos 0) in
     let u : ℤ = get_or a.strides.now j (pos 0) in
-    rw (read_back t c.new_stride-arg-1.given, read_back u c.new_stride-arg-in-loop-j-1.given)
+    rw (back t (search rules), back u (search rules))
     (held_at a.counts.now a.steps.now a.strides.now a.rank a.operands c.requires.counted j c.loop-j-test.true i c.loop-j.invariant.2 c.requires.operands_value)
 
 pub bounds-table-j : goal.bounds-table-j
@@ -84,7 +84,7 @@ loop-j-preserved c =
     let t : ℤ = get_or a.steps.now i (pos 0) in
     let u : ℤ = get_or a.strides.now j (pos 0) in
     back c.new_stride.result (record { sfits = c.new_stride.type_inv }) ∙ c.new_stride.ensures
-    ∙ ap₂ (stepped_stride n) (read_back t c.new_stride-arg-1.given) (read_back u c.new_stride-arg-in-loop-j-1.given)
+    ∙ ap₂ (stepped_stride n) (back t (search rules)) (back u (search rules))
     ∙ sym (window_at_lem a.counts.now a.steps.now a.strides.now a.rank a.operands c.requires.counted j c.loop-j-test.true i c.loop-j.invariant.2) in
     let a = c.args in
     let j = c.loop-j.j in

@@ -1,6 +1,6 @@
 -- The invariants of `strides::strides_into`.
 use mathlib.Core.Path.{◌≡◌}
-use Prim.Native.Nat.{◌≤◌, ◌-◌, ◌%◌}
+use Prim.Native.Nat.{◌≤◌, ◌%◌}
 use lib.IntN.{pos}
 use lib.ListN.{length, take}
 use Rattle.strided.specs.Base.{padded}
@@ -10,6 +10,3 @@ use Rattle.window.proofs.strides.strides_into.Given as goal
 abbrev pub invariant-loop-j : goal.invariant-loop-j
 invariant-loop-j l =
     (l.j ≤ length l.strides) × (l.table ≡ padded 512 (pos 0) (take l.j (window_strides l.counts l.steps l.strides l.rank l.operands))) × (l.i ≡ l.j % l.rank)
-
-abbrev pub decreases-loop-j : goal.decreases-loop-j
-decreases-loop-j l = length l.strides - l.j

@@ -5,4 +5,4 @@ use Rattle.writing.proofs.Putting.{wrote_then}
 use Rattle.writing.proofs.line.put_field.Goals as goal
 
 pub returns : goal.returns
-returns c = wrote_then c.put_byte-next.ensures c.put_u64.ensures (omega arith)
+returns g c = wrote_then c.put_byte-next.ensures c.put.ensures (omega arith)

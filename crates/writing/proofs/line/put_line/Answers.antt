@@ -7,29 +7,11 @@ use Rattle.writing.proofs.Lines.{line_parts, line_length}
 use Rattle.writing.proofs.Putting.{wrote_then, wrote_is}
 use Rattle.writing.proofs.line.put_line.Goals as goal
 
-pub put_numbers-b-requires : goal.put_numbers-b-requires
-put_numbers-b-requires c =
-    let a = c.args in
-    let l = line_length a.letter a.numbers.now a.signed.now in
-    omega arith
-
-pub put_signed-c-requires : goal.put_signed-c-requires
-put_signed-c-requires c =
-    let a = c.args in
-    let l = line_length a.letter a.numbers.now a.signed.now in
-    omega arith
-
-pub put_byte-requires : goal.put_byte-requires
-put_byte-requires c =
-    let a = c.args in
-    let l = line_length a.letter a.numbers.now a.signed.now in
-    omega arith
-
 pub returns : goal.returns
 returns c =
     let a = c.args in
     let l = line_length a.letter a.numbers.now a.signed.now in
-    let behind = wrote_then c.put_signed-c.ensures c.put_byte.ensures (omega arith) in
+    let behind = wrote_then c.put_fields-c.ensures c.put_byte.ensures (omega arith) in
     wrote_is
-    (wrote_then c.put_byte-a.ensures (wrote_then c.put_numbers-b.ensures behind (omega arith)) (omega arith))
+    (wrote_then c.put_byte-a.ensures (wrote_then c.put_fields-b.ensures behind (omega arith)) (omega arith))
     (sym (line_parts a.letter a.numbers.now a.signed.now))

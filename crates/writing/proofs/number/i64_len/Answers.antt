@@ -6,24 +6,13 @@ use Prim.Native.Nat.{◌+◌}
 use lib.ListN.{length}
 use Rattle.strided.specs.Digits.{signed_of}
 use Rattle.laws.specs.Text.Lengths.{signed-most}
-use Rattle.writing.proofs.Sign.{signed-neg, signed_pos}
+use Rattle.writing.proofs.Sign.{signed-neg}
 use Rattle.writing.proofs.number.i64_len.Goals as goal
 
 pub overflow_add-result : goal.overflow_add-result
 overflow_add-result c =
     -- below 0 there is the sign besides
-    let below : length (signed_of c.args.z) ≡ c.u64_len-k.result + 1 = let e = ap length (signed-neg c.args.z c.ranges.z c.magnitude.ensures c.if-z-lt0.true) in
+    let below : length (signed_of c.args.z) ≡ c.u64_len-k.result + 1 = let e = ap length (signed-neg c.args.z c.ranges.z c.unsigned_abs.ensures.value c.if-z-lt0.true) in
     omega arith in
     let z = c.args.z in
     omega (arith, below, signed-most z c.ranges.z.sfits)
-
-pub returns-then-z-lt0 : goal.returns-then-z-lt0
-returns-then-z-lt0 c =
-    let below : length (signed_of c.args.z) ≡ c.u64_len-k.result + 1 = let e = ap length (signed-neg c.args.z c.ranges.z c.magnitude.ensures c.if-z-lt0.true) in
-    omega arith in
-    omega (arith, below)
-
-pub returns-else-z-lt0 : goal.returns-else-z-lt0
-returns-else-z-lt0 c =
-    let e = ap length (signed_pos c.args.z c.ranges.z c.magnitude.ensures c.if-z-lt0.false) in
-    omega arith

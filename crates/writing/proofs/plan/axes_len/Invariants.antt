@@ -11,6 +11,3 @@ abbrev pub invariant-loop-i : goal.invariant-loop-i
 invariant-loop-i l =
     (l.k + length (over (run l.i (l.rank - l.i)) (axis_at l.operands l.e l.b l.s)) ≡ length (over (run 0 l.rank) (axis_at l.operands l.e l.b l.s)))
     × (l.k ≤ longest * l.i) × (l.i ≤ l.rank)
-
-abbrev pub decreases-loop-i : goal.decreases-loop-i
-decreases-loop-i l = l.rank - l.i

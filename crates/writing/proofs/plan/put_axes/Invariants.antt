@@ -7,6 +7,3 @@ use Rattle.writing.proofs.plan.put_axes.Given as goal
 
 abbrev pub invariant-loop-i : goal.invariant-loop-i
 invariant-loop-i l = Doing l.initial.out l.at (over (run 0 l.rank) (axis_at l.operands l.e l.b l.s)) l.out l.next (over (run l.i (l.rank - l.i)) (axis_at l.operands l.e l.b l.s))
-
-abbrev pub decreases-loop-i : goal.decreases-loop-i
-decreases-loop-i l = l.rank - l.i

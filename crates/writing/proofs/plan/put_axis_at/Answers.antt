@@ -5,13 +5,9 @@ use mathlib.Core.Path.{◌≡◌, ap}
 use lib.ListN.{length, get_or, take}
 use Rattle.strided.specs.Text.{axis_line}
 use Rattle.writing.specs.Plan.{axis_at}
-use Rattle.writing.proofs.Axes.{column_lent, axis_lent}
+use Rattle.writing.proofs.Axes.{axis_lent}
 use Rattle.writing.proofs.Putting.{wrote_is}
 use Rattle.writing.proofs.plan.put_axis_at.Goals as goal
-
-pub slice_bounds-put_axis-end : goal.slice_bounds-put_axis-end
-slice_bounds-put_axis-end c =
-    column_lent c.args.axis c.args.s.now c.args.operands c.column-strides.ensures c.requires.axis_bound.1
 
 pub put_axis-requires : goal.put_axis-requires
 put_axis-requires c =

@@ -3,14 +3,13 @@
 use native.Mathlib.Omega.{arith}
 use mathlib.Core.Path.{◌≡◌, sym, ◌∙◌}
 use mathlib.Core.Bool.{true, false}
-use Prim.Native.Nat.{◌-◌}
 use Rattle.strided.specs.Begin.{plan_extents}
 use Rattle.strided.specs.Layout.{has_zero}
 use Rattle.strided.specs.declared.Plan.{Plan}
 use Rattle.strided.specs.Memory.{plan_of}
 use Rattle.walker.proofs.Walked.{may_move}
 use Rattle.writing.specs.Plan.{rest_from}
-use Rattle.writing.proofs.Putting.{Doing, doing_start, wrote_length}
+use Rattle.writing.proofs.Putting.{Doing, doing_start}
 use Rattle.writing.proofs.Walks.{Walks, printable_ready, no_lines, first_taken, widths_some, walks_start, walks_while, walks_asks, walks_fit, walks_room, walks_put, walks_next, walks_number_fits, walks_cells-fit, walks_less, walks_end, end_room, end_put}
 use Rattle.writing.proofs.plan.put_walk.Goals as goal
 
@@ -25,13 +24,6 @@ put_end-requires c =
     let none : true ≡ has_zero (plan_extents plan) = sym c.if-no_block.true ∙ c.no_block.ensures in
     let begins : Doing c.args.out.now c.args.at (rest_from plan 0) c.args.out.now c.args.at (rest_from plan 0) = doing_start c.args.out.now c.args.at (rest_from plan 0) c.requires.s_in_bounds in
     end_room plan 0 0 (no_lines c.requires.printable none) begins
-
-pub shape_of-out-then-no_block : goal.shape_of-out-then-no_block
-shape_of-out-then-no_block c =
-    let plan : Plan = let a = c.args in plan_of a.rank a.operands a.e.now a.b.now a.s.now in
-    let none : true ≡ has_zero (plan_extents plan) = sym c.if-no_block.true ∙ c.no_block.ensures in
-    let begins : Doing c.args.out.now c.args.at (rest_from plan 0) c.args.out.now c.args.at (rest_from plan 0) = doing_start c.args.out.now c.args.at (rest_from plan 0) c.requires.s_in_bounds in
-    wrote_length (end_put plan 0 0 (no_lines c.requires.printable none) begins c.put_end.ensures) c.requires.s_in_bounds
 
 pub returns-then-no_block : goal.returns-then-no_block
 returns-then-no_block c =
@@ -118,13 +110,6 @@ put_end-requires-2 c =
     let ended : Walks plan c.way_of-y.result c.widths-w.result c.loop-more.number c.loop-more.cells false c.loop-more.t c.loop-more.c c.loop-more.o = walks_while c.loop-more.invariant.0 c.loop-more-test.false in
     let l = c.loop-more in
     end_room _ l.number l.cells (walks_end ended) l.invariant.1
-
-pub shape_of-out : goal.shape_of-out
-shape_of-out c =
-    let plan : Plan = let a = c.args in plan_of a.rank a.operands a.e.now a.b.now a.s.now in
-    let ended : Walks plan c.way_of-y.result c.widths-w.result c.loop-more.number c.loop-more.cells false c.loop-more.t c.loop-more.c c.loop-more.o = walks_while c.loop-more.invariant.0 c.loop-more-test.false in
-    let l = c.loop-more in
-    wrote_length (end_put _ l.number l.cells (walks_end ended) l.invariant.1 c.put_end-2.ensures) c.requires.s_in_bounds
 
 pub returns : goal.returns
 returns c =

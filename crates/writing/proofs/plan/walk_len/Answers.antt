@@ -4,7 +4,6 @@
 use native.Mathlib.Omega.{arith}
 use mathlib.Core.Path.{◌≡◌, refl, sym, ◌∙◌}
 use mathlib.Core.Bool.{true, false}
-use Prim.Native.Nat.{◌-◌}
 use Rattle.strided.specs.Begin.{plan_extents}
 use Rattle.strided.specs.Layout.{has_zero}
 use Rattle.strided.specs.declared.Plan.{Plan}
@@ -15,9 +14,6 @@ use Rattle.writing.proofs.plan.walk_len.Goals as goal
 
 pub no_block-requires : goal.no_block-requires
 no_block-requires c = let r = printable_ready c.requires.printable in omega arith
-
-pub end_within-requires : goal.end_within-requires
-end_within-requires c = c.requires.used_le_limit
 
 pub returns-then-no_block : goal.returns-then-no_block
 returns-then-no_block c =
@@ -64,11 +60,12 @@ stretch_len-requires c =
     let runs : Walks plan c.way_of-y.result c.widths-w.result c.loop-more.blocks c.loop-more.cells true c.loop-more.t c.loop-more.c c.loop-more.o = walks_while c.loop-more.invariant.0 c.loop-more-test.true in
     record { rows_fit = walks_fit runs c.take_stretch-x.ensures c.moves_of-d.ensures; count_bound = (walks_number_fits runs c.take_stretch-x.ensures c.moves_of-d.ensures, c.loop-more.invariant.2) }
 
-pub returns-in_default : goal.returns-in_default
-returns-in_default c =
+pub returns-in_err-total : goal.returns-in_err-total
+returns-in_err-total c =
     let plan : Plan = let a = c.args in plan_of a.rank a.operands a.e.now a.b.now a.s.now in
     let runs : Walks plan c.way_of-y.result c.widths-w.result c.loop-more.blocks c.loop-more.cells true c.loop-more.t c.loop-more.c c.loop-more.o = walks_while c.loop-more.invariant.0 c.loop-more-test.true in
-    walks_over runs c.take_stretch-x.ensures c.moves_of-d.ensures c.loop-more.total c.args.limit c.loop-more.invariant.1 c.stretch_len.ensures c.in_default.is
+    rw c.from_residual.ensures
+    (walks_over runs c.take_stretch-x.ensures c.moves_of-d.ensures c.loop-more.total c.args.limit c.loop-more.invariant.1 c.stretch_len.ensures c.in_err-total.was)
 
 pub overflow_add-blocks : goal.overflow_add-blocks
 overflow_add-blocks c =
@@ -99,11 +96,8 @@ pub loop-more-preserved : goal.loop-more-preserved
 loop-more-preserved c =
     let plan : Plan = let a = c.args in plan_of a.rank a.operands a.e.now a.b.now a.s.now in
     let runs : Walks plan c.way_of-y.result c.widths-w.result c.loop-more.blocks c.loop-more.cells true c.loop-more.t c.loop-more.c c.loop-more.o = walks_while c.loop-more.invariant.0 c.loop-more-test.true in
-    let k = walks_within runs c.take_stretch-x.ensures c.moves_of-d.ensures c.loop-more.total c.args.limit c.loop-more.invariant.1 c.stretch_len.ensures _ c.in-Fits.is in
+    let k = walks_within runs c.take_stretch-x.ensures c.moves_of-d.ensures c.loop-more.total c.args.limit c.loop-more.invariant.1 c.stretch_len.ensures _ c.in_ok-total.was in
     (walks_next runs c.take_stretch-x.ensures c.moves_of-d.ensures, k.0, k.1)
-
-pub end_within-requires-2 : goal.end_within-requires-2
-end_within-requires-2 c = c.loop-more.invariant.2
 
 pub returns : goal.returns
 returns c =

@@ -1,5 +1,4 @@
 -- The invariants of `stretch::put_stretch`.
-use Prim.Native.Nat.{◌-◌}
 use Rattle.writing.proofs.Laid.{lines_at, Before}
 use Rattle.writing.proofs.Putting.{Doing}
 use Rattle.writing.proofs.stretch.put_stretch.Given as goal
@@ -7,6 +6,3 @@ use Rattle.writing.proofs.stretch.put_stretch.Given as goal
 abbrev pub invariant-loop-j : goal.invariant-loop-j
 invariant-loop-j l =
     Before l.count l.operands l.d l.initial.o l.j l.o × Doing l.initial.out l.at (lines_at l.count l.size l.number l.operands l.d l.initial.o 0) l.out l.next (lines_at l.count l.size l.number l.operands l.d l.initial.o l.j)
-
-abbrev pub decreases-loop-j : goal.decreases-loop-j
-decreases-loop-j l = l.count - l.j
