@@ -2,7 +2,7 @@
 use Prim.Native.Nat.{◌≤◌, ◌<◌, ◌-◌, ◌^◌}
 use native.Mathlib.Omega.{arith}
 use Rattle.states.proofs.Ways.{placed_part, low_fits, low_le, high_fits, too_low, high_test}
-use borrow.Author.Rules.{sfits_of}
+use Rattle.std.proofs.Common.{rules}
 use mir.Facts.{to_z-of_z}
 use Rattle.states.proofs.starts.leaves_at.Goals as goal
 use mir.Syntax.{w64}
@@ -26,8 +26,8 @@ room_above-requires c =
 
 pub returns-then-room_below : goal.returns-then-room_below
 returns-then-room_below c =
-    high_test _ _ _ _ _ c.requires _ c.span_of-span.ensures.1 _ c.span_of-span.ensures.0 _ (to_z-of_z {w = w64} (sfits_of c.o-1.given)) c.room_below.ensures c.if-room_below.true c.room_above.ensures
+    high_test _ _ _ _ _ c.requires _ c.span_of-span.ensures.1 _ c.span_of-span.ensures.0 _ (to_z-of_z {w = w64} (search rules)) c.room_below.ensures c.if-room_below.true c.room_above.ensures
 
 pub returns : goal.returns
 returns c =
-    too_low _ _ _ _ _ c.requires _ c.span_of-span.ensures.1 _ c.span_of-span.ensures.0 _ (to_z-of_z {w = w64} (sfits_of c.o-1.given)) c.room_below.ensures c.if-room_below.false
+    too_low _ _ _ _ _ c.requires _ c.span_of-span.ensures.1 _ c.span_of-span.ensures.0 _ (to_z-of_z {w = w64} (search rules)) c.room_below.ensures c.if-room_below.false

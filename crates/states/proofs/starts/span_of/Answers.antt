@@ -9,6 +9,7 @@ use lib.IntN.{ℤ, nat_abs, pos}
 use lib.ListN.{get_or}
 use mathlib.Core.Path.{◌≡◌, sym, ap, subst, ◌∙◌}
 use Rattle.states.proofs.Ways.{counter_there, left_turn, left_fits, left_end, further_turn, further_fits, further_end, way, inside}
+use Rattle.std.proofs.Common.{rules}
 use Rattle.states.proofs.starts.span_of.Goals as goal
 
 pub loop-i-init : goal.loop-i-init
@@ -21,7 +22,7 @@ way_along-way-requires c =
     let p = c.requires in
     let t = c.loop-i-test.true in (
       omega (arith, inside _ _ _ p i t),
-      subst (λ (z : ℤ). (get_or a.extents.now i 0 - 1) * nat_abs z < 2 ^ 63) (sym (elem_read a.strides.now i c.way_along-arg-1.given)) (way _ _ _ p i t),
+      subst (λ (z : ℤ). (get_or a.extents.now i 0 - 1) * nat_abs z < 2 ^ 63) (sym (elem_read a.strides.now i (search rules))) (way _ _ _ p i t),
     )
 
 pub bounds-counters-i : goal.bounds-counters-i
@@ -34,29 +35,29 @@ below_along-term-requires c =
     let i = c.loop-i.i in
     let p = c.requires in
     let t = c.loop-i-test.true in
-    (inside _ _ _ p i t, subst (λ (z : ℤ). (get_or a.extents.now i 0 - 1) * nat_abs z < 2 ^ 63) (sym (elem_read a.strides.now i c.below_along-arg-1.given)) (way _ _ _ p i t))
+    (inside _ _ _ p i t, subst (λ (z : ℤ). (get_or a.extents.now i 0 - 1) * nat_abs z < 2 ^ 63) (sym (elem_read a.strides.now i (search rules))) (way _ _ _ p i t))
 
 pub overflow_add-reach : goal.overflow_add-reach
 overflow_add-reach c =
     -- what a turn adds
     let way-here : let a = c.args in c.way_along-way.result ≡ (get_or a.extents.now c.loop-i.i 0 - 1) * nat_abs (get_or a.strides.now c.loop-i.i (pos 0)) = let a = c.args in
-    c.way_along-way.ensures ∙ ap (λ (z : ℤ). (get_or a.extents.now c.loop-i.i 0 - 1) * nat_abs z) (elem_read a.strides.now c.loop-i.i c.way_along-arg-1.given) in
+    c.way_along-way.ensures ∙ ap (λ (z : ℤ). (get_or a.extents.now c.loop-i.i 0 - 1) * nat_abs z) (elem_read a.strides.now c.loop-i.i (search rules)) in
     let l = c.loop-i in
     record { fits = further_fits _ _ _ c.requires l.reach l.i _ c.loop-i-test.true l.invariant.1.0 way-here }
 
 pub overflow_add-below : goal.overflow_add-below
 overflow_add-below c =
     let below-here : let a = c.args in c.below_along-term.result ≡ below_term (get_or a.extents.now c.loop-i.i 0) (get_or a.counters.now c.loop-i.i 0) (get_or a.strides.now c.loop-i.i (pos 0)) = let a = c.args in
-    c.below_along-term.ensures ∙ ap (below_term (get_or a.extents.now c.loop-i.i 0) (get_or a.counters.now c.loop-i.i 0)) (elem_read a.strides.now c.loop-i.i c.below_along-arg-1.given) in
+    c.below_along-term.ensures ∙ ap (below_term (get_or a.extents.now c.loop-i.i 0) (get_or a.counters.now c.loop-i.i 0)) (elem_read a.strides.now c.loop-i.i (search rules)) in
     let l = c.loop-i in
     record { fits = left_fits _ _ _ c.requires l.below l.i _ c.loop-i-test.true l.invariant.1.1 below-here }
 
 pub loop-i-preserved : goal.loop-i-preserved
 loop-i-preserved c =
     let way-here : let a = c.args in c.way_along-way.result ≡ (get_or a.extents.now c.loop-i.i 0 - 1) * nat_abs (get_or a.strides.now c.loop-i.i (pos 0)) = let a = c.args in
-    c.way_along-way.ensures ∙ ap (λ (z : ℤ). (get_or a.extents.now c.loop-i.i 0 - 1) * nat_abs z) (elem_read a.strides.now c.loop-i.i c.way_along-arg-1.given) in
+    c.way_along-way.ensures ∙ ap (λ (z : ℤ). (get_or a.extents.now c.loop-i.i 0 - 1) * nat_abs z) (elem_read a.strides.now c.loop-i.i (search rules)) in
     let below-here : let a = c.args in c.below_along-term.result ≡ below_term (get_or a.extents.now c.loop-i.i 0) (get_or a.counters.now c.loop-i.i 0) (get_or a.strides.now c.loop-i.i (pos 0)) = let a = c.args in
-    c.below_along-term.ensures ∙ ap (below_term (get_or a.extents.now c.loop-i.i 0) (get_or a.counters.now c.loop-i.i 0)) (elem_read a.strides.now c.loop-i.i c.below_along-arg-1.given) in
+    c.below_along-term.ensures ∙ ap (below_term (get_or a.extents.now c.loop-i.i 0) (get_or a.counters.now c.loop-i.i 0)) (elem_read a.strides.now c.loop-i.i (search rules)) in
     let l = c.loop-i in
     let p = c.requires in
     let t = c.loop-i-test.true in
