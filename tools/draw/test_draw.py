@@ -237,7 +237,7 @@ class Layers(unittest.TestCase):
         self.assertEqual([label for label in labels if label in crates], crates)
 
     def test_what_is_refused(self):
-        for old, new, words in (("wide:\n", "wide: mark\n", "wide of the layer numbers of two words uses mark, which is below it"),
+        for old, new, words in (("laws: strided\n", "laws: strided mark\n", "laws of the layer definitions and laws uses mark, which is below it"),
                                 ("# plan\n", "# plans\n", "the layers are"), ("# definitions and laws\n", "", "strided is in no layer")):
             self.assertIn(old, self.listed)
             status, _, wrong = self.drawn(self.listed.replace(old, new))

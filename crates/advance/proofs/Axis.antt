@@ -12,6 +12,7 @@ use lib.Dec.{ltb}
 use borrow.Author.Tests.{ltb-true, lt-ltb, le-ltb, ne_eqb}
 use Rattle.advance.specs.declared.Goal.{Goal}
 use Rattle.advance.specs.Axis.{start_of, inside_goal, tile_goal, goal_of, ahead, back}
+use Rattle.strided.specs.declared.Plan.{Plan}
 use Rattle.advance.specs.Blocks.{length_of}
 
 -- of a choice by a test, what holds in both cases, where each may use what the test says
@@ -89,12 +90,12 @@ module _ (extent w at : ℕ) (pos : 0 < w) (h : at < extent) where
 
 -- ---- the length of a block
 
-module _ (rank : ℕ) (e w c : List ℕ) (nz : rank ≡ 0 → ⊥) where
-  pub length_cut : get_or w 0 0 < get_or e 0 0 - get_or c 0 0 → get_or w 0 0 ≡ length_of rank e w c
+module _ (p : Plan) (w c : List ℕ) (nz : p.rank ≡ 0 → ⊥) where
+  pub length_cut : get_or w 0 0 < get_or p.extents 0 0 - get_or c 0 0 → get_or w 0 0 ≡ length_of p w c
   unfolding length_of
   length_cut h = sym (simp (ne_eqb _ _ nz, lt-ltb _ _ h))
 
-  pub length-left : get_or e 0 0 - get_or c 0 0 ≤ get_or w 0 0 → get_or e 0 0 - get_or c 0 0 ≡ length_of rank e w c
+  pub length-left : get_or p.extents 0 0 - get_or c 0 0 ≤ get_or w 0 0 → get_or p.extents 0 0 - get_or c 0 0 ≡ length_of p w c
   unfolding length_of
   length-left h = sym (simp (ne_eqb _ _ nz, le-ltb _ _ h))
 

@@ -9,8 +9,10 @@ use lib.ListN.{length, get_or, set, length-set}
 use lib.Seq.{get_or-set_same, get_or-set_other}
 use mir.Syntax.{w64}
 use mir.Val.{SFits}
-use Rattle.advance.specs.Moves.{after_move, Shifts, shifted, moved_at}
-use Rattle.advance.specs.Carry.{dot_to, start_at, Below, Roomy}
+use Rattle.strided.specs.declared.Plan.{Plan}
+use Rattle.advance.specs.declared.State.{State}
+use Rattle.advance.specs.Moves.{after_move, Shifts, shifted, shifted_to, moved_at}
+use Rattle.advance.specs.Carry.{dot_to, start_at, Below, Roomy, state_of}
 use Rattle.advance.specs.Filled.{by_lt, filled_length, filled_at, filled_same}
 use Rattle.advance.proofs.Signed.{ahead, behind, neg-mul}
 
@@ -71,63 +73,64 @@ module _ (k i v : ℕ) (c : List ℕ) (s : List ℤ) where
 
 -- ---- a move within the extents
 
-module _ (rank operands : ℕ) (e : List ℕ) (s : List ℤ) (c : List ℕ) (o : List ℤ) (r : Roomy rank operands e s c o) (i v : ℕ) (axis : i < rank) (below : v < get_or e i 0) where
-  inside : i < length c
+module _ (p : Plan) (at : State) (r : Roomy p at) (i v : ℕ) (axis : i < p.rank) (below : v < get_or p.extents i 0) where
+  inside : i < length at.counters
   inside = subst (λ (n : ℕ). i < n) (sym r.counted) (omega (arith, r.axes))
 
-  moved-within : Below rank e (set c i v)
+  moved-within : Below p (set at.counters i v)
   moved-within j h =
       by_lt j i
       (λ lt. other (omega arith))
       (λ le. by_lt i j (λ lt. other (omega arith))
-      (λ ge. subst (λ (n : ℕ). get_or (set c i v) n 0 < get_or e n 0) (let g : i ≡ j = omega arith in g) (subst (λ (n : ℕ). n < get_or e i 0) (sym (get_or-set_same c i v 0 inside)) below)))
+      (λ ge. subst (λ (n : ℕ). get_or (set at.counters i v) n 0 < get_or p.extents n 0) (let g : i ≡ j = omega arith in g) (subst (λ (n : ℕ). n < get_or p.extents i 0) (sym (get_or-set_same at.counters i v 0 inside)) below)))
     where
-      other : (j ≡ i → ⊥) → get_or (set c i v) j 0 < get_or e j 0
-      other ne = subst (λ (n : ℕ). n < get_or e j 0) (sym (get_or-set_other c i j v 0 ne)) (r.within j h)
+      other : (j ≡ i → ⊥) → get_or (set at.counters i v) j 0 < get_or p.extents j 0
+      other ne = subst (λ (n : ℕ). n < get_or p.extents j 0) (sym (get_or-set_other at.counters i j v 0 ne)) (r.within j h)
 
   -- where each offset goes is what the plan reaches at the new counters
-  goes_to : (k : ℕ) → start_at rank k s c o +ℤ dot_to rank k (set c i v) s ≡ after_move (get_or o k (pos 0)) (get_or s (k * 64 + i) (pos 0)) (get_or c i 0) v
+  goes_to : (k : ℕ) → start_at p k at.counters at.offsets +ℤ dot_to p.rank k (set at.counters i v) p.strides ≡ after_move (get_or at.offsets k (pos 0)) (get_or p.strides (k * 64 + i) (pos 0)) (get_or at.counters i 0) v
   unfolding start_at after_move
-  goes_to k = ap (λ (z : ℤ). (get_or o k (pos 0) -ℤ dot_to rank k c s) +ℤ z) (dot-set k i v c s rank axis inside) ∙ back_on (get_or o k (pos 0)) (dot_to rank k c s) (S k i v c s)
+  goes_to k = ap (λ (z : ℤ). (get_or at.offsets k (pos 0) -ℤ dot_to p.rank k at.counters p.strides) +ℤ z) (dot-set k i v at.counters p.strides p.rank axis inside) ∙ back_on (get_or at.offsets k (pos 0)) (dot_to p.rank k at.counters p.strides) (S k i v at.counters p.strides)
 
-  pub roomy_shifts : Shifts operands i (get_or c i 0) v s o
+  pub roomy_shifts : Shifts p i (get_or at.counters i 0) v at.offsets
   roomy_shifts = record {
     few = r.few;
     inside = lt_of_lt_of_le axis r.axes;
     offered = r.offered;
     each = λ k h. record {
-      span = lt_of_le_of_lt (mul-le-mul_right (nat_abs (get_or s (k * 64 + i) (pos 0))) (let g : (v - get_or c i 0) + (get_or c i 0 - v) ≤ get_or e i 0 - 1 = omega (arith, r.within i axis) in g)) (r.span k i h axis);
-      lands = subst (SFits w64) (goes_to k) (r.reach k h (set c i v) moved-within);
+      span = lt_of_le_of_lt (mul-le-mul_right (nat_abs (get_or p.strides (k * 64 + i) (pos 0))) (let g : (v - get_or at.counters i 0) + (get_or at.counters i 0 - v) ≤ get_or p.extents i 0 - 1 = omega (arith, r.within i axis) in g)) (r.span k i h axis);
+      lands = subst (SFits w64) (goes_to k) (r.reach k h (set at.counters i v) moved-within);
     };
   }
 
   abbrev o' : List ℤ
-  o' = shifted operands i (get_or c i 0) v s o
+  o' = shifted p i (get_or at.counters i 0) v at.offsets
 
-  pub start_stays : (k : ℕ) → k < operands → start_at rank k s (set c i v) o' ≡ start_at rank k s c o
+  pub start_stays : (k : ℕ) → k < p.operands → start_at p k (set at.counters i v) o' ≡ start_at p k at.counters at.offsets
   unfolding start_at after_move
   start_stays k h =
-      (λ j. filled_at o (moved_at i (get_or c i 0) v s o) (pos 0) operands k h (subst (λ (n : ℕ). operands ≤ n) (sym r.offered) r.few) j -ℤ dot-set k i v c s rank axis inside j)
-      ∙ cancel_both (get_or o k (pos 0)) (dot_to rank k c s) (S k i v c s)
+      (λ j. filled_at at.offsets (moved_at i (get_or at.counters i 0) v p.strides at.offsets) (pos 0) p.operands k h (subst (λ (n : ℕ). p.operands ≤ n) (sym r.offered) r.few) j -ℤ dot-set k i v at.counters p.strides p.rank axis inside j)
+      ∙ cancel_both (get_or at.offsets k (pos 0)) (dot_to p.rank k at.counters p.strides) (S k i v at.counters p.strides)
 
-  pub roomy_moved : Roomy rank operands e s (set c i v) o'
-  roomy_moved = record {
+  pub roomy_moved : (t : List ℕ) → Roomy p (state_of t (set at.counters i v) o')
+  roomy_moved t = record {
     axes = r.axes;
     few = r.few;
-    counted = length-set c i v ∙ r.counted;
-    offered = filled_length o (moved_at i (get_or c i 0) v s o) operands ∙ r.offered;
+    counted = length-set at.counters i v ∙ r.counted;
+    offered = filled_length at.offsets (moved_at i (get_or at.counters i 0) v p.strides at.offsets) p.operands ∙ r.offered;
     within = moved-within;
     span = r.span;
-    reach = λ k h x w. subst (λ (z : ℤ). SFits w64 (z +ℤ dot_to rank k x s)) (sym (start_stays k h)) (r.reach k h x w);
+    reach = λ k h x w. subst (λ (z : ℤ). SFits w64 (z +ℤ dot_to p.rank k x p.strides)) (sym (start_stays k h)) (r.reach k h x w);
   }
 
 -- the offsets are what the plan reaches at the counters
-pub roomy_offset : {rank operands : ℕ} {e : List ℕ} {s : List ℤ} {c : List ℕ} {o : List ℤ} → Roomy rank operands e s c o → (k : ℕ) → k < operands → SFits w64 (get_or o k (pos 0))
+pub roomy_offset : {p : Plan} {at : State} → Roomy p at → (k : ℕ) → k < p.operands → SFits w64 (get_or at.offsets k (pos 0))
 unfolding start_at
-roomy_offset {rank} {operands} {e} {s} {c} {o} r k h = subst (SFits w64) (-ℤ-+ℤ_cancel (get_or o k (pos 0)) (dot_to rank k c s)) (r.reach k h c r.within)
+roomy_offset {p} {at} r k h =
+    subst (SFits w64) (-ℤ-+ℤ_cancel (get_or at.offsets k (pos 0)) (dot_to p.rank k at.counters p.strides)) (r.reach k h at.counters r.within)
 
 -- a move to where the axis stands
-pub unmoved : (n axis at : ℕ) (s o : List ℤ) → n ≤ length o → o ≡ shifted n axis at at s o
+pub unmoved : (n axis at : ℕ) (s o : List ℤ) → n ≤ length o → o ≡ shifted_to n axis at at s o
 unfolding after_move
 unmoved n axis at s o l =
     sym (filled_same o (moved_at axis at at s o) (pos 0) n l
@@ -135,5 +138,8 @@ unmoved n axis at s o l =
     ap (λ (d : ℤ). get_or o k (pos 0) +ℤ d *ℤ get_or s (k * 64 + axis) (pos 0)) z
     ∙ ap (λ (d : ℤ). get_or o k (pos 0) +ℤ d) (zero-*ℤ (get_or s (k * 64 + axis) (pos 0))) ∙ +ℤ_idr (get_or o k (pos 0))))
 
-pub unmoved_at : (n axis from to : ℕ) (s o : List ℤ) → n ≤ length o → from ≡ to → o ≡ shifted n axis from to s o
-unmoved_at n axis from to s o l e = subst (λ (t : ℕ). o ≡ shifted n axis from t s o) e (unmoved n axis from s o l)
+pub unmoved_at : (n axis from to : ℕ) (s o : List ℤ) → n ≤ length o → from ≡ to → o ≡ shifted_to n axis from to s o
+unmoved_at n axis from to s o l e = subst (λ (t : ℕ). o ≡ shifted_to n axis from t s o) e (unmoved n axis from s o l)
+
+pub unmoved_plan : (p : Plan) (axis from to : ℕ) (o : List ℤ) → p.operands ≤ length o → from ≡ to → o ≡ shifted p axis from to o
+unmoved_plan p axis from to o l e = unmoved_at p.operands axis from to p.strides o l e

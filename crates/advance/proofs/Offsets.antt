@@ -9,6 +9,8 @@ use lib.IntN.{ℤ, pos, ◌+ℤ◌, ◌*ℤ◌, +ℤ_comm, +ℤ_assoc, -ℤ-+ℤ
 use lib.ListN.{length, get_or}
 use lib.Seq.{ext_get_or}
 use Rattle.strided.specs.Layout.{dot}
+use Rattle.strided.specs.declared.Plan.{Plan}
+use Rattle.advance.specs.declared.State.{State}
 use Rattle.advance.specs.Filled.{by_lt, filled_length, filled_above, filled_at}
 use Rattle.advance.specs.Carry.{Carried, dot_to, start_at, Roomy, MovedTo}
 use Rattle.advance.specs.Blocks.{offset_at, offsets_at}
@@ -53,18 +55,17 @@ dot_list n k c s u ts p q f g = to_total n k c s u ts f g ∙ dot-total n u ts p
 
 -- ---- the offsets that a move leaves are those at the counters that it leaves
 
-module _ {goes : Carried} {rank operands : ℕ} {e w : List ℕ} {s : List ℤ} {c : List ℕ} {o : List ℤ} {more : Bool} {t' c' : List ℕ} {o' : List ℤ}
-    (r : Roomy rank operands e s c o) (p : MovedTo goes rank operands e w s c o more t' c' o') where
-  offset_there : (k : ℕ) → k < operands → get_or o' k (pos 0) ≡ start_at rank k s c o +ℤ dot_to rank k c' s
+module _ {goes : Carried} {p : Plan} {w : List ℕ} {at : State} {more : Bool} {at' : State} (r : Roomy p at) (m : MovedTo goes p w at more at') where
+  offset_there : (k : ℕ) → k < p.operands → get_or at'.offsets k (pos 0) ≡ start_at p k at.counters at.offsets +ℤ dot_to p.rank k at'.counters p.strides
   unfolding start_at
-  offset_there k h = sym (-ℤ-+ℤ_cancel (get_or o' k (pos 0)) (dot_to rank k c' s)) ∙ ap (λ (z : ℤ). z +ℤ dot_to rank k c' s) (p.starts k h)
+  offset_there k h = sym (-ℤ-+ℤ_cancel (get_or at'.offsets k (pos 0)) (dot_to p.rank k at'.counters p.strides)) ∙ ap (λ (z : ℤ). z +ℤ dot_to p.rank k at'.counters p.strides) (m.starts k h)
 
-  offsets_there : o' ≡ offsets_at rank operands s c o c'
+  offsets_there : at'.offsets ≡ offsets_at p at.counters at.offsets at'.counters
   offsets_there =
-      ext_get_or (pos 0) o' (offsets_at rank operands s c o c') (p.roomy.offered ∙ sym (filled_length o (offset_at rank s c o c') operands ∙ r.offered))
-      (λ k _. by_lt k operands
-      (λ lt. offset_there k lt ∙ sym (filled_at o (offset_at rank s c o c') (pos 0) operands k lt (subst (λ (n : ℕ). operands ≤ n) (sym r.offered) r.few)))
-      (λ le. p.others k le ∙ sym (filled_above o (offset_at rank s c o c') (pos 0) operands k le)))
+      ext_get_or (pos 0) at'.offsets (offsets_at p at.counters at.offsets at'.counters) (m.roomy.offered ∙ sym (filled_length at.offsets (offset_at p at.counters at.offsets at'.counters) p.operands ∙ r.offered))
+      (λ k _. by_lt k p.operands
+      (λ lt. offset_there k lt ∙ sym (filled_at at.offsets (offset_at p at.counters at.offsets at'.counters) (pos 0) p.operands k lt (subst (λ (n : ℕ). p.operands ≤ n) (sym r.offered) r.few)))
+      (λ le. m.others k le ∙ sym (filled_above at.offsets (offset_at p at.counters at.offsets at'.counters) (pos 0) p.operands k le)))
 
-  pub moved_offsets : o' ≡ offsets_at rank operands s c o goes.counters
-  moved_offsets = offsets_there ∙ ap (offsets_at rank operands s c o) p.counters
+  pub moved_offsets : at'.offsets ≡ offsets_at p at.counters at.offsets goes.counters
+  moved_offsets = offsets_there ∙ ap (offsets_at p at.counters at.offsets) m.counters

@@ -29,23 +29,27 @@ use Rattle.laws.specs.Walk.Machine.{length_offsets}
 use Rattle.laws.specs.Walk.Offsets.{get_d_offsets}
 use Rattle.laws.specs.Walk.Steps.{Ready, wide, rows-many, as_many, cut-many, counters-many}
 use Rattle.advance.specs.Filled.{by_lt, filled_to, filled_length, filled_above, filled_at}
-use Rattle.advance.specs.Axis.{width_of, width_at, widths_to, start_of}
+use Rattle.advance.specs.Axis.{width_of, width_at, widths, start_of}
 use Rattle.advance.specs.Carry.{carry_of, next_of, dot_to, start_at}
-use Rattle.advance.specs.Blocks.{length_of, first_at, firsts_to, firsts_of, offset_at, offsets_at}
+use Rattle.advance.specs.Blocks.{length_of, stride_on, column_to, firsts_of, offset_at, offsets_at}
 use Rattle.advance.proofs.Bridge.{from, from-take, axes_at, put, next_carry}
 use Rattle.advance.proofs.Offsets.{dot_list}
 use Rattle.advance.specs.Sized.{Sized}
 
 -- ---- the cut axes of a plan, out of its arrays
 
-axes-few : (rank : ℕ) (e b ws : List ℕ) → leb rank 8 ≡ true → (n i : ℕ) → ((j : ℕ) → j < i + n → get_or ws j 0 ≡ width_at rank e b j)
+-- the block size in force on axis j, out of arrays
+abbrev pub width_in : ℕ → List ℕ → List ℕ → ℕ → ℕ
+width_in rank e b j = width_of rank j (get_or e j 0) (get_or b j 0)
+
+axes-few : (rank : ℕ) (e b ws : List ℕ) → leb rank 8 ≡ true → (n i : ℕ) → ((j : ℕ) → j < i + n → get_or ws j 0 ≡ width_in rank e b j)
     → axes_at e ws i n ≡ cut (from e i n) (from b i n)
 unfolding width_of
 axes-few rank e b ws h zero i f = refl
 axes-few rank e b ws h (suc n) i f =
     ap₂ (λ (w : ℕ) (r : List CutAxis). ax (get_or e i 0) w ∷ r) (f i (omega arith) ∙ rw h) (axes-few rank e b ws h n (suc i) (λ j l. f j (omega arith)))
 
-axes-rest : (rank : ℕ) (e b ws : List ℕ) → leb rank 8 ≡ false → (n i : ℕ) → 0 < i → ((j : ℕ) → j < i + n → get_or ws j 0 ≡ width_at rank e b j)
+axes-rest : (rank : ℕ) (e b ws : List ℕ) → leb rank 8 ≡ false → (n i : ℕ) → 0 < i → ((j : ℕ) → j < i + n → get_or ws j 0 ≡ width_in rank e b j)
     → axes_at e ws i n ≡ cut (from e i n) []
 unfolding width_of
 axes-rest rank e b ws h zero i p f = refl
@@ -56,14 +60,14 @@ axes-rest rank e b ws h (suc n) i p f =
     bad : (i : ℕ) → 0 < i → i ≡ 0 → ⊥
     bad i p z = omega arith
 
-axes-many : (rank : ℕ) (e b ws : List ℕ) → leb rank 8 ≡ false → ((j : ℕ) → j < rank → get_or ws j 0 ≡ width_at rank e b j)
+axes-many : (rank : ℕ) (e b ws : List ℕ) → leb rank 8 ≡ false → ((j : ℕ) → j < rank → get_or ws j 0 ≡ width_in rank e b j)
     → axes_at e ws 0 rank ≡ cut (from e 0 rank) (take 1 (from b 0 rank))
 unfolding width_of
 axes-many zero e b ws h f = refl
 axes-many (suc n) e b ws h f =
     ap₂ (λ (w : ℕ) (r : List CutAxis). ax (get_or e 0 0) w ∷ r) (f 0 (omega arith) ∙ rw h) (axes-rest (suc n) e b ws h n 1 (omega arith) (λ j l. f j (omega arith)))
 
-pub axes_are : (rank : ℕ) (e b ws : List ℕ) → rank ≤ length e → rank ≤ length b → ((j : ℕ) → j < rank → get_or ws j 0 ≡ width_at rank e b j)
+pub axes_are : (rank : ℕ) (e b ws : List ℕ) → rank ≤ length e → rank ≤ length b → ((j : ℕ) → j < rank → get_or ws j 0 ≡ width_in rank e b j)
     → axes_at e ws 0 rank ≡ cut_axes (take rank e) (take rank b)
 axes_are rank e b ws he hb f = go (leb rank 8) refl
   where
@@ -88,11 +92,11 @@ next_any zero e ws (x ∷ c) lc h wd i o ly = absurd (omega arith)
 next_any (suc n) e ws [] lc h wd i o ly = absurd (omega arith)
 next_any (suc n) e ws (s ∷ v) lc h wd i o ly = next_carry n 63 e ws s v (omega arith) (omega arith) wd i o ly
 
-length_any : (rank : ℕ) (e ws c : List ℕ) → length c ≡ rank → length_of rank e ws (padded 64 0 c) ≡ length_at (axes_at e ws 0 rank) c
+length_any : (p : Plan) (ws c : List ℕ) (n : ℕ) → p.rank ≡ n → length c ≡ n → length_of p ws (padded 64 0 c) ≡ length_at (axes_at p.extents ws 0 n) c
 unfolding length_of
-length_any zero e ws c lc = refl
-length_any (suc n) e ws [] lc = absurd (omega arith)
-length_any (suc n) e ws (s ∷ v) lc = rw (ne_eqb (suc n) 0 (λ q. bad n q)) (go (ltb w (get_or e 0 0 - s)) refl)
+length_any p ws c zero q lc = rw (eq-eqb p.rank 0 q)
+length_any p ws [] (suc n) q lc = absurd (omega arith)
+length_any p ws (s ∷ v) (suc n) q lc = rw (ne_eqb p.rank 0 (λ z. bad n (sym q ∙ z))) (go (ltb w (get_or p.extents 0 0 - s)) refl)
   where
     w : ℕ
     w = get_or ws 0 0
@@ -100,9 +104,9 @@ length_any (suc n) e ws (s ∷ v) lc = rw (ne_eqb (suc n) 0 (λ q. bad n q)) (go
     bad : (n : ℕ) → suc n ≡ 0 → ⊥
     bad n q = omega arith
 
-    go : (x : Bool) → ltb w (get_or e 0 0 - s) ≡ x → cond x w (get_or e 0 0 - s) ≡ min w (get_or e 0 0 - s)
-    go true q = omega (arith, ltb-true w (get_or e 0 0 - s) q)
-    go false q = omega (arith, ltb-false w (get_or e 0 0 - s) q)
+    go : (x : Bool) → ltb w (get_or p.extents 0 0 - s) ≡ x → cond x w (get_or p.extents 0 0 - s) ≡ min w (get_or p.extents 0 0 - s)
+    go true q = omega (arith, ltb-true w (get_or p.extents 0 0 - s) q)
+    go false q = omega (arith, ltb-false w (get_or p.extents 0 0 - s) q)
 
 -- axis 0 stands where a tile starts
 start_any : (rank : ℕ) (e ws c : List ℕ) → length c ≡ rank → OnStart (axes_at e ws 0 rank) c → 0 < rank → get_or (padded 64 0 c) 0 0 ≡ start_of (get_or ws 0 0) (get_or (padded 64 0 c) 0 0)
@@ -127,7 +131,7 @@ none_zero (suc n) (suc i) = none_zero n i
 module _ (p : Plan) (zs : List ℤ) (r : Ready p zs) (z : Sized p) where
   -- the block sizes in force
   abbrev pub W : List ℕ
-  W = widths_to p.rank p.extents p.blocks p.rank
+  W = widths p
 
   -- the counters and the offsets of a walk at c, as its arrays hold them
   abbrev pub C : List ℕ → List ℕ
@@ -136,10 +140,10 @@ module _ (p : Plan) (zs : List ℤ) (r : Ready p zs) (z : Sized p) where
   abbrev pub O : List ℕ → List ℤ
   O c = padded 8 (pos 0) (offsets_from (plan_rows p) zs c)
 
-  pub width_at_lem : (i : ℕ) → i < p.rank → get_or W i 0 ≡ width_at p.rank p.extents p.blocks i
+  pub width_at_lem : (i : ℕ) → i < p.rank → get_or W i 0 ≡ width_at p i
   width_at_lem i h =
       let a : p.rank ≤ 64 = r.axes in
-      filled_at (replicate 64 0) (width_at p.rank p.extents p.blocks) 0 p.rank i h (subst (λ (n : ℕ). p.rank ≤ n) (sym (length-replicate {A = ℕ} 64 0)) a)
+      filled_at (replicate 64 0) (width_at p) 0 p.rank i h (subst (λ (n : ℕ). p.rank ≤ n) (sym (length-replicate {A = ℕ} 64 0)) a)
 
   pub axes : axes_at p.extents W 0 p.rank ≡ plan_cut_axes p
   axes =
@@ -180,18 +184,18 @@ module _ (p : Plan) (zs : List ℤ) (r : Ready p zs) (z : Sized p) where
       get_d_padded (pos 0) 8 (offsets_from (plan_rows p) zs u) j b ∙ get_or-eq_default (offsets_from (plan_rows p) zs u) (pos 0) l
 
   start_sum : (c d : List ℕ) → length c ≡ p.rank → length d ≡ p.rank → (j : ℕ) → j < p.operands
-      → offset_at p.rank p.strides (C c) (O c) (C d) j ≡ get_or zs j (pos 0) +ℤ dot d (plan_row p j)
+      → offset_at p (C c) (O c) (C d) j ≡ get_or zs j (pos 0) +ℤ dot d (plan_row p j)
   unfolding start_at
   start_sum c d lc ld j g =
       ap₂ (λ (a b : ℤ). a +ℤ b) (ap₂ (λ (a b : ℤ). a -ℤ b) (offset_at_lem c j g) (dot_is j c g lc)) (dot_is j d g ld)
       ∙ add-sub (get_or zs j (pos 0)) (dot c (plan_row p j)) (dot d (plan_row p j))
 
   -- the offsets at counters d, told from those at counters c
-  pub offsets_are : (c d : List ℕ) → length c ≡ p.rank → length d ≡ p.rank → offsets_at p.rank p.operands p.strides (C c) (O c) (C d) ≡ O d
+  pub offsets_are : (c d : List ℕ) → length c ≡ p.rank → length d ≡ p.rank → offsets_at p (C c) (O c) (C d) ≡ O d
   offsets_are c d lc ld = ext_get_or (pos 0) left (O d) (len ∙ sym (length-padded (pos 0) 8 (offsets_from (plan_rows p) zs d))) (λ j h. by_lt j p.operands (inner j) (outer j (omega (arith, len, h))))
     where
       f : ℕ → ℤ
-      f = offset_at p.rank p.strides (C c) (O c) (C d)
+      f = offset_at p (C c) (O c) (C d)
 
       left : List ℤ
       left = filled_to (O c) f p.operands
@@ -211,7 +215,7 @@ module _ (p : Plan) (zs : List ℤ) (r : Ready p zs) (z : Sized p) where
       outer j h g = filled_above (O c) f (pos 0) p.operands j g ∙ offset_behind c j h g ∙ sym (offset_behind d j h g)
 
   -- the strides of axis 0
-  pub firsts_are : firsts_of p.rank p.operands p.strides ≡ padded 8 (pos 0) (run_strides (plan_cut_axes p) (plan_rows p))
+  pub firsts_are : firsts_of p ≡ padded 8 (pos 0) (run_strides (plan_cut_axes p) (plan_rows p))
   unfolding firsts_of
   firsts_are = go (plan_cut_axes p) (cut-many p zs r)
     where
@@ -221,35 +225,33 @@ module _ (p : Plan) (zs : List ℤ) (r : Ready p zs) (z : Sized p) where
       eight : length {A = ℤ} (replicate 8 (pos 0)) ≡ 8
       eight = length-replicate {A = ℤ} 8 (pos 0)
 
-      len : length (firsts_to p.operands p.strides) ≡ 8
-      len = filled_length (replicate 8 (pos 0)) (first_at p.strides) p.operands ∙ eight
+      len : length (column_to 0 p.strides p.operands) ≡ 8
+      len = filled_length (replicate 8 (pos 0)) (stride_on 0 p.strides) p.operands ∙ eight
 
-      inner : 0 < p.rank → (j : ℕ) → j < 8 → j < p.operands → get_or (firsts_to p.operands p.strides) j (pos 0) ≡ get_or right j (pos 0)
+      inner : 0 < p.rank → (j : ℕ) → j < 8 → j < p.operands → get_or (column_to 0 p.strides p.operands) j (pos 0) ≡ get_or right j (pos 0)
       inner h j b g =
-          let y : j * 64 + 0 ≡ j * 64 = omega arith in
           let a : p.operands ≤ 8 = r.few in
-          filled_at (replicate 8 (pos 0)) (first_at p.strides) (pos 0) p.operands j g (omega (arith, eight, a))
-          ∙ ap (λ (k : ℕ). get_or p.strides k (pos 0)) (sym y)
+          filled_at (replicate 8 (pos 0)) (stride_on 0 p.strides) (pos 0) p.operands j g (omega (arith, eight, a))
           ∙ sym (stride_at j 0 h)
           ∙ sym (first-at (plan_row p j))
           ∙ ap first_of (sym (row-at j g))
           ∙ sym (get_or-map first_of (plan_rows p) j [])
           ∙ sym (get_d_padded (pos 0) 8 (map first_of (plan_rows p)) j b)
 
-      outer : (j : ℕ) → j < 8 → p.operands ≤ j → get_or (firsts_to p.operands p.strides) j (pos 0) ≡ get_or right j (pos 0)
+      outer : (j : ℕ) → j < 8 → p.operands ≤ j → get_or (column_to 0 p.strides p.operands) j (pos 0) ≡ get_or right j (pos 0)
       outer j b g =
           let l : length (plan_rows p) ≤ j = omega (arith, rows-many p zs r, g) in
-          filled_above (replicate 8 (pos 0)) (first_at p.strides) (pos 0) p.operands j g ∙ none_zero 8 j
+          filled_above (replicate 8 (pos 0)) (stride_on 0 p.strides) (pos 0) p.operands j g ∙ none_zero 8 j
           ∙ sym (ap first_of (get_or-eq_default (plan_rows p) [] l))
           ∙ sym (get_or-map first_of (plan_rows p) j [])
           ∙ sym (get_d_padded (pos 0) 8 (map first_of (plan_rows p)) j b)
 
       go : (axs : List CutAxis) → length axs ≡ p.rank
-          → cond (eqb p.rank 0) (replicate 8 (pos 0)) (firsts_to p.operands p.strides) ≡ padded 8 (pos 0) (run_strides axs (plan_rows p))
+          → cond (eqb p.rank 0) (replicate 8 (pos 0)) (column_to 0 p.strides p.operands) ≡ padded 8 (pos 0) (run_strides axs (plan_rows p))
       go [] l = rw (eq-eqb p.rank 0 (sym l))
       go (a ∷ axs) l =
           rw (ne_eqb p.rank 0 (λ q. bad (length axs) (l ∙ q)))
-          (ext_get_or (pos 0) (firsts_to p.operands p.strides) right (len ∙ sym (length-padded (pos 0) 8 (map first_of (plan_rows p))))
+          (ext_get_or (pos 0) (column_to 0 p.strides p.operands) right (len ∙ sym (length-padded (pos 0) 8 (map first_of (plan_rows p))))
           (λ j h. by_lt j p.operands (inner (subst (λ (k : ℕ). 0 < k) l (omega arith)) j (omega (arith, len, h))) (outer j (omega (arith, len, h)))))
         where
           bad : (k : ℕ) → suc k ≡ 0 → ⊥
@@ -270,8 +272,8 @@ module _ (p : Plan) (zs : List ℤ) (r : Ready p zs) (z : Sized p) where
     pub extent_at : (i : ℕ) → i < p.rank → get_or (plan_extents p) i 0 ≡ get_or p.extents i 0
     extent_at i h = get_or-take p.rank p.extents i 0 h
 
-    pub length_is : length_of p.rank p.extents W (C c) ≡ length_at (plan_cut_axes p) c
-    length_is = length_any p.rank p.extents W c long ∙ ap (λ (l : List CutAxis). length_at l c) axes
+    pub length_is : length_of p W (C c) ≡ length_at (plan_cut_axes p) c
+    length_is = length_any p W c p.rank refl long ∙ ap (λ (l : List CutAxis). length_at l c) axes
 
     pub long_next : (y : List ℕ) → next (plan_cut_axes p) c ≡ Some y → length y ≡ p.rank
     long_next y g = counters-many p zs r (suc n) (Some y) (after-suc (next (plan_cut_axes p)) n _ ∙ ap (and_then (next (plan_cut_axes p))) e ∙ g)

@@ -33,9 +33,10 @@ use Rattle.laws.specs.Walk.States.{state_after, Wide}
 use Rattle.laws.specs.Walk.Cuts.{length-zeros}
 use Rattle.laws.specs.Walk.Row9.{row9_exact}
 use Rattle.laws.specs.Walk.Steps.{Ready, none_of, at, wide, as_many, cut-many, offsets_zeros}
+use Rattle.advance.specs.declared.State.{State}
 use Rattle.advance.specs.Filled.{by_lt, filled_length, filled_at}
 use Rattle.advance.specs.Axis.{tile_at, starts_to}
-use Rattle.advance.specs.Carry.{Carried, next_of, dot_to, start_at, Below, Roomy, Tiled, AdvancedTo}
+use Rattle.advance.specs.Carry.{Carried, next_of, dot_to, start_at, state_of, Below, Roomy, Tiled, AdvancedTo}
 use Rattle.advance.specs.Blocks.{offsets_at}
 use Rattle.advance.proofs.Bridge.{from, axes_at, put}
 use Rattle.advance.proofs.Offsets.{dot_list, moved_offsets}
@@ -72,8 +73,8 @@ module _ (p : Plan) (zs : List ℤ) (r : Ready p zs) (z : Sized p) where
   pub widths_pos : (i : ℕ) → i < p.rank → 0 < get_or (W p zs r z) i 0
   widths_pos i h = wide_at p.extents (W p zs r z) p.rank 0 (subst Wide (sym (axes p zs r z)) (wide p zs r)) i (omega arith) (omega arith)
 
-  pub tiled : (c : List ℕ) → Tiled p.rank (W p zs r z) c (starts_to (W p zs r z) c p.rank)
-  tiled c =
+  pub tiled : (c : List ℕ) → (o : List ℤ) → Tiled p (W p zs r z) (state_of (starts_to (W p zs r z) c p.rank) c o)
+  tiled c o =
       let l : length {A = ℕ} (replicate 64 0) ≡ 64 = length-replicate {A = ℕ} 64 0 in
       let a : p.rank ≤ 64 = r.axes in
       record {
@@ -111,8 +112,8 @@ module _ (p : Plan) (zs : List ℤ) (r : Ready p zs) (z : Sized p) where
     none_leaves k l = each (λ j. leaves E (plan_row p j) (get_or zs j (pos 0))) rows.1.1.1.1.1.0 k l
 
     -- the offset at any index
-    fits : (k : ℕ) → k < p.operands → (x : List ℕ) → Below p.rank p.extents x
-        → SFits w64 (start_at p.rank k p.strides (C p zs r z c) (O p zs r z c) +ℤ dot_to p.rank k x p.strides)
+    fits : (k : ℕ) → k < p.operands → (x : List ℕ) → Below p x
+        → SFits w64 (start_at p k (C p zs r z c) (O p zs r z c) +ℤ dot_to p.rank k x p.strides)
     unfolding start_at
     fits k l x hx =
         let y : List ℕ = from x 0 p.rank in
@@ -130,8 +131,8 @@ module _ (p : Plan) (zs : List ℤ) (r : Ready p zs) (z : Sized p) where
         let q = (row9_exact E (plan_row p k) (get_or zs k (pos 0)) ll full).0 (none_leaves k l) y w in
         subst (SFits w64) (sym (ap₂ (λ (a b : ℤ). a +ℤ b) s d)) (record { sfits = ltb-true (mag (get_or zs k (pos 0) +ℤ dot y (plan_row p k))) (2 ^ 63) q })
 
-    pub roomy : Roomy p.rank p.operands p.extents p.strides (C p zs r z c) (O p zs r z c)
-    roomy =
+    pub roomy : (t : List ℕ) → Roomy p (state_of t (C p zs r z c) (O p zs r z c))
+    roomy t =
         record {
           axes = r.axes;
           few = r.few;
@@ -158,26 +159,26 @@ module _ (p : Plan) (zs : List ℤ) (r : Ready p zs) (z : Sized p) where
         record {
           ended = not k.more;
           counters = k.counters;
-          offsets = offsets_at p.rank p.operands p.strides (C p zs r z c) (O p zs r z c) k.counters;
+          offsets = offsets_at p (C p zs r z c) (O p zs r z c) k.counters;
         }
 
     walk_put : (o : Option (List ℕ)) → ((d : List ℕ) → o ≡ Some d → length d ≡ p.rank) → packed (at p zs r o) ≡ walk_at (put 64 (zeros (plan_cut_axes p)) o)
     walk_put None h =
         let l : length (zeros (plan_cut_axes p)) ≡ p.rank = length-zeros (plan_cut_axes p) ∙ cut-many p zs r in
-        let q : padded 8 (pos 0) zs ≡ offsets_at p.rank p.operands p.strides (C p zs r z c) (O p zs r z c) (C p zs r z (zeros (plan_cut_axes p))) =
+        let q : padded 8 (pos 0) zs ≡ offsets_at p (C p zs r z c) (O p zs r z c) (C p zs r z (zeros (plan_cut_axes p))) =
         sym (offsets_are p zs r z c (zeros (plan_cut_axes p)) (long p zs r z n c e) l ∙ ap (padded 8 (pos 0)) (offsets_zeros (plan_cut_axes p) (plan_rows p) zs (as_many p zs r))) in
         λ i. record { ended = true; counters = padded 64 0 (zeros (plan_cut_axes p)); offsets = q i }
     walk_put (Some d) h =
-        let q : O p zs r z d ≡ offsets_at p.rank p.operands p.strides (C p zs r z c) (O p zs r z c) (C p zs r z d) =
+        let q : O p zs r z d ≡ offsets_at p (C p zs r z c) (O p zs r z c) (C p zs r z d) =
         sym (offsets_are p zs r z c d (long p zs r z n c e) (h d refl)) in
         λ i. record { ended = false; counters = padded 64 0 d; offsets = q i }
 
     -- THE MOVE: what it leaves is the machine's next state
-    pub advanced : {more : Bool} {t' c' : List ℕ} {o' : List ℤ}
-        → AdvancedTo p.rank p.operands p.extents (W p zs r z) p.strides (C p zs r z c) (O p zs r z c) more t' c' o'
-        → ◌≡◌ {A = Walk} (record { ended = not more; counters = c'; offsets = o' }) (packed (at p zs r (next (plan_cut_axes p) c)))
-    advanced {more} {t'} {c'} {o'} m =
-        let q : o' ≡ offsets_at p.rank p.operands p.strides (C p zs r z c) (O p zs r z c) (next_of p.rank p.extents (W p zs r z) (C p zs r z c)).counters = moved_offsets roomy m in
+    pub advanced : {t : List ℕ} {more : Bool} {at' : State}
+        → AdvancedTo p (W p zs r z) (state_of t (C p zs r z c) (O p zs r z c)) more at'
+        → ◌≡◌ {A = Walk} (record { ended = not more; counters = at'.counters; offsets = at'.offsets }) (packed (at p zs r (next (plan_cut_axes p) c)))
+    advanced {t} {more} {at'} m =
+        let q : at'.offsets ≡ offsets_at p (C p zs r z c) (O p zs r z c) (next_of p.rank p.extents (W p zs r z) (C p zs r z c)).counters = moved_offsets (roomy t) m in
         (λ i. record { ended = not (m.answer i); counters = m.counters i; offsets = q i })
         ∙ ap walk_at (next_is p zs r z n c e)
         ∙ sym (walk_put (next (plan_cut_axes p) c) (long_next p zs r z n c e))

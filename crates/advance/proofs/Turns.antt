@@ -10,108 +10,121 @@ use lib.IntN.{ℤ, pos}
 use lib.ListN.{length, get_or, set, length-set}
 use lib.Seq.{get_or-set_same, get_or-set_other, set-get_or}
 use borrow.Author.Tests.{le-ltb}
+use Rattle.strided.specs.declared.Plan.{Plan}
 use Rattle.advance.specs.declared.Goal.{Goal}
+use Rattle.advance.specs.declared.State.{State}
 use Rattle.advance.specs.Axis.{start_of, back, inside_goal, goal_of}
 use Rattle.advance.specs.Moves.{shifted, moved_at, Shifts}
-use Rattle.advance.specs.Carry.{Carried, carry_of, start_at, next_of, Roomy, Tiled, Single, CarriedTo, WentAhead, AdvancedTo}
+use Rattle.advance.specs.Carry.{Carried, carry_of, start_at, next_of, state_of, Roomy, Tiled, Single, CarriedTo, WentAhead, AdvancedTo}
 use Rattle.advance.specs.Filled.{by_lt, filled_above}
 use Rattle.advance.proofs.Axis.{start_one, Lands, goal_lands}
 use Rattle.advance.proofs.Dot.{roomy_shifts, roomy_moved, start_stays}
 
 -- a counter and its tile's start are set together
-pub tiled_set : (rank : ℕ) (w c t : List ℕ) → length c ≡ 64 → rank ≤ 64 → Tiled rank w c t → (i v s : ℕ) → i < rank → s ≡ start_of (get_or w i 0) v → Tiled rank w (set c i v) (set t i s)
-tiled_set rank w c t lc a p i v s h e =
+pub tiled_set : (p : Plan) (w : List ℕ) (at : State) → length at.counters ≡ 64 → p.rank ≤ 64 → Tiled p w at → (i v s : ℕ) (o : List ℤ) → i < p.rank → s ≡ start_of (get_or w i 0) v
+    → Tiled p w (state_of (set at.tile_starts i s) (set at.counters i v) o)
+tiled_set p w at lc a d i v s o h e =
     record {
-      placed = length-set t i s ∙ p.placed;
-      wide = p.wide;
+      placed = length-set at.tile_starts i s ∙ d.placed;
+      wide = d.wide;
       start = λ j l. by_lt j i (λ q. other j l (let g : (j ≡ i → ⊥) = omega arith in g)) (λ q. by_lt i j (λ r. other j l (let g : (j ≡ i → ⊥) = omega arith in g)) (λ r. here j (let g : i ≡ j = omega arith in g)));
     }
   where
-    other : (j : ℕ) → j < rank → (j ≡ i → ⊥) → get_or (set t i s) j 0 ≡ start_of (get_or w j 0) (get_or (set c i v) j 0)
-    other j l ne = get_or-set_other t i j s 0 ne ∙ p.start j l ∙ ap (start_of (get_or w j 0)) (sym (get_or-set_other c i j v 0 ne))
+    c : List ℕ
+    c = at.counters
 
-    at : get_or (set t i s) i 0 ≡ start_of (get_or w i 0) (get_or (set c i v) i 0)
-    at =
-        get_or-set_same t i s 0 (omega (arith, p.placed, a, h)) ∙ e
+    t : List ℕ
+    t = at.tile_starts
+
+    other : (j : ℕ) → j < p.rank → (j ≡ i → ⊥) → get_or (set t i s) j 0 ≡ start_of (get_or w j 0) (get_or (set c i v) j 0)
+    other j l ne = get_or-set_other t i j s 0 ne ∙ d.start j l ∙ ap (start_of (get_or w j 0)) (sym (get_or-set_other c i j v 0 ne))
+
+    here_at : get_or (set t i s) i 0 ≡ start_of (get_or w i 0) (get_or (set c i v) i 0)
+    here_at =
+        get_or-set_same t i s 0 (omega (arith, d.placed, a, h)) ∙ e
         ∙ ap (start_of (get_or w i 0)) (sym (get_or-set_same c i v 0 (omega (arith, lc, a, h))))
 
     here : (j : ℕ) → i ≡ j → get_or (set t i s) j 0 ≡ start_of (get_or w j 0) (get_or (set c i v) j 0)
-    here j q = subst (λ (k : ℕ). get_or (set t i s) k 0 ≡ start_of (get_or w k 0) (get_or (set c i v) k 0)) q at
+    here j q = subst (λ (k : ℕ). get_or (set t i s) k 0 ≡ start_of (get_or w k 0) (get_or (set c i v) k 0)) q here_at
 
-module _ (inside : Bool) (first last rank operands : ℕ) (e w : List ℕ) (s : List ℤ) (c₀ : List ℕ) (o₀ : List ℤ) where
+module _ (inside : Bool) (first last : ℕ) (p : Plan) (w : List ℕ) (at₀ : State) where
   abbrev goal_at : ℕ → List ℕ → Goal
-  goal_at i c = goal_of inside (get_or e i 0) (get_or w i 0) (get_or c i 0)
+  goal_at i c = goal_of inside (get_or p.extents i 0) (get_or w i 0) (get_or c i 0)
 
   -- before a turn: the offsets have room, the starts are as they were, and the carry that is left gives what the whole one does
-  pub record Before (i : ℕ) (t c : List ℕ) (o : List ℤ) : Type 0 where
-    pub roomy : Roomy rank operands e s c o
-    pub tiled : Tiled rank w c t
-    pub starts : (k : ℕ) → k < operands → start_at rank k s c o ≡ start_at rank k s c₀ o₀
-    pub others : (k : ℕ) → operands ≤ k → get_or o k (pos 0) ≡ get_or o₀ k (pos 0)
-    pub same : carry_of inside e w (last - i) i c ≡ carry_of inside e w (last - first) first c₀
+  pub record Before (i : ℕ) (at : State) : Type 0 where
+    pub roomy : Roomy p at
+    pub tiled : Tiled p w at
+    pub starts : (k : ℕ) → k < p.operands → start_at p k at.counters at.offsets ≡ start_at p k at₀.counters at₀.offsets
+    pub others : (k : ℕ) → p.operands ≤ k → get_or at.offsets k (pos 0) ≡ get_or at₀.offsets k (pos 0)
+    pub same : carry_of inside p.extents w (last - i) i at.counters ≡ carry_of inside p.extents w (last - first) first at₀.counters
 
-  pub begins : (t : List ℕ) → Roomy rank operands e s c₀ o₀ → Tiled rank w c₀ t → Before first t c₀ o₀
-  begins t r d = record { roomy = r; tiled = d; starts = λ k h. refl; others = λ k h. refl; same = refl }
+  pub begins : Roomy p at₀ → Tiled p w at₀ → Before first at₀
+  begins r d = record { roomy = r; tiled = d; starts = λ k h. refl; others = λ k h. refl; same = refl }
 
-  module _ (i : ℕ) (t c : List ℕ) (o : List ℤ) (p : Before i t c o) where
+  module _ (i : ℕ) (at : State) (b : Before i at) where
     -- the loop is left at the last axis
-    pub ends : last ≤ i → CarriedTo inside first last rank operands e w s c₀ o₀ false t c o
+    pub ends : last ≤ i → CarriedTo inside first last p w at₀ false at
     unfolding carry_of
     ends h =
-        let z : carry_of inside e w (last - i) i c ≡ carry_of inside e w 0 i c = ap (λ (n : ℕ). carry_of inside e w n i c) (let g : last - i ≡ 0 = omega arith in g) in
+        let z : carry_of inside p.extents w (last - i) i at.counters ≡ carry_of inside p.extents w 0 i at.counters = ap (λ (n : ℕ). carry_of inside p.extents w n i at.counters) (let g : last - i ≡ 0 = omega arith in g) in
         record {
-          answer = ap (λ (x : Carried). x.more) (sym z ∙ p.same);
-          counters = ap (λ (x : Carried). x.counters) (sym z ∙ p.same);
-          roomy = p.roomy;
-          tiled = p.tiled;
-          starts = p.starts;
-          others = p.others;
+          answer = ap (λ (x : Carried). x.more) (sym z ∙ b.same);
+          counters = ap (λ (x : Carried). x.counters) (sym z ∙ b.same);
+          roomy = b.roomy;
+          tiled = b.tiled;
+          starts = b.starts;
+          others = b.others;
         }
 
-    module _ (most : last ≤ rank) (here : i < last) where
-      turn : i < rank
+    module _ (most : last ≤ p.rank) (here : i < last) where
+      turn : i < p.rank
       turn = omega arith
 
-      lands : Lands (get_or e i 0) (get_or w i 0) (goal_at i c)
-      lands = goal_lands (get_or e i 0) (get_or w i 0) (get_or c i 0) (p.tiled.wide i turn) (p.roomy.within i turn) inside
+      lands : Lands (get_or p.extents i 0) (get_or w i 0) (goal_at i at.counters)
+      lands = goal_lands (get_or p.extents i 0) (get_or w i 0) (get_or at.counters i 0) (b.tiled.wide i turn) (b.roomy.within i turn) inside
 
-      module _ (a : Goal) (is-goal : a ≡ goal_at i c) where
-        lands_at : Lands (get_or e i 0) (get_or w i 0) a
-        lands_at = subst (Lands (get_or e i 0) (get_or w i 0)) (sym is-goal) lands
+      module _ (a : Goal) (is-goal : a ≡ goal_at i at.counters) where
+        lands_at : Lands (get_or p.extents i 0) (get_or w i 0) a
+        lands_at = subst (Lands (get_or p.extents i 0) (get_or w i 0)) (sym is-goal) lands
 
         -- what `shift` asks
-        pub shifts_at : Shifts operands i (get_or c i 0) a.to s o
-        shifts_at = roomy_shifts rank operands e s c o p.roomy i a.to turn lands_at.below
+        pub shifts_at : Shifts p i (get_or at.counters i 0) a.to at.offsets
+        shifts_at = roomy_shifts p at b.roomy i a.to turn lands_at.below
 
         abbrev o' : List ℤ
-        o' = shifted operands i (get_or c i 0) a.to s o
+        o' = shifted p i (get_or at.counters i 0) a.to at.offsets
+
+        -- the state after the turn, with these offsets
+        abbrev at' : List ℤ → State
+        at' l = state_of (set at.tile_starts i a.start) (set at.counters i a.to) l
 
         left : last - i ≡ suc (last - (i + 1))
         left = omega arith
 
         -- what the carry that is left gives, by what the axis aims at
-        carry_more : (b : Bool) → a.more ≡ b
-            → cond b (record { more = true; counters = set c i a.to }) (carry_of inside e w (last - (i + 1)) (suc i) (set c i a.to)) ≡ carry_of inside e w (last - i) i c
+        carry_more : (m : Bool) → a.more ≡ m
+            → cond m (record { more = true; counters = set at.counters i a.to }) (carry_of inside p.extents w (last - (i + 1)) (suc i) (set at.counters i a.to)) ≡ carry_of inside p.extents w (last - i) i at.counters
         unfolding carry_of
-        carry_more b h = rw (left, sym is-goal, h)
+        carry_more m h = rw (left, sym is-goal, h)
 
-        tiled_at : Tiled rank w (set c i a.to) (set t i a.start)
-        tiled_at = tiled_set rank w c t p.roomy.counted p.roomy.axes p.tiled i a.to a.start turn lands_at.start
+        tiled_at : Tiled p w (at' o')
+        tiled_at = tiled_set p w at b.roomy.counted b.roomy.axes b.tiled i a.to a.start o' turn lands_at.start
 
-        starts' : (k : ℕ) → k < operands → start_at rank k s (set c i a.to) o' ≡ start_at rank k s c₀ o₀
-        starts' k h = start_stays rank operands e s c o p.roomy i a.to turn lands_at.below k h ∙ p.starts k h
+        starts' : (k : ℕ) → k < p.operands → start_at p k (set at.counters i a.to) o' ≡ start_at p k at₀.counters at₀.offsets
+        starts' k h = start_stays p at b.roomy i a.to turn lands_at.below k h ∙ b.starts k h
 
-        others' : (k : ℕ) → operands ≤ k → get_or o' k (pos 0) ≡ get_or o₀ k (pos 0)
-        others' k h = filled_above o (moved_at i (get_or c i 0) a.to s o) (pos 0) operands k h ∙ p.others k h
+        others' : (k : ℕ) → p.operands ≤ k → get_or o' k (pos 0) ≡ get_or at₀.offsets k (pos 0)
+        others' k h = filled_above at.offsets (moved_at i (get_or at.counters i 0) a.to p.strides at.offsets) (pos 0) p.operands k h ∙ b.others k h
 
-        roomy' : Roomy rank operands e s (set c i a.to) o'
-        roomy' = roomy_moved rank operands e s c o p.roomy i a.to turn lands_at.below
+        roomy' : Roomy p (at' o')
+        roomy' = roomy_moved p at b.roomy i a.to turn lands_at.below (set at.tile_starts i a.start)
 
         module _ (l : List ℤ) (is-shifted : l ≡ o') where
-          pub stops_at : a.more ≡ true → CarriedTo inside first last rank operands e w s c₀ o₀ true (set t i a.start) (set c i a.to) l
+          pub stops_at : a.more ≡ true → CarriedTo inside first last p w at₀ true (at' l)
           stops_at h =
-              let z : record { more = true; counters = set c i a.to } ≡ carry_of inside e w (last - first) first c₀ = carry_more true h ∙ p.same in
-              subst (λ (m : List ℤ). CarriedTo inside first last rank operands e w s c₀ o₀ true (set t i a.start) (set c i a.to) m) (sym is-shifted)
+              let z : record { more = true; counters = set at.counters i a.to } ≡ carry_of inside p.extents w (last - first) first at₀.counters = carry_more true h ∙ b.same in
+              subst (λ (m : List ℤ). CarriedTo inside first last p w at₀ true (at' m)) (sym is-shifted)
               (record {
                 answer = ap (λ (x : Carried). x.more) z;
                 counters = ap (λ (x : Carried). x.counters) z;
@@ -121,39 +134,39 @@ module _ (inside : Bool) (first last rank operands : ℕ) (e w : List ℕ) (s : 
                 others = others';
               })
 
-          pub goes_on_at : a.more ≡ false → Before (i + 1) (set t i a.start) (set c i a.to) l
+          pub goes_on_at : a.more ≡ false → Before (i + 1) (at' l)
           goes_on_at h =
-              subst (λ (m : List ℤ). Before (i + 1) (set t i a.start) (set c i a.to) m) (sym is-shifted)
+              subst (λ (m : List ℤ). Before (i + 1) (at' m)) (sym is-shifted)
               (record {
                 roomy = roomy';
                 tiled = tiled_at;
                 starts = starts';
                 others = others';
                 same =
-                    ap (λ (n : ℕ). carry_of inside e w (last - (i + 1)) n (set c i a.to)) (add-one i) ∙ carry_more false h ∙ p.same;
+                    ap (λ (n : ℕ). carry_of inside p.extents w (last - (i + 1)) n (set at.counters i a.to)) (add-one i) ∙ carry_more false h ∙ b.same;
               })
 
 -- ---- one axis alone
 
-module _ {axis rank operands : ℕ} {e w : List ℕ} {s : List ℤ} {t c : List ℕ} {o : List ℤ} (r : Roomy rank operands e s c o) (d : Tiled rank w c t) (h : axis < rank)
-    {a : Goal} (is-goal : a ≡ inside_goal (get_or e axis 0) (get_or w axis 0) (get_or c axis 0)) where
-  aims : a ≡ goal_of true (get_or e axis 0) (get_or w axis 0) (get_or c axis 0)
+module _ {axis : ℕ} {p : Plan} {w : List ℕ} {at : State} (r : Roomy p at) (d : Tiled p w at) (h : axis < p.rank)
+    {a : Goal} (is-goal : a ≡ inside_goal (get_or p.extents axis 0) (get_or w axis 0) (get_or at.counters axis 0)) where
+  aims : a ≡ goal_of true (get_or p.extents axis 0) (get_or w axis 0) (get_or at.counters axis 0)
   unfolding goal_of
   aims = is-goal
 
   -- what `shift` asks
-  pub shifts_ahead : Shifts operands axis (get_or c axis 0) a.to s o
-  shifts_ahead =
-      shifts_at true axis (axis + 1) rank operands e w s c o axis t c o (begins true axis (axis + 1) rank operands e w s c o t r d) (omega (arith, h)) (omega arith) a aims
+  pub shifts_ahead : Shifts p axis (get_or at.counters axis 0) a.to at.offsets
+  shifts_ahead = shifts_at true axis (axis + 1) p w at axis at (begins true axis (axis + 1) p w at r d) (omega (arith, h)) (omega arith) a aims
 
-  pub went_ahead : {l : List ℤ} → l ≡ shifted operands axis (get_or c axis 0) a.to s o → a.more ≡ true → WentAhead axis rank operands e w s t c o true (set t axis a.start) (set c axis a.to) l
+  pub went_ahead : {l : List ℤ} → l ≡ shifted p axis (get_or at.counters axis 0) a.to at.offsets → a.more ≡ true
+      → WentAhead axis p w at true (state_of (set at.tile_starts axis a.start) (set at.counters axis a.to) l)
   went_ahead {l} f g = record {
-    ahead = λ q last p m. stops_at true axis last rank operands e w s c o axis t c o (begins true axis last rank operands e w s c o t r d) m p a aims l f g;
+    ahead = λ q last m n. stops_at true axis last p w at axis at (begins true axis last p w at r d) n m a aims l f g;
     kept = λ q. absurd (false≢true (sym q));
   }
 
-pub stayed : {axis rank operands : ℕ} {e w : List ℕ} {s : List ℤ} {t c : List ℕ} {o : List ℤ} → WentAhead axis rank operands e w s t c o false t c o
-stayed = record { ahead = λ q. absurd (false≢true q); kept = λ q. (refl, refl, refl) }
+pub stayed : {axis : ℕ} {p : Plan} {w : List ℕ} {at : State} → WentAhead axis p w at false at
+stayed = record { ahead = λ q. absurd (false≢true q); kept = λ q. refl }
 
 -- ---- axes that do not move inside a tile
 
@@ -190,52 +203,53 @@ module _ (e w : List ℕ) where
       (inner_only m n (suc i) (set c i a.to) (λ j p q. h j (omega arith) (omega arith))))
 
   -- a carry inside a tile over the axes before n is one over all
-  inner-all : (n rank : ℕ) (c : List ℕ) → Single n rank w → carry_of true e w (n - 1) 1 c ≡ carry_of true e w (rank - 1) 1 c
-  inner-all n zero c s = let z : n - 1 ≡ 0 - 1 = omega (arith, s.most) in ap (λ (k : ℕ). carry_of true e w k 1 c) z
-  inner-all n (suc rank) c s =
-      let z : (n - 1) + (suc rank - 1 - (n - 1)) ≡ suc rank - 1 = omega (arith, s.most) in
-      inner_only (n - 1) (suc rank - 1 - (n - 1)) 1 c (λ j p q. s.one j (omega arith) (omega (arith, s.most)))
+  inner-all : (n rank : ℕ) (c : List ℕ) → n ≤ rank → ((i : ℕ) → n ≤ i → i < rank → get_or w i 0 ≡ 1) → carry_of true e w (n - 1) 1 c ≡ carry_of true e w (rank - 1) 1 c
+  inner-all n zero c most one = let z : n - 1 ≡ 0 - 1 = omega arith in ap (λ (k : ℕ). carry_of true e w k 1 c) z
+  inner-all n (suc rank) c most one =
+      let z : (n - 1) + (suc rank - 1 - (n - 1)) ≡ suc rank - 1 = omega arith in
+      inner_only (n - 1) (suc rank - 1 - (n - 1)) 1 c (λ j p q. one j (omega arith) (omega arith))
       ∙ ap (λ (k : ℕ). carry_of true e w k 1 c) z
 
 -- ---- the next block
 
-module _ {rank operands : ℕ} {e w : List ℕ} {s : List ℤ} {c : List ℕ} {o : List ℤ} {m : Bool} {t' c' : List ℕ} {o' : List ℤ} {inner : ℕ} (u : Single inner rank w) (p : CarriedTo true 1 inner rank operands e w s c o m t' c' o') where
+module _ {p : Plan} {w : List ℕ} {at : State} {m : Bool} {at' : State} {inner : ℕ} (u : Single inner p w) (d : CarriedTo true 1 inner p w at m at') where
   abbrev X : Carried
-  X = carry_of true e w (rank - 1) 1 c
+  X = carry_of true p.extents w (p.rank - 1) 1 at.counters
 
-  all : carry_of true e w (inner - 1) 1 c ≡ X
-  all = inner-all e w inner rank c u
+  all : carry_of true p.extents w (inner - 1) 1 at.counters ≡ X
+  all = inner-all p.extents w inner p.rank at.counters u.most u.one
 
   answer : m ≡ X.more
-  answer = p.answer ∙ ap (λ (x : Carried). x.more) all
+  answer = d.answer ∙ ap (λ (x : Carried). x.more) all
 
-  counters : c' ≡ X.counters
-  counters = p.counters ∙ ap (λ (x : Carried). x.counters) all
+  counters : at'.counters ≡ X.counters
+  counters = d.counters ∙ ap (λ (x : Carried). x.counters) all
 
   -- an axis went ahead inside the tile
-  pub inside_done : m ≡ true → AdvancedTo rank operands e w s c o true t' c' o'
+  pub inside_done : m ≡ true → AdvancedTo p w at true at'
   unfolding next_of
   inside_done h =
-      let z : next_of rank e w c ≡ X = ap (λ (b : Bool). cond b X (carry_of false e w (rank - 0) 0 X.counters)) (sym answer ∙ h) in
+      let z : next_of p.rank p.extents w at.counters ≡ X = ap (λ (b : Bool). cond b X (carry_of false p.extents w (p.rank - 0) 0 X.counters)) (sym answer ∙ h) in
       record {
         answer = sym h ∙ answer ∙ ap (λ (x : Carried). x.more) (sym z);
         counters = counters ∙ ap (λ (x : Carried). x.counters) (sym z);
-        roomy = p.roomy;
-        tiled = p.tiled;
-        starts = p.starts;
-        others = p.others;
+        roomy = d.roomy;
+        tiled = d.tiled;
+        starts = d.starts;
+        others = d.others;
       }
 
   -- none did: the carry goes from tile to tile
-  pub tile_done : m ≡ false → {m'' : Bool} {t'' c'' : List ℕ} {o'' : List ℤ} → CarriedTo false 0 rank rank operands e w s c' o' m'' t'' c'' o'' → AdvancedTo rank operands e w s c o m'' t'' c'' o''
+  pub tile_done : m ≡ false → {m'' : Bool} {at'' : State} → CarriedTo false 0 p.rank p w at' m'' at'' → AdvancedTo p w at m'' at''
   unfolding next_of
   tile_done h q =
-      let z : next_of rank e w c ≡ carry_of false e w (rank - 0) 0 c' = ap (λ (b : Bool). cond b X (carry_of false e w (rank - 0) 0 X.counters)) (sym answer ∙ h) ∙ ap (carry_of false e w (rank - 0) 0) (sym counters) in
+      let z : next_of p.rank p.extents w at.counters ≡ carry_of false p.extents w (p.rank - 0) 0 at'.counters =
+      ap (λ (b : Bool). cond b X (carry_of false p.extents w (p.rank - 0) 0 X.counters)) (sym answer ∙ h) ∙ ap (carry_of false p.extents w (p.rank - 0) 0) (sym counters) in
       record {
         answer = q.answer ∙ ap (λ (x : Carried). x.more) (sym z);
         counters = q.counters ∙ ap (λ (x : Carried). x.counters) (sym z);
         roomy = q.roomy;
         tiled = q.tiled;
-        starts = λ k l. q.starts k l ∙ p.starts k l;
-        others = λ k l. q.others k l ∙ p.others k l;
+        starts = λ k l. q.starts k l ∙ d.starts k l;
+        others = λ k l. q.others k l ∙ d.others k l;
       }

@@ -2,6 +2,7 @@
 -- Assumes nothing.
 use Rattle.std.specs.Prelude.{Bool, true, false, cond, List, ℕ, ◌+◌, ◌-◌, ◌*◌, ◌/◌, ltb, leb, eqb, get_or, replicate}
 use Rattle.strided.specs.Walk.{effective}
+use Rattle.strided.specs.declared.Plan.{Plan}
 use Rattle.advance.specs.declared.Goal.{Goal}
 use Rattle.advance.specs.Filled.{filled_to}
 
@@ -9,12 +10,15 @@ use Rattle.advance.specs.Filled.{filled_to}
 unfoldable pub width_of : ℕ → ℕ → ℕ → ℕ → ℕ
 width_of rank axis extent block = cond (leb rank 8) (effective extent block) (cond (eqb axis 0) (effective extent block) 1)
 
--- the first n block sizes in force, in an array of 64 places
-abbrev pub width_at : ℕ → List ℕ → List ℕ → ℕ → ℕ
-width_at rank e b i = width_of rank i (get_or e i 0) (get_or b i 0)
+abbrev pub width_at : Plan → ℕ → ℕ
+width_at p i = width_of p.rank i (get_or p.extents i 0) (get_or p.blocks i 0)
 
-abbrev pub widths_to : ℕ → List ℕ → List ℕ → ℕ → List ℕ
-widths_to rank e b n = filled_to (replicate 64 0) (width_at rank e b) n
+-- the first n block sizes in force, in an array of 64 places; and all of them
+abbrev pub widths_to : Plan → ℕ → List ℕ
+widths_to p n = filled_to (replicate 64 0) (width_at p) n
+
+abbrev pub widths : Plan → List ℕ
+widths p = widths_to p p.rank
 
 -- where the tile starts that a counter is in
 abbrev pub start_of : ℕ → ℕ → ℕ

@@ -4,6 +4,7 @@ use Rattle.std.specs.Prelude.{ℕ, ◌+◌, ◌-◌, ◌*◌, ◌<◌, ◌≤◌
 use Rattle.std.proofs.Math.IntN.{sub_ℕ}
 use Rattle.std.specs.Int.{w64}
 use Rattle.std.proofs.Common.{SFits}
+use Rattle.strided.specs.declared.Plan.{Plan}
 use Rattle.advance.specs.Filled.{filled_to}
 
 -- the offset after a move along an axis of stride s
@@ -19,13 +20,16 @@ pub record Moves (o s : ℤ) (from to : ℕ) : Type 0 where
 abbrev pub moved_at : ℕ → ℕ → ℕ → List ℤ → List ℤ → ℕ → ℤ
 moved_at axis from to s o k = after_move (get_or o k (pos 0)) (get_or s (k * 64 + axis) (pos 0)) from to
 
--- the offsets of the first n operands after a move along an axis
-abbrev pub shifted : ℕ → ℕ → ℕ → ℕ → List ℤ → List ℤ → List ℤ
-shifted n axis from to s o = filled_to o (moved_at axis from to s o) n
+-- the offsets of the first n operands after a move along an axis; and of all of a plan's
+abbrev pub shifted_to : ℕ → ℕ → ℕ → ℕ → List ℤ → List ℤ → List ℤ
+shifted_to n axis from to s o = filled_to o (moved_at axis from to s o) n
+
+abbrev pub shifted : Plan → ℕ → ℕ → ℕ → List ℤ → List ℤ
+shifted p axis from to o = shifted_to p.operands axis from to p.strides o
 
 -- such a move of each operand's offset stays within 64 bits
-pub record Shifts (operands axis from to : ℕ) (s o : List ℤ) : Type 0 where
-  pub few : operands ≤ 8
+pub record Shifts (p : Plan) (axis from to : ℕ) (o : List ℤ) : Type 0 where
+  pub few : p.operands ≤ 8
   pub inside : axis < 64
   pub offered : length o ≡ 8
-  pub each : (k : ℕ) → k < operands → Moves (get_or o k (pos 0)) (get_or s (k * 64 + axis) (pos 0)) from to
+  pub each : (k : ℕ) → k < p.operands → Moves (get_or o k (pos 0)) (get_or p.strides (k * 64 + axis) (pos 0)) from to

@@ -5,9 +5,19 @@
 ghost use Rattle.std.specs.Prelude.{◌≡◌, ℕ, ◌<◌, ◌≤◌, get_or, replicate};
 ghost use Rattle.strided.specs.Walk.{effective};
 ghost use Rattle.advance.specs.Moves.{Moves, after_move, Shifts, shifted};
-ghost use Rattle.advance.specs.Axis.{width_of, start_of, inside_goal, tile_goal, goal_of, widths_to, starts_to};
+ghost use Rattle.advance.specs.Axis.{width_of, width_at, widths, start_of, inside_goal, tile_goal, goal_of, starts_to};
 ghost use Rattle.advance.specs.Carry.{Roomy, Tiled, Single, CarriedTo, WentAhead, AdvancedTo};
-ghost use Rattle.advance.specs.Blocks.{length_of, firsts_of};
+ghost use Rattle.advance.specs.Blocks.{length_of, column_to, firsts_of};
+
+use layout::LentPlan;
+
+// Where a walk of many blocks stands: the counters, where the tiles start that they are in, and each operand's offset.
+#[derive(Clone, Copy)]
+pub struct State {
+    pub tile_starts: [u64; 64],
+    pub counters: [u64; 64],
+    pub offsets: [i64; 8],
+}
 
 // The offset `o` after a move along an axis of stride `s`, from one counter to another. Where the stride is 0 the counters may be any.
 pub fn moved(o: i64, s: i64, from: u64, to: u64) -> i64
@@ -27,15 +37,15 @@ pub fn moved(o: i64, s: i64, from: u64, to: u64) -> i64
 }
 
 // Each operand's offset after the same move along an axis. The strides of operand `k` stand at `k * 64`.
-pub fn shift(operands: usize, axis: usize, from: u64, to: u64, s: &[i64; 512], o: &mut [i64; 8])
-    requires { Shifts operands axis from to s.now o.old }
-    ensures { o.new ≡ shifted operands axis from to s.now o.old }
+pub fn shift(plan: &LentPlan, axis: usize, from: u64, to: u64, o: &mut [i64; 8])
+    requires { Shifts plan.now axis from to o.old }
+    ensures { o.new ≡ shifted plan.now axis from to o.old }
 {
     if from == to {
         return;
     }
-    for k in 0..operands {
-        o[k] = moved(o[k], s[k * 64 + axis], from, to);
+    for k in 0..plan.operands {
+        o[k] = moved(o[k], plan.strides[k * 64 + axis], from, to);
     }
 }
 
@@ -67,24 +77,30 @@ pub fn width_of(rank: usize, axis: usize, extent: u64, block: u64) -> u64
     }
 }
 
-// The block sizes in force, written into an array of zeros.
-pub fn widths_into<'a>(rank: usize, e: &'a [u64; 64], b: &'a [u64; 64], w: &mut [u64; 64])
-    requires rank_bound { rank ≤ 64 }
-    requires w_value { w.old ≡ replicate 64 0 }
-    ensures { w.new ≡ widths_to rank e.now b.now rank }
+// That of a plan's axis.
+pub fn width_on(plan: &LentPlan, axis: usize) -> u64
+    requires { axis < 64 }
+    ensures { result ≡ width_at plan.now axis }
 {
-    for i in 0..rank {
-        w[i] = width_of(rank, i, e[i], b[i]);
+    width_of(plan.rank, axis, plan.extents[axis], plan.blocks[axis])
+}
+
+// The block sizes in force, written into an array of zeros.
+pub fn widths_into(plan: &LentPlan, w: &mut [u64; 64])
+    requires { w.old ≡ replicate 64 0 }
+    ensures { w.new ≡ widths plan.now }
+{
+    for i in 0..plan.rank {
+        w[i] = width_on(plan, i);
     }
 }
 
 // The block sizes in force.
-pub fn widths<'a>(rank: usize, e: &'a [u64; 64], b: &'a [u64; 64]) -> [u64; 64]
-    requires { rank ≤ 64 }
-    ensures { result ≡ widths_to rank e.now b.now rank }
+pub fn widths(plan: &LentPlan) -> [u64; 64]
+    ensures { result ≡ widths plan.now }
 {
     let mut w = [0u64; 64];
-    widths_into(rank, e, b, &mut w);
+    widths_into(plan, &mut w);
     w
 }
 
@@ -96,26 +112,21 @@ fn tile_start(width: u64, at: u64) -> u64
     at / width * width
 }
 
-// Where the tiles start that the counters are in, written into an array of zeros.
-pub fn tile_starts_into<'a>(rank: usize, w: &'a [u64; 64], c: &'a [u64; 64], t: &mut [u64; 64])
-    requires rank_bound { (rank ≤ 64) × ((i : ℕ) → i < rank → 0 < get_or w.now i 0) }
-    requires t_value { t.old ≡ replicate 64 0 }
-    ensures { t.new ≡ starts_to w.now c.now rank }
-{
-    for i in 0..rank {
-        t[i] = tile_start(w[i], c[i]);
-    }
-}
-
 // Where the tiles start that the counters are in.
-pub fn tile_starts<'a>(rank: usize, w: &'a [u64; 64], c: &'a [u64; 64]) -> [u64; 64]
-    requires { (rank ≤ 64) × ((i : ℕ) → i < rank → 0 < get_or w.now i 0) }
-    ensures { result ≡ starts_to w.now c.now rank }
+pub fn tile_starts<'a>(plan: &LentPlan, w: &'a [u64; 64], c: &'a [u64; 64]) -> [u64; 64]
+    requires { (i : ℕ) → i < plan.now.rank → 0 < get_or w.now i 0 }
+    ensures { result ≡ starts_to w.now c.now plan.now.rank }
 {
     let mut t = [0u64; 64];
-    tile_starts_into(rank, w, c, &mut t);
+    for i in 0..plan.rank {
+        t[i] = tile_start(w[i], c[i]);
+    }
     t
 }
+
+// Kept, here and below: what stands of an axis as numbers (extent, width, the tile's start, the counter), with what is known of them in the
+// clauses. They lie in four arrays, so that a struct with these facts would be put together at each turn of a carry, to be read once. An axis
+// and an operand are numbers below 64 and 8: whoever indexes says so.
 
 // Where an axis goes next, ahead or back, and where the tile starts that it is then in.
 #[derive(Clone, Copy)]
@@ -166,7 +177,7 @@ fn tile_goal(extent: u64, width: u64, start: u64, at: u64) -> Goal
     }
 }
 
-fn goal_of(inside: bool, extent: u64, width: u64, start: u64, at: u64) -> Goal
+pub fn goal_of(inside: bool, extent: u64, width: u64, start: u64, at: u64) -> Goal
     requires { (0 < width) × (at < extent) × (start ≡ start_of width at) }
     ensures { result ≡ goal_of inside extent width at }
 {
@@ -179,11 +190,10 @@ fn goal_of(inside: bool, extent: u64, width: u64, start: u64, at: u64) -> Goal
 
 // The axes that a carry inside a tile has to look at: those from there on have blocks of 1, so they do not move inside a tile. From rank 9
 // on only axis 0 is cut, and none is left.
-pub fn inner_axes(rank: usize, w: &[u64; 64]) -> usize
-    requires { rank ≤ 64 }
-    ensures { Single result rank w.now }
+pub fn inner_axes(plan: &LentPlan, w: &[u64; 64]) -> usize
+    ensures { Single result plan.now w.now }
 {
-    let mut n = rank;
+    let mut n = plan.rank;
     while 0 < n && w[n - 1] == 1 {
         n -= 1;
     }
@@ -191,33 +201,28 @@ pub fn inner_axes(rank: usize, w: &[u64; 64]) -> usize
 }
 
 // A carry along the axes from `first` to `last`, inside a tile or from tile to tile. Says whether an axis went ahead.
-// Kept: `inside` as a bool, since the walk's way holds it as one and the definitions tell it so; an enum would be turned into it at each call.
+// Kept: `inside`, a literal at each call: the two carries are one loop, and two functions of it would be twins. The definitions tell it so.
+// Kept, here and below: Roomy and Tiled as clauses. They bind a state to a plan and its block sizes, and every move makes them anew; a type of
+// all three would hold a reference to the plan beside the state that it changes, and each caller would have to open it.
 pub fn carry(
     inside: bool,
     first: usize,
     last: usize,
-    rank: usize,
-    operands: usize,
-    e: &[u64; 64],
+    plan: &LentPlan,
     w: &[u64; 64],
-    s: &[i64; 512],
-    t: &mut [u64; 64],
-    c: &mut [u64; 64],
-    o: &mut [i64; 8],
+    at: &mut State,
 ) -> bool
-    requires roomy { Roomy rank operands e.now s.now c.old o.old }
-    requires tiled { Tiled rank w.now c.old t.old }
-    requires last_le_rank { last ≤ rank }
-    ensures { CarriedTo inside first last rank operands
-        e.now w.now s.now c.old o.old
-        result t.new c.new o.new }
+    requires roomy { Roomy plan.now at.old }
+    requires tiled { Tiled plan.now w.now at.old }
+    requires last_le_rank { last ≤ plan.now.rank }
+    ensures { CarriedTo inside first last plan.now w.now at.old result at.new }
 {
     for i in first..last {
-        let at = c[i];
-        let goal = goal_of(inside, e[i], w[i], t[i], at);
-        shift(operands, i, at, goal.to, s, o);
-        c[i] = goal.to;
-        t[i] = goal.start;
+        let from = at.counters[i];
+        let goal = goal_of(inside, plan.extents[i], w[i], at.tile_starts[i], from);
+        shift(plan, i, from, goal.to, &mut at.offsets);
+        at.counters[i] = goal.to;
+        at.tile_starts[i] = goal.start;
         if goal.more {
             return true;
         }
@@ -226,79 +231,63 @@ pub fn carry(
 }
 
 // One axis inside its tile: it goes one ahead if it can. Says whether it did; if not, nothing has moved.
-pub fn go_ahead<'a>(
-    axis: usize,
-    rank: usize,
-    operands: usize,
-    e: &'a [u64; 64],
-    w: &'a [u64; 64],
-    s: &'a [i64; 512],
-    t: &mut [u64; 64],
-    c: &mut [u64; 64],
-    o: &mut [i64; 8],
-) -> bool
-    requires roomy { Roomy rank operands e.now s.now c.old o.old }
-    requires tiled { Tiled rank w.now c.old t.old }
-    requires axis_lt_rank { axis < rank }
-    ensures { WentAhead axis rank operands e.now w.now s.now t.old c.old o.old
-        result t.new c.new o.new }
+pub fn go_ahead(axis: usize, plan: &LentPlan, w: &[u64; 64], at: &mut State) -> bool
+    requires roomy { Roomy plan.now at.old }
+    requires tiled { Tiled plan.now w.now at.old }
+    requires axis_lt_rank { axis < plan.now.rank }
+    ensures { WentAhead axis plan.now w.now at.old result at.new }
 {
-    let at = c[axis];
-    let goal = inside_goal(e[axis], w[axis], t[axis], at);
+    let from = at.counters[axis];
+    let goal = inside_goal(plan.extents[axis], w[axis], at.tile_starts[axis], from);
     if !goal.more {
         return false;
     }
-    shift(operands, axis, at, goal.to, s, o);
-    c[axis] = goal.to;
-    t[axis] = goal.start;
+    shift(plan, axis, from, goal.to, &mut at.offsets);
+    at.counters[axis] = goal.to;
+    at.tile_starts[axis] = goal.start;
     true
 }
 
-// Moves the counters and the offsets to the next block. Says whether there is one; if not, both are back at the start. `inner` is what
-// `inner_axes` tells, or the rank.
-pub fn advance<'a>(
-    rank: usize,
-    inner: usize,
-    operands: usize,
-    e: &'a [u64; 64],
-    w: &'a [u64; 64],
-    s: &'a [i64; 512],
-    t: &mut [u64; 64],
-    c: &mut [u64; 64],
-    o: &mut [i64; 8],
-) -> bool
-    requires roomy { Roomy rank operands e.now s.now c.old o.old }
-    requires tiled { Tiled rank w.now c.old t.old }
-    requires single { Single inner rank w.now }
-    ensures { AdvancedTo rank operands e.now w.now s.now c.old o.old
-        result t.new c.new o.new }
+// Moves the state to the next block. Says whether there is one; if not, it is back at the start. `inner` is what `inner_axes` tells, or
+// the rank.
+pub fn advance(inner: usize, plan: &LentPlan, w: &[u64; 64], at: &mut State) -> bool
+    requires roomy { Roomy plan.now at.old }
+    requires tiled { Tiled plan.now w.now at.old }
+    requires single { Single inner plan.now w.now }
+    ensures { AdvancedTo plan.now w.now at.old result at.new }
 {
-    carry(true, 1, inner, rank, operands, e, w, s, t, c, o)
-        || carry(false, 0, rank, rank, operands, e, w, s, t, c, o)
+    carry(true, 1, inner, plan, w, at) || carry(false, 0, plan.rank, plan, w, at)
 }
 
 // The length of the block at the counters.
-pub fn length_of<'a>(rank: usize, e: &'a [u64; 64], w: &'a [u64; 64], c: &'a [u64; 64]) -> u64
-    requires { 0 < rank → get_or c.now 0 0 < get_or e.now 0 0 }
-    ensures { result ≡ length_of rank e.now w.now c.now }
+pub fn length_of<'a>(plan: &LentPlan, w: &'a [u64; 64], c: &'a [u64; 64]) -> u64
+    requires { 0 < plan.now.rank → get_or c.now 0 0 < get_or plan.now.extents 0 0 }
+    ensures { result ≡ length_of plan.now w.now c.now }
 {
-    if rank == 0 {
+    if plan.rank == 0 {
         return 1;
     }
-    w[0].min(e[0] - c[0])
+    w[0].min(plan.extents[0] - c[0])
 }
 
-// The strides of axis 0.
-pub fn firsts(rank: usize, operands: usize, s: &[i64; 512]) -> [i64; 8]
-    requires { operands ≤ 8 }
-    ensures { result ≡ firsts_of rank operands s.now }
+// The strides of an axis, one for each operand.
+pub fn column(plan: &LentPlan, axis: usize) -> [i64; 8]
+    requires { axis < 64 }
+    ensures { result ≡ column_to axis plan.now.strides plan.now.operands }
 {
-    let mut inner = [0i64; 8];
-    if rank == 0 {
-        return inner;
+    let mut strides = [0i64; 8];
+    for k in 0..plan.operands {
+        strides[k] = plan.strides[k * 64 + axis];
     }
-    for k in 0..operands {
-        inner[k] = s[k * 64];
+    strides
+}
+
+// Those of axis 0, if there is one.
+pub fn firsts(plan: &LentPlan) -> [i64; 8]
+    ensures { result ≡ firsts_of plan.now }
+{
+    if plan.rank == 0 {
+        return [0i64; 8];
     }
-    inner
+    column(plan, 0)
 }

@@ -1,4 +1,3 @@
-pub mod Fitting
 pub mod Gaps
 pub mod Stairs
 pub mod Octaves

@@ -8,6 +8,8 @@ ghost use Rattle.auxiliary.specs.Stairs.{step_of, steps_to, stair_of};
 
 use super::contributes;
 
+// Kept: `axes ≤ 64`: the axes of a row, of which only the number is left here.
+
 // 1 if of two neighbours the second is larger, or, of falling ones, the first, and the smaller is not 0. Else 0.
 fn step(one: u64, next: u64, falling: bool) -> u64
     requires { (one ≤ 2 ^ 63) × (next ≤ 2 ^ 63) }

@@ -1,6 +1,7 @@
 -- The loop that writes the next blocks: what a turn of it leaves, stretch by stretch, and what all turns have written at the end.
 -- Assumes nothing.
-use mathlib.Core.Path.{◌≡◌, refl, sym, ap, ◌∙◌, transport}
+use mathlib.Core.Path.{◌≡◌, refl, sym, ap, ◌∙◌, subst}
+use Rattle.std.specs.Prelude.{Option, Some, Result, Ok, Err}
 use mathlib.Core.Bool.{Bool, true, false}
 use mathlib.Core.List.{List, ◌++◌, map, map-map, map-append}
 use Prim.Native.Nat.{ℕ, ◌+◌, ◌-◌, ◌*◌, ◌^◌, ◌≤◌, ◌<◌, min}
@@ -10,9 +11,10 @@ use lib.IntN.{ℤ}
 use lib.ListN.{length, take, drop, replicate, length-append, length-drop, length-map, length-replicate}
 use lib.Seq.{paste}
 use Rattle.strided.specs.Base.{over, run}
-use Rattle.strided.specs.Step.{stepped, walk_after}
-use Rattle.strided.specs.Bulk.{next_blocks, lengths_of, offsets_of, laid_on, kept_by, several_of}
-use Rattle.strided.specs.declared.Outcome.TheVariants.{Block}
+use Rattle.strided.specs.Step.{stepped, handed_block, walk_after}
+use Rattle.strided.specs.Bulk.{next_blocks, lengths_of, offsets_of, laid_on, written, several_by, several_of}
+use Rattle.strided.specs.declared.Refusal.{Refusal}
+use Rattle.strided.specs.declared.Block.{Block}
 use Rattle.strided.specs.declared.Plan.{Plan}
 use Rattle.strided.specs.declared.Walk.{Walk}
 use Rattle.strided.specs.declared.Stepped.{Stepped}
@@ -20,14 +22,16 @@ use Rattle.strided.specs.declared.Several.{Several}
 use Rattle.laws.specs.Base.Filling.{rows_alike}
 use Rattle.laws.specs.Base.Lists.{over-append, over-map}
 use Rattle.laws.specs.Walk.Placed.{Placed, placed_of}
-use Rattle.advance.specs.Axis.{starts_to}
+use Rattle.advance.specs.declared.State.{State}
+use Rattle.advance.specs.Carry.{state_of}
+use Rattle.advance.specs.Axis.{widths, starts_to}
 use Rattle.advance.specs.Blocks.{length_of}
 use Rattle.strided.specs.Memory.{walk_of}
 use Rattle.walk.specs.Lent.{Taken}
 use Rattle.walk.proofs.Stepping.{block_here}
 use Rattle.walker.specs.declared.Way.{Way}
 use Rattle.walker.specs.declared.Next.{Next}
-use Rattle.walker.specs.Stretch.{block_in, told, sizes}
+use Rattle.walker.specs.Stretch.{block_in, told}
 use Rattle.walker.specs.Way.{Leads, left_of, moves_of, Strides, Passed, Strode}
 use Rattle.walker.proofs.Going.{strode_of}
 use Rattle.walker.proofs.Walked.{Walked, walked_none, walked_left, rows-here, steps_here, walked_blocks, walked_next, walked_laid, walked_fit, walked_all}
@@ -38,31 +42,36 @@ laid_long : {A : Type 0} (xs old : List A) → length xs ≤ length old → leng
 laid_long xs old h = let a = length-append xs (drop (length xs) old) in let b = length-drop (length xs) old in omega (arith, a, b, h)
 
 -- n blocks are written: where the walk stands, and the slices. They were ls₀ and os₀
-pub record Turned (p : Plan) (u : Walk) (y : Way) (w ls₀ : List ℕ) (os₀ : List ℤ) (n : ℕ) (t c : List ℕ) (o : List ℤ) (ls : List ℕ) (os : List ℤ) : Type 0 where
-  pub walked : Walked p u y w n true t c o
+pub record Turned (p : Plan) (u : Walk) (y : Way) (w ls₀ : List ℕ) (os₀ : List ℤ) (n : ℕ) (at : State) (ls : List ℕ) (os : List ℤ) : Type 0 where
+  pub walked : Walked p u y w n true at
   pub long : length (offsets_of p.operands (next_blocks n p u)) ≡ n * p.operands
   pub lengths : ls ≡ laid_on (lengths_of (next_blocks n p u)) ls₀
   pub offsets : os ≡ laid_on (offsets_of p.operands (next_blocks n p u)) os₀
 
-pub turned_none : {p : Plan} {y : Way} {w ls : List ℕ} {os : List ℤ} → w ≡ sizes p → Leads y p.rank p.operands p.extents w → {c : List ℕ} {o : List ℤ} → Taken p (walk_of false c o)
-    → {t : List ℕ} → t ≡ starts_to w c p.rank → Turned p (walk_of false c o) y w ls os 0 t c o ls os
+pub turned_none : {p : Plan} {y : Way} {w ls : List ℕ} {os : List ℤ} → w ≡ widths p → Leads y p w → {c : List ℕ} {o : List ℤ} → Taken p (walk_of false c o)
+    → {t : List ℕ} → t ≡ starts_to w c p.rank → Turned p (walk_of false c o) y w ls os 0 (state_of t c o) ls os
 turned_none {p} is l k e = record { walked = walked_none is l k e; long = omega arith; lengths = refl; offsets = refl }
+
+-- many steps, where the first hands out a block
+several_some : (s : Result Stepped Refusal) {b : Block} → handed_block s ≡ Some b → (n : ℕ) (v : Walk) → several_by s n v ≡ Ok (handed n v)
+several_some (Ok s) e n v = ap (λ (o : Option Block). Ok (record { blocks = written o n; walk = v })) e
+several_some (Err r) e n v = let z : ◌≡◌ {A = ℕ} 0 1 = cc e in absurd (omega arith)
 
 -- what is returned after n blocks
 returned : {p : Plan} {u : Walk} (room n : ℕ) {v : Walk} → Taken p u → u.ended ≡ false → next_blocks room p u ≡ next_blocks n p u → length (next_blocks n p u) ≡ n → v ≡ walk_after p n u
-    → handed n v ≡ several_of p u (next_blocks room p u)
+    → Ok (handed n v) ≡ several_of p u (next_blocks room p u)
 returned {p} {u} room n {v} k h e l f =
-    let a : Block ≡ (stepped p u).answer = sym (block_here p u k h) in
     let c : n ≡ length (next_blocks room p u) = sym (ap length e ∙ l) in
     let g : v ≡ walk_after p (length (next_blocks room p u)) u = f ∙ ap (λ (m : ℕ). walk_after p m u) c in
-    λ i. record { answer = a i; count = c i; walk = kept_by (a i) (g i) }
+    (λ i. Ok (record { blocks = Some (c i); walk = g i }))
+    ∙ sym (several_some (stepped p u) (block_here p u k h) (length (next_blocks room p u)) (walk_after p (length (next_blocks room p u)) u))
 
-module _ {p : Plan} {u : Walk} {y : Way} {w ls₀ : List ℕ} {os₀ : List ℤ} {n : ℕ} {t c : List ℕ} {o : List ℤ} {ls : List ℕ} {os : List ℤ} (d : Turned p u y w ls₀ os₀ n t c o ls os)
+module _ {p : Plan} {u : Walk} {y : Way} {w ls₀ : List ℕ} {os₀ : List ℤ} {n : ℕ} {at : State} {ls : List ℕ} {os : List ℤ} (d : Turned p u y w ls₀ os₀ n at ls os)
     {room : ℕ} (fits : HasRoom room p.operands ls₀ os₀) where
   module _ (h : n ≤ room) where
     pub turned-many : length ls ≡ length ls₀
     turned-many =
-        let a = length-map (next_blocks n p u) (λ (s : Stepped). s.length) in
+        let a = length-map (next_blocks n p u) (λ (s : Block). s.length) in
         let b = d.walked.full in
         let f = fits.lengths in
         ap length d.lengths ∙ laid_long (lengths_of (next_blocks n p u)) ls₀ (omega (arith, a, b, f, h))
@@ -75,7 +84,7 @@ module _ {p : Plan} {u : Walk} {y : Way} {w ls₀ : List ℕ} {os₀ : List ℤ}
         ap length d.offsets ∙ laid_long (offsets_of p.operands (next_blocks n p u)) os₀ (omega (arith, a, b, f))
 
   -- some blocks of the stretch at the state
-  module _ (h : n < room) {left count : ℕ} (left_is : left ≡ left_of y p.extents w c) (count-is : count ≡ min (room - n) left) where
+  module _ (h : n < room) {left count : ℕ} (left_is : left ≡ left_of y p w at.counters) (count-is : count ≡ min (room - n) left) where
     below : n ≤ room
     below = omega arith
 
@@ -96,7 +105,7 @@ module _ {p : Plan} {u : Walk} {y : Way} {w ls₀ : List ℕ} {os₀ : List ℤ}
         omega (arith, b, f, m)
 
     -- what `put_rows` asks; the moves as `moves_of` tells them
-    pub may-put : {d' : List ℤ} → d' ≡ moves_of y y.operands p.strides → room < 2 ^ 63 → MayPut count p.operands n d' o os
+    pub may-put : {d' : List ℤ} → d' ≡ moves_of y p → room < 2 ^ 63 → MayPut count p.operands n d' at.offsets os
     may-put d-is g = record {
       small = let k = count_fits in omega (arith, k, g);
       room = places;
@@ -105,32 +114,35 @@ module _ {p : Plan} {u : Walk} {y : Way} {w ls₀ : List ℕ} {os₀ : List ℤ}
     }
 
   -- a stretch of them
-  module _ (h : n < room) {r : Next} {first : List ℤ} {t' c' : List ℕ} {o' : List ℤ} (x : Strode y (room - n) p.extents w p.strides c o r first t' c' o') where
+  module _ (h : n < room) {r : Next} {first : List ℤ} {at' : State} (x : Strode y (room - n) p w at r first at') where
+    abbrev here : Walk
+    here = walk_of false at.counters at.offsets
+
     -- the moves, as `moves_of` tells them
-    module _ {d' : List ℤ} (d-is : d' ≡ moves_of y y.operands p.strides) where
-      lengths_of_lem : lengths_of (next_blocks r.count p (walk_of false c o)) ≡ replicate r.count r.length
+    module _ {d' : List ℤ} (d-is : d' ≡ moves_of y p) where
+      lengths_of_lem : lengths_of (next_blocks r.count p here) ≡ replicate r.count r.length
       lengths_of_lem =
-          sym (map-map (λ (z : Placed). z.length) (placed_of p.operands) (next_blocks r.count p (walk_of false c o)))
+          sym (map-map (λ (z : Placed). z.length) (placed_of p.operands) (next_blocks r.count p here))
           ∙ ap (map (λ (z : Placed). z.length)) (walked_laid d.walked x d-is)
           ∙ map-map (λ (z : Placed). z.length) (block_in (told p.operands r first d')) (run 0 r.count)
           ∙ rows_alike r.length 0 r.count
 
-      offsets_of_lem : offsets_of p.operands (next_blocks r.count p (walk_of false c o)) ≡ rows_for r.count p.operands d' first
+      offsets_of_lem : offsets_of p.operands (next_blocks r.count p here) ≡ rows_for r.count p.operands d' first
       offsets_of_lem =
-          sym (over-map (placed_of p.operands) (next_blocks r.count p (walk_of false c o)) (λ (z : Placed). z.offsets))
+          sym (over-map (placed_of p.operands) (next_blocks r.count p here) (λ (z : Placed). z.offsets))
           ∙ ap (λ (l : List Placed). over l (λ (z : Placed). z.offsets)) (walked_laid d.walked x d-is)
           ∙ over-map (block_in (told p.operands r first d')) (run 0 r.count) (λ (z : Placed). z.offsets)
 
       lengths-next : lengths_of (next_blocks (n + r.count) p u) ≡ lengths_of (next_blocks n p u) ++ replicate r.count r.length
       lengths-next =
           ap lengths_of (walked_blocks d.walked x)
-          ∙ map-append (λ (s : Stepped). s.length) (next_blocks n p u) (next_blocks r.count p (walk_of false c o))
+          ∙ map-append (λ (s : Block). s.length) (next_blocks n p u) (next_blocks r.count p here)
           ∙ ap (λ (l : List ℕ). lengths_of (next_blocks n p u) ++ l) lengths_of_lem
 
       offsets_next : offsets_of p.operands (next_blocks (n + r.count) p u) ≡ offsets_of p.operands (next_blocks n p u) ++ rows_for r.count p.operands d' first
       offsets_next =
           ap (offsets_of p.operands) (walked_blocks d.walked x)
-          ∙ over-append (next_blocks n p u) (next_blocks r.count p (walk_of false c o)) (λ s. take p.operands s.offsets)
+          ∙ over-append (next_blocks n p u) (next_blocks r.count p here) (λ s. take p.operands s.offsets)
           ∙ ap (λ (l : List ℤ). offsets_of p.operands (next_blocks n p u) ++ l) offsets_of_lem
 
       rows-many : length (rows_for r.count p.operands d' first) ≡ r.count * p.operands
@@ -153,7 +165,7 @@ module _ {p : Plan} {u : Walk} {y : Way} {w ls₀ : List ℕ} {os₀ : List ℤ}
             ∙ ap (λ (l : List ℤ). laid_on l os₀) (sym offsets_next)
 
         -- there is a next block
-        pub turned-next : r.more ≡ true → Turned p u y w ls₀ os₀ (n + r.count) t' c' o' ls' os'
+        pub turned-next : r.more ≡ true → Turned p u y w ls₀ os₀ (n + r.count) at' ls' os'
         turned-next g = record {
           walked = rw g at (walked_next d.walked x);
           long =
@@ -165,38 +177,38 @@ module _ {p : Plan} {u : Walk} {y : Way} {w ls₀ : List ℕ} {os₀ : List ℤ}
         }
 
         -- there is none: no later block was left out
-        pub wrote_last : r.more ≡ false → Taken p u → u.ended ≡ false → {a : Several} → a ≡ handed (n + r.count) (walk_of true c' o') → Wrote room p u ls₀ os₀ a ls' os'
+        pub wrote_last : r.more ≡ false → Taken p u → u.ended ≡ false → {a : Several} → a ≡ handed (n + r.count) (walk_of true at'.counters at'.offsets) → Wrote room p u ls₀ os₀ a ls' os'
         wrote_last g k z q =
-            let v : Walked p u y w (n + r.count) false t' c' o' = rw g at (walked_next d.walked x) in
+            let v : Walked p u y w (n + r.count) false at' = rw g at (walked_next d.walked x) in
             let b = count_fits h refl x.count in
             let m : n + r.count + (room - (n + r.count)) ≡ room = omega (arith, b) in
             let same : next_blocks room p u ≡ next_blocks (n + r.count) p u = ap (λ (i : ℕ). next_blocks i p u) (sym m) ∙ walked_all v (room - (n + r.count)) in
             record {
-              several = q ∙ returned room (n + r.count) k z same v.full v.state;
-              lengths = lengths_are ∙ ap (λ (l : List Stepped). laid_on (lengths_of l) ls₀) (sym same);
-              offsets = offsets_are ∙ ap (λ (l : List Stepped). laid_on (offsets_of p.operands l) os₀) (sym same);
+              several = ap Ok q ∙ returned room (n + r.count) k z same v.full v.state;
+              lengths = lengths_are ∙ ap (λ (l : List Block). laid_on (lengths_of l) ls₀) (sym same);
+              offsets = offsets_are ∙ ap (λ (l : List Block). laid_on (offsets_of p.operands l) os₀) (sym same);
             }
 
   -- the slices are full
-  pub wrote_full : n ≡ room → Taken p u → u.ended ≡ false → {a : Several} → a ≡ handed n (walk_of false c o) → Wrote room p u ls₀ os₀ a ls os
+  pub wrote_full : n ≡ room → Taken p u → u.ended ≡ false → {a : Several} → a ≡ handed n (walk_of false at.counters at.offsets) → Wrote room p u ls₀ os₀ a ls os
   wrote_full e k z q =
       let same : next_blocks room p u ≡ next_blocks n p u = ap (λ (i : ℕ). next_blocks i p u) (sym e) in
       record {
-        several = q ∙ returned room n k z same d.walked.full d.walked.state;
-        lengths = d.lengths ∙ ap (λ (l : List Stepped). laid_on (lengths_of l) ls₀) (sym same);
-        offsets = d.offsets ∙ ap (λ (l : List Stepped). laid_on (offsets_of p.operands l) os₀) (sym same);
+        several = ap Ok q ∙ returned room n k z same d.walked.full d.walked.state;
+        lengths = d.lengths ∙ ap (λ (l : List Block). laid_on (lengths_of l) ls₀) (sym same);
+        offsets = d.offsets ∙ ap (λ (l : List Block). laid_on (offsets_of p.operands l) os₀) (sym same);
       }
 
 -- ---- past a stretch: at once, or after a hop that was none
 
-module _ {y : Way} {limit : ℕ} {e w : List ℕ} {s : List ℤ} {c : List ℕ} {o : List ℤ} {left len count : ℕ} (a : left ≡ left_of y e w c) (b : len ≡ length_of y.rank e w c) (n : count ≡ min limit left)
-    {more : Bool} {t' c' : List ℕ} {o' : List ℤ} where
-  pub strode_past : Passed y limit e w s c o more t' c' o' → Strode y limit e w s c o (record { count = count; length = len; more = more }) o t' c' o'
-  strode_past p = strode_of a b n refl p
+module _ {y : Way} {limit : ℕ} {p : Plan} {w : List ℕ} {at : State} {left len count : ℕ} (a : left ≡ left_of y p w at.counters) (b : len ≡ length_of p w at.counters) (n : count ≡ min limit left)
+    {more : Bool} {at' : State} where
+  pub strode_past : Passed y limit p w at more at' → Strode y limit p w at (record { count = count; length = len; more = more }) at.offsets at'
+  strode_past h = strode_of a b n refl h
 
-module _ {y : Way} {e w : List ℕ} {s : List ℤ} {t c : List ℕ} {o : List ℤ} {t₁ c₁ : List ℕ} {o₁ : List ℤ} (k : (t₁ ≡ t) × (c₁ ≡ c) × (o₁ ≡ o)) where
-  pub kept_asks : Strides y e w s t c o → {left : ℕ} → left ≡ left_of y e w c → Strides y e w s t₁ c₁ o₁ × (left ≡ left_of y e w c₁)
-  kept_asks m a = (transport (λ i. Strides y e w s (sym k.0 i) (sym k.1 i) (sym k.2 i)) m, a ∙ ap (left_of y e w) (sym k.1))
+module _ {y : Way} {p : Plan} {w : List ℕ} {at at₁ : State} (k : at₁ ≡ at) where
+  pub kept_asks : Strides y p w at → {left : ℕ} → left ≡ left_of y p w at.counters → Strides y p w at₁ × (left ≡ left_of y p w at₁.counters)
+  kept_asks m a = (subst (Strides y p w) (sym k) m, a ∙ ap (λ (x : State). left_of y p w x.counters) (sym k))
 
-  pub kept_passed : {limit : ℕ} {more : Bool} {t' c' : List ℕ} {o' : List ℤ} → Passed y limit e w s c₁ o₁ more t' c' o' → Passed y limit e w s c o more t' c' o'
-  kept_passed {limit} {more} {t'} {c'} {o'} p = transport (λ i. Passed y limit e w s (k.1 i) (k.2 i) more t' c' o') p
+  pub kept_passed : {limit : ℕ} {more : Bool} {at' : State} → Passed y limit p w at₁ more at' → Passed y limit p w at more at'
+  kept_passed {limit} {more} {at'} h = subst (λ (x : State). Passed y limit p w x more at') k h

@@ -1,25 +1,18 @@
 -- What writing the next blocks of a walk asks, and what it leaves.
 -- Assumes nothing.
-use Rattle.std.specs.Prelude.{◌≡◌, List, ℕ, ◌+◌, ◌*◌, ◌^◌, ◌≤◌, ◌<◌, ℤ, pos, ◌+ℤ◌, ◌*ℤ◌, length, get_or, take}
+use Rattle.std.specs.Prelude.{◌≡◌, List, ℕ, ◌+◌, ◌*◌, ◌^◌, ◌≤◌, ◌<◌, ℤ, pos, ◌+ℤ◌, ◌*ℤ◌, length, get_or, take, Some, Ok}
 use Rattle.std.specs.Int.{w64}
 use Rattle.std.proofs.Common.{SFits}
 use Rattle.strided.specs.Base.{over, run}
-use Rattle.strided.specs.Begin.{no_walk}
 use Rattle.strided.specs.Bulk.{next_blocks, lengths_of, offsets_of, laid_on, several_of}
-use Rattle.strided.specs.declared.Refusal.{Refusal}
-use Rattle.strided.specs.declared.Outcome.TheVariants.{Block, Rejected}
 use Rattle.strided.specs.declared.Plan.{Plan}
 use Rattle.strided.specs.declared.Walk.{Walk}
 use Rattle.strided.specs.declared.Several.{Several}
 use Rattle.walker.specs.Stretch.{moved_on, RowsFit}
 
--- "A refusal carries its number and nothing else."
-abbrev pub not_several : Refusal → Several
-not_several r = record { answer = Rejected r; count = 0; walk = no_walk }
-
 -- n blocks were written, and the walk stands at w
 abbrev pub handed : ℕ → Walk → Several
-handed n w = record { answer = Block; count = n; walk = w }
+handed n w = record { blocks = Some n; walk = w }
 
 -- two slices have room for n blocks
 pub record HasRoom (n operands : ℕ) (ls : List ℕ) (os : List ℤ) : Type 0 where
@@ -28,7 +21,7 @@ pub record HasRoom (n operands : ℕ) (ls : List ℕ) (os : List ℤ) : Type 0 w
 
 -- the next n blocks of the walk w were written to the slices ls and os, which are now ls' and os'
 pub record Wrote (n : ℕ) (p : Plan) (w : Walk) (ls : List ℕ) (os : List ℤ) (r : Several) (ls' : List ℕ) (os' : List ℤ) : Type 0 where
-  pub several : r ≡ several_of p w (next_blocks n p w)
+  pub several : Ok r ≡ several_of p w (next_blocks n p w)
   pub lengths : ls' ≡ laid_on (lengths_of (next_blocks n p w)) ls
   pub offsets : os' ≡ laid_on (offsets_of p.operands (next_blocks n p w)) os
 

@@ -4,39 +4,22 @@
 ghost use Rattle.std.specs.Prelude.{◌≡◌, false, ◌+◌, ◌*◌, ◌≤◌, ◌<◌, length, replicate};
 ghost use Rattle.std.proofs.Math.Seq.{paste};
 ghost use Rattle.strided.specs.Bulk.{room_for, many_of, stepped_many};
-ghost use Rattle.strided.specs.Memory.{plan_of, walk_of};
+ghost use Rattle.strided.specs.Memory.{walk_of};
 ghost use Rattle.walk.specs.Lent.{Taken};
-ghost use Rattle.bulk.specs.Blocks.{not_several, handed, HasRoom, Wrote, row_at, rows_for, RowFits, MayPut};
+ghost use Rattle.bulk.specs.Blocks.{handed, HasRoom, Wrote, row_at, rows_for, RowFits, MayPut};
 
-use advance::{tile_starts, widths};
-use strided::{Outcome, Plan, Refusal, Several, Walk};
+use advance::{State, tile_starts, widths};
+use layout::LentPlan;
+use strided::{Plan, Refusal, Several, Walk};
 use walk::answer_of;
 use walker::{go_behind, hop, moves_of, stretch_here, way_of};
 
-// "A refusal carries its number and nothing else."
-fn rejected(refusal: Refusal) -> Several
-    ensures { result ≡ not_several refusal }
-{
-    let counters = [0u64; 64];
-    let offsets = [0i64; 8];
-    Several {
-        answer: Outcome::Rejected(refusal),
-        count: 0,
-        walk: Walk {
-            ended: false,
-            counters,
-            offsets,
-        },
-    }
-}
-
 // Blocks were written, and the walk stands there.
-fn blocks_written(count: usize, ended: bool, counters: [u64; 64], offsets: [i64; 8]) -> Several
-    ensures { result ≡ handed count (walk_of ended counters offsets) }
+fn blocks_written(blocks: usize, ended: bool, counters: [u64; 64], offsets: [i64; 8]) -> Several
+    ensures { result ≡ handed blocks (walk_of ended counters offsets) }
 {
     Several {
-        answer: Outcome::Block,
-        count,
+        blocks: Some(blocks),
         walk: Walk {
             ended,
             counters,
@@ -46,29 +29,28 @@ fn blocks_written(count: usize, ended: bool, counters: [u64; 64], offsets: [i64;
 }
 
 // How many blocks two slices of so many places have room for.
-fn room_for(operands: usize, lengths: usize, offsets: usize) -> usize
-    requires { 0 < operands }
-    ensures { result ≡ room_for operands lengths offsets }
+fn room_for(plan: &LentPlan, lengths: usize, offsets: usize) -> usize
+    ensures { result ≡ room_for plan.now.operands lengths offsets }
 {
-    let blocks = offsets / operands;
+    let blocks = offsets / plan.operands;
     lengths.min(blocks)
 }
 
 // The offsets of block j of a stretch, operand by operand, from place `at` on: each is its place of `o` and j times its place of `d`.
 fn put_row<'a>(
-    operands: usize,
+    plan: &LentPlan,
     at: usize,
     j: usize,
     d: &'a [i64; 8],
     o: &'a [i64; 8],
     offsets: &mut [i64],
 )
-    requires row_fits { RowFits j operands d.now o.now }
-    requires operands_in_bounds { at + operands ≤ length offsets.old }
-    ensures { offsets.new ≡ paste offsets.old at (row_at operands d.now o.now j) operands }
+    requires row_fits { RowFits j plan.now.operands d.now o.now }
+    requires operands_in_bounds { at + plan.now.operands ≤ length offsets.old }
+    ensures { offsets.new ≡ paste offsets.old at (row_at plan.now.operands d.now o.now j) plan.now.operands }
 {
     let times = j as i64;
-    for k in 0..operands {
+    for k in 0..plan.operands {
         offsets[at + k] = o[k] + times * d[k];
     }
 }
@@ -81,121 +63,90 @@ fn put_lengths(count: usize, at: usize, len: u64, lengths: &mut [u64])
     lengths[at..at + count].fill(len);
 }
 
-// The offsets of `count` blocks, from block `at` on: those of the first stand in `o`, and each moves on by its place of `d`.
+// The offsets of so many blocks, from block `at` on: those of the first stand in `o`, and each moves on by its place of `d`.
 fn put_rows<'a>(
-    count: usize,
-    operands: usize,
+    blocks: usize,
+    plan: &LentPlan,
     at: usize,
     d: &'a [i64; 8],
     o: &'a [i64; 8],
     offsets: &mut [i64],
 )
-    requires { MayPut count operands at d.now o.now offsets.old }
-    ensures { offsets.new ≡ paste offsets.old (at * operands) (rows_for count operands d.now o.now) (count * operands) }
+    requires { MayPut blocks plan.now.operands at d.now o.now offsets.old }
+    ensures { let m = plan.now.operands in
+        offsets.new ≡ paste offsets.old (at * m) (rows_for blocks m d.now o.now) (blocks * m) }
 {
-    for j in 0..count {
-        put_row(operands, (at + j) * operands, j, d, o, &mut *offsets);
+    for j in 0..blocks {
+        put_row(plan, (at + j) * plan.operands, j, d, o, &mut *offsets);
     }
 }
 
 // Writes the next blocks, at most `most`, from a state that runs, stretch by stretch. It checks nothing.
-fn put_blocks<'a>(
+fn put_blocks(
     most: usize,
-    rank: usize,
-    operands: usize,
-    e: &'a [u64; 64],
-    b: &'a [u64; 64],
-    s: &'a [i64; 512],
+    plan: &LentPlan,
     counters: [u64; 64],
     start: [i64; 8],
     lengths: &mut [u64],
     offsets: &mut [i64],
 ) -> Several
-    requires taken { Taken (plan_of rank operands e.now b.now s.now) (walk_of false counters start) }
-    requires has_room { HasRoom most operands lengths.old offsets.old }
-    ensures { Wrote most (plan_of rank operands e.now b.now s.now) (walk_of false counters start)
+    requires taken { Taken plan.now (walk_of false counters start) }
+    requires has_room { HasRoom most plan.now.operands lengths.old offsets.old }
+    ensures { Wrote most plan.now (walk_of false counters start)
         lengths.old offsets.old result lengths.new offsets.new }
 {
-    let w = widths(rank, e, b);
-    let y = way_of(rank, operands, e, &w);
-    let d = moves_of(y, s);
-    let mut c = counters;
-    let mut o = start;
-    let mut t = tile_starts(rank, &w, &c);
+    let w = widths(plan);
+    let y = way_of(plan, &w);
+    let d = moves_of(y, plan);
+    let mut at = State {
+        tile_starts: tile_starts(plan, &w, &counters),
+        counters,
+        offsets: start,
+    };
     let mut n = 0;
     while n < most {
-        let x = stretch_here(y, e, &w, &t, &c);
+        let x = stretch_here(y, plan, &w, &at);
         let limit = (most - n) as u64;
         let count = limit.min(x.left) as usize;
         put_lengths(count, n, x.length, &mut *lengths);
-        put_rows(count, operands, n, &d, &o, &mut *offsets);
+        put_rows(count, plan, n, &d, &at.offsets, &mut *offsets);
         n += count;
-        if !hop(y, limit, x.left, e, &w, s, &mut t, &mut c, &mut o)
-            && !go_behind(y, limit, x.left, e, &w, s, &mut t, &mut c, &mut o)
+        if !hop(y, limit, x.left, plan, &w, &mut at)
+            && !go_behind(y, limit, x.left, plan, &w, &mut at)
         {
-            return blocks_written(n, true, c, o);
+            return blocks_written(n, true, at.counters, at.offsets);
         }
     }
-    blocks_written(n, false, c, o)
+    blocks_written(n, false, at.counters, at.offsets)
 }
 
-// Many steps, on the arrays of a plan: rows 1 and 2, then row 10, whatever their values; then as many of the next blocks as both slices
-// have room for. Block j's length goes to place j of `lengths`, its offset of operand k to place j * operands + k of `offsets`.
-pub fn step_many_on<'a>(
-    rank: usize,
-    operands: usize,
-    e: &'a [u64; 64],
-    b: &'a [u64; 64],
-    s: &'a [i64; 512],
+// Many steps on a plan that is lent: row 10, whatever the values; then as many of the next blocks as both slices have room for. Block j's
+// length goes to place j of `lengths`, its offset of operand k to place j * operands + k of `offsets`.
+pub fn step_many_on(
+    plan: &LentPlan,
     walk: Walk,
     lengths: &mut [u64],
     offsets: &mut [i64],
-) -> Several
-    ensures { many_of result lengths.new offsets.new
-        ≡ stepped_many (plan_of rank operands e.now b.now s.now) walk lengths.old offsets.old }
+) -> Result<Several, Refusal>
+    ensures { many_of result lengths.new offsets.new ≡ stepped_many plan.now walk lengths.old offsets.old }
 {
     let c = walk.counters;
     let o = walk.offsets;
-    let answer = answer_of(walk.ended, rank, operands, e, b, s, &c, &o);
-    match answer {
-        Outcome::Rejected(refusal) => rejected(refusal),
-        Outcome::Ended => Several {
-            answer: Outcome::Ended,
-            count: 0,
-            walk,
-        },
-        Outcome::Block => {
-            let room = room_for(operands, lengths.len(), offsets.len());
-            put_blocks(
-                room,
-                rank,
-                operands,
-                e,
-                b,
-                s,
-                c,
-                o,
-                &mut *lengths,
-                &mut *offsets,
-            )
-        }
+    if answer_of(plan, walk.ended, &c, &o)? {
+        let room = room_for(plan, lengths.len(), offsets.len());
+        return Ok(put_blocks(room, plan, c, o, &mut *lengths, &mut *offsets));
     }
+    Ok(Several { blocks: None, walk })
 }
 
 // MANY STEPS of a walk, whatever the values of plan and state.
-pub fn step_many(plan: Plan, walk: Walk, lengths: &mut [u64], offsets: &mut [i64]) -> Several
+pub fn step_many(
+    plan: Plan,
+    walk: Walk,
+    lengths: &mut [u64],
+    offsets: &mut [i64],
+) -> Result<Several, Refusal>
     ensures { many_of result lengths.new offsets.new ≡ stepped_many plan walk lengths.old offsets.old }
 {
-    let rank = plan.rank;
-    let operands = plan.operands;
-    step_many_on(
-        rank,
-        operands,
-        &plan.extents,
-        &plan.blocks,
-        &plan.strides,
-        walk,
-        &mut *lengths,
-        &mut *offsets,
-    )
+    step_many_on(&LentPlan::of_plan(&plan)?, walk, lengths, offsets)
 }

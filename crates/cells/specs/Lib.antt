@@ -1,4 +1,4 @@
--- Cells copied between byte buffers: what a copy is (`Copy`), a patch of cells (`Patch`), and what holds of them. Assumes nothing.
+-- Cells copied between byte buffers: what a copy is (`Copy`), a patch of cells (`Patch`, `Patched`), and what holds of them. Assumes nothing.
 --   where cells lie apart the copy of a list is its meaning, whatever the order      Meaning   copied-holds, copied-same, copied_perm
 --   lists in a row are copied one after the other                                    Meaning   copied-append
 --   a patch lists each of its cells, and no other                                    Patches   patch_each, patch_only
@@ -9,6 +9,7 @@ pub mod Meaning
 pub mod Patch
 pub mod Patches
 pub mod Reaching
+pub mod Patched
 pub mod Indexed
 pub mod Offsets
 pub mod Calls

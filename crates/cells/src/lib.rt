@@ -2,16 +2,18 @@
 // copied, is in specs/.
 #![tactic(auto)]
 
-ghost use Rattle.std.specs.Prelude.{◌≡◌, ◌≤◌, ◌<◌, ◌^◌, length};
-ghost use Rattle.cells.specs.Copy.{copied, Apart};
-ghost use Rattle.cells.specs.Patch.{patch_cells, Lies};
+ghost use Rattle.std.specs.Prelude.{◌≡◌};
+ghost use Rattle.cells.specs.Copy.{Apart};
+ghost use Rattle.cells.specs.Patched.{cells_of, copy_of, LieIn};
 
 use packed::{both_down, both_step, copy_down, copy_packed};
+pub use patch::Patch;
 use widths::{copy_fours_by_width, copy_runs_by_width};
 
 pub mod bytes;
 pub mod fours;
 pub mod packed;
+mod patch;
 pub mod patches;
 pub mod runs;
 pub mod widths;
@@ -26,41 +28,33 @@ pub struct Side {
 }
 
 // Whether four runs are better copied at once: they are long, and the lines that a run touches share few sets of the cache.
-fn crowded(n0: u64, to: Side, from: Side) -> bool {
-    16 <= n0 && (to.step0.unsigned_abs() % 512 == 0 || from.step0.unsigned_abs() % 512 == 0)
+fn crowded(patch: Patch) -> bool {
+    16 <= patch.n0
+        && (patch.to.step0.unsigned_abs() % 512 == 0 || patch.from.step0.unsigned_abs() % 512 == 0)
 }
 
-// THE COPY OF A PATCH: n1 runs of n0 cells of `width` bytes, from where they lie in the source to where they lie in the destination.
-pub fn copy_patch(
-    destination: &mut [u8],
-    source: &[u8],
-    n0: u64,
-    n1: u64,
-    width: usize,
-    to: Side,
-    from: Side,
-)
-    requires le_width { (1 ≤ width) × (width ≤ 16) }
-    requires n0_bound { (n0 < 2 ^ 63) × (n1 < 2 ^ 63) }
-    requires lies { Lies width (length destination.old) n0 n1 to }
-    requires lies_2 { Lies width (length source.now) n0 n1 from }
-    requires apart { Apart width (patch_cells n0 n1 to from) }
-    ensures { destination.new ≡ copied width (patch_cells n0 n1 to from) destination.old source.now }
+// THE COPY OF A PATCH, from where its cells lie in the source to where they lie in the destination.
+// Kept: that a patch lies in its buffers, as a clause, here and in the modules below. It is about both lent buffers, and a struct with the
+// destination would hold a `&mut`.
+pub fn copy_patch(destination: &mut [u8], source: &[u8], patch: Patch)
+    requires lies { LieIn patch destination.old source.now }
+    requires apart { Apart patch.width (cells_of patch) }
+    ensures { destination.new ≡ copy_of patch (cells_of patch) destination.old source.now }
 {
-    if n0 == 0 || n1 == 0 {
+    if patch.n0 == 0 || patch.n1 == 0 {
         return;
     }
-    if both_step(width, to.step0, from.step0) {
-        copy_packed(destination, source, n0, n1, width, to, from);
+    if both_step(patch.width, patch.to.step0, patch.from.step0) {
+        copy_packed(destination, source, patch);
         return;
     }
-    if both_down(width, to.step0, from.step0) {
-        copy_down(destination, source, n0, n1, width, to, from);
+    if both_down(patch.width, patch.to.step0, patch.from.step0) {
+        copy_down(destination, source, patch);
         return;
     }
-    if crowded(n0, to, from) {
-        copy_fours_by_width(destination, source, n0, n1, width, to, from);
+    if crowded(patch) {
+        copy_fours_by_width(destination, source, patch);
         return;
     }
-    copy_runs_by_width(destination, source, n0, n1, width, to, from);
+    copy_runs_by_width(destination, source, patch);
 }

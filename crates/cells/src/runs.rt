@@ -3,12 +3,13 @@
 ghost use Rattle.std.specs.Prelude.{◌≡◌, ◌+◌, ◌≤◌, ◌<◌, ◌^◌, pos, ◌+ℤ◌, ◌*ℤ◌, length};
 ghost use Rattle.std.specs.Int.{w64};
 ghost use Rattle.std.proofs.Common.{SFits};
-ghost use Rattle.cells.specs.Copy.{moved, copied};
-ghost use Rattle.cells.specs.Patch.{place, run_cells};
+ghost use Rattle.cells.specs.Copy.{moved};
+ghost use Rattle.cells.specs.Patch.{place};
+ghost use Rattle.cells.specs.Patched.{copy_of, run_of};
 ghost use Rattle.cells.specs.Reaching.{Reaches, CellIn, RunIn};
 
-use super::Side;
 use super::bytes::move_bytes;
+use super::{Patch, Side};
 
 // k steps on from z.
 fn steps_from(z: i64, step: i64, k: u64) -> i64
@@ -31,41 +32,23 @@ pub fn place_of(side: Side, i: u64, j: u64) -> usize
 }
 
 // Cell i of run j.
-pub fn copy_cell(
-    destination: &mut [u8],
-    source: &[u8],
-    i: u64,
-    j: u64,
-    width: usize,
-    to: Side,
-    from: Side,
-)
-    requires width_bound { width ≤ 16 }
-    requires cell_in { CellIn width (length destination.old) to i j }
-    requires cell_in_2 { CellIn width (length source.now) from i j }
-    ensures { destination.new ≡ moved destination.old (place to i j) source.now (place from i j) width }
+pub fn copy_cell(destination: &mut [u8], source: &[u8], patch: Patch, i: u64, j: u64)
+    requires cell_in { CellIn patch.width (length destination.old) patch.to i j }
+    requires cell_in_2 { CellIn patch.width (length source.now) patch.from i j }
+    ensures { destination.new ≡ moved destination.old (place patch.to i j) source.now (place patch.from i j) patch.width }
 {
-    let d = place_of(to, i, j);
-    let s = place_of(from, i, j);
-    move_bytes(destination, d, source, s, width);
+    let d = place_of(patch.to, i, j);
+    let s = place_of(patch.from, i, j);
+    move_bytes(destination, d, source, s, patch.width);
 }
 
-// The first n cells of run j.
-pub fn copy_run(
-    destination: &mut [u8],
-    source: &[u8],
-    n: u64,
-    j: u64,
-    width: usize,
-    to: Side,
-    from: Side,
-)
-    requires width_bound { width ≤ 16 }
-    requires run_in { RunIn width (length destination.old) n j to }
-    requires run_in_2 { RunIn width (length source.now) n j from }
-    ensures { destination.new ≡ copied width (run_cells n to from j) destination.old source.now }
+// The cells of run j.
+pub fn copy_run(destination: &mut [u8], source: &[u8], patch: Patch, j: u64)
+    requires run_in { RunIn patch.width (length destination.old) patch.n0 j patch.to }
+    requires run_in_2 { RunIn patch.width (length source.now) patch.n0 j patch.from }
+    ensures { destination.new ≡ copy_of patch (run_of patch j) destination.old source.now }
 {
-    for i in 0..n {
-        copy_cell(destination, source, i, j, width, to, from);
+    for i in 0..patch.n0 {
+        copy_cell(destination, source, patch, i, j);
     }
 }

@@ -1,11 +1,9 @@
 // Each width has loops of its own, with the width a literal in them.
-ghost use Rattle.std.specs.Prelude.{◌≡◌, ◌≤◌, length};
+ghost use Rattle.std.specs.Prelude.{◌≡◌};
 ghost use Rattle.cells.specs.Calls.{TakesBytes, LeavesBytes};
-ghost use Rattle.cells.specs.Copy.{copied, Apart};
-ghost use Rattle.cells.specs.Patch.{patch_cells};
-ghost use Rattle.cells.specs.Reaching.{PatchIn};
+ghost use Rattle.cells.specs.Patched.{cells_of, copy_of, ReachIn, ApartIn};
 
-use super::Side;
+use super::Patch;
 use super::patches::{copy_fours, copy_runs};
 
 // Hands the destination to `f` with the width, which is a literal at each call.
@@ -35,46 +33,25 @@ fn by_width<F: FnOnce(&mut [u8], usize)>(destination: &mut [u8], width: usize, f
 }
 
 // Run after run.
-pub fn copy_runs_by_width(
-    destination: &mut [u8],
-    source: &[u8],
-    n0: u64,
-    n1: u64,
-    width: usize,
-    to: Side,
-    from: Side,
-)
-    requires width_bound { width ≤ 16 }
-    requires patch_in { PatchIn width (length destination.old) n0 n1 to }
-    requires patch_in_2 { PatchIn width (length source.now) n0 n1 from }
-    ensures { destination.new ≡ copied width (patch_cells n0 n1 to from) destination.old source.now }
+pub fn copy_runs_by_width(destination: &mut [u8], source: &[u8], patch: Patch)
+    requires { ReachIn patch destination.old source.now }
+    ensures { destination.new ≡ copy_of patch (cells_of patch) destination.old source.now }
 {
     by_width(
         destination,
-        width,
-        |d, w| copy_runs(d, source, n0, n1, w, to, from),
+        patch.width,
+        |d, w| copy_runs(d, source, patch.of_width(w)),
     );
 }
 
 // Four runs at once.
-pub fn copy_fours_by_width(
-    destination: &mut [u8],
-    source: &[u8],
-    n0: u64,
-    n1: u64,
-    width: usize,
-    to: Side,
-    from: Side,
-)
-    requires width_bound { width ≤ 16 }
-    requires patch_in { PatchIn width (length destination.old) n0 n1 to }
-    requires patch_in_2 { PatchIn width (length source.now) n0 n1 from }
-    requires apart { Apart width (patch_cells n0 n1 to from) }
-    ensures { destination.new ≡ copied width (patch_cells n0 n1 to from) destination.old source.now }
+pub fn copy_fours_by_width(destination: &mut [u8], source: &[u8], patch: Patch)
+    requires { ApartIn patch destination.old source.now }
+    ensures { destination.new ≡ copy_of patch (cells_of patch) destination.old source.now }
 {
     by_width(
         destination,
-        width,
-        |d, w| copy_fours(d, source, n0, n1, w, to, from),
+        patch.width,
+        |d, w| copy_fours(d, source, patch.of_width(w)),
     );
 }

@@ -5,7 +5,6 @@ use mathlib.Core.List.{List}
 use Prim.Native.Nat.{ℕ, ◌+◌, ◌-◌, ◌≤◌, ◌<◌, ◌^◌}
 use native.Mathlib.Nat.{le_refl, zero-add}
 use native.Mathlib.Omega.{arith}
-use lib.IntN.{ℤ}
 use lib.ListN.{length}
 use Rattle.strided.specs.Base.{sum}
 use Rattle.laws.specs.Base.Ranges.{sum-next, sum_mono}
@@ -14,8 +13,8 @@ use Rattle.laws.specs.Cut.Rising.{before, way_of, adds}
 use Rattle.laws.specs.Cut.Elements.{slab}
 use Rattle.laws.specs.Cut.Tables.{stride_size, reach-sum}
 use Rattle.decline.specs.Reach.{WithinReach}
-use Rattle.decline.specs.Slabs.{slabs_of, InReach, span_to}
-use Rattle.decline.specs.declared.Slabs.{Slabs}
+use Rattle.decline.specs.Slabs.{span_to}
+use Rattle.region.specs.declared.tail.Axes.{Axes}
 
 cond_part : (b : Bool) (x : ℕ) → cond b x 0 ≤ x
 cond_part true x = le_refl x
@@ -35,27 +34,22 @@ module _ (f : ℕ → ℕ) (es : List ℕ) where
       omega (arith, sum-add (way_of f es) 0 cut (rank - cut), ap (sum (way_of f es) 0) e, ap (λ (o : ℕ). sum (way_of f es) o (rank - cut)) (zero-add cut))
 
 -- one axis more, behind the cut, where some axes are passed over
-pub tail-room : (s : Slabs) (strides : List ℤ) (es : List ℕ) (i j : ℕ) → InReach s strides es → s.cut ≤ j → j < s.rank
-    → span_to j s strides es i + way_of (stride_size strides s.operand) es j ≤ 2 ^ 63
-tail-room s strides es i j r h l =
-    let f : ℕ → ℕ = stride_size strides s.operand in
-    let o : ℕ = s.cut in
+pub tail-room : (a : Axes) (k cut w i j : ℕ) → w + sum (way_of (stride_size a.strides.now k) a.extents.now) cut (a.rank - cut) ≤ 2 ^ 63 → cut ≤ j → j < a.rank
+    → span_to j a k cut w i + way_of (stride_size a.strides.now k) a.extents.now j ≤ 2 ^ 63
+tail-room a k cut w i j r h l =
+    let f : ℕ → ℕ = stride_size a.strides.now k in
+    let es : List ℕ = a.extents.now in
     omega (
       arith,
-      r.near,
-      sum_termwise (adds f es i) (way_of f es) (λ j. cond_part (before f i j) (way_of f es j)) o (j - o),
-      sum_step (way_of f es) o j h,
-      sum_mono (way_of f es) o (j + 1 - o) (s.rank - o) (omega arith),
+      r,
+      sum_termwise (adds f es i) (way_of f es) (λ j. cond_part (before f i j) (way_of f es j)) cut (j - cut),
+      sum_step (way_of f es) cut j h,
+      sum_mono (way_of f es) cut (j + 1 - cut) (a.rank - cut) (omega arith),
     )
 
--- a slab over all axes has 1 + reach elements
-pub slabs_in_reach : (sizes : List ℕ) (strides : List ℤ) (es : List ℕ) (cut rank k : ℕ) → WithinReach sizes strides es rank → k < length sizes → cut ≤ rank
-    → InReach (slabs_of sizes cut rank k (slab (stride_size strides k) es cut)) strides es
+-- a slab at the cut and the axes behind it have 1 + reach elements
+pub slab_near : (a : Axes) (k cut : ℕ) → WithinReach a → k < length a.sizes.now → cut ≤ a.rank
+    → slab (stride_size a.strides.now k) a.extents.now cut + sum (way_of (stride_size a.strides.now k) a.extents.now) cut (a.rank - cut) ≤ 2 ^ 63
 unfolding slab
-slabs_in_reach sizes strides es cut rank k r h l =
-    record {
-      few = omega (arith, r.few);
-      inside = l;
-      axes = r.axes;
-      near = omega (arith, r.near k h, reach-sum es strides rank k, cut-room (stride_size strides k) es cut rank l);
-    }
+slab_near a k cut r h l =
+    omega (arith, r k h, reach-sum a.extents.now a.strides.now a.rank k, cut-room (stride_size a.strides.now k) a.extents.now cut a.rank l)

@@ -2,15 +2,12 @@
 -- Assumes nothing.
 use mathlib.Core.Path.{◌≡◌, refl, sym, ap, ◌∙◌, subst}
 use mathlib.Core.Logic.{inl, inr, ⊎_elim}
-use mathlib.Core.Bool.{Bool, true, false, false≢true}
+use mathlib.Core.Bool.{true, false, false≢true}
 use mathlib.Core.List.{List, [], ◌∷◌}
 use Prim.Native.Nat.{ℕ, zero, suc, ◌+◌, ◌-◌, ◌*◌, ◌/◌, ◌%◌, ◌<◌, ◌≤◌}
 use native.Mathlib.Nat.{add-mul, mul_comm, mul-le-mul_right, div-add-mod', mod-lt, div-lt_iff_lt-mul, le-div_iff_mul-le}
 use native.Mathlib.Omega.{arith}
 use lib.ListN.{length, get_or, take, set, length-set}
-use lib.Dec.{eqb}
-use borrow.Author.Tests.{eqb-true, eq-eqb}
-use Rattle.std.specs.List.{IsAnyAnswer}
 use lib.Seq.{get_or-take, length-take-le, get_or-set_same, get_or-set_other}
 use Rattle.laws.specs.Base.Ranges.{below_or}
 use Rattle.distinct.specs.Lists.{In, top, Low, Looked}
@@ -27,15 +24,6 @@ looked_found l n x i h e = record { found = λ q. (i, h, e); missing = λ q. abs
 
 pub looked_missing : (l : List ℕ) (n x i : ℕ) → n ≤ i → Missing l i x → Looked l n x false
 looked_missing l n x i h m = record { found = λ q. absurd (false≢true q); missing = λ q k p e. m k (omega arith) e }
-
--- what the library's look for an element says
-pub looked : (l : List ℕ) (n x : ℕ) (r : Bool) → n ≤ length l → IsAnyAnswer (λ y b. eqb y x ≡ b) (take n l) r → Looked l n x r
-looked l n x true h a =
-    let p : a.0 < n = omega (arith, a.1, length-take-le n l h) in
-    looked_found l n x a.0 p (sym (get_or-take n l a.0 0 p) ∙ eqb-true _ x (a.2 0))
-looked l n x false h a =
-    looked_missing l n x n (omega arith)
-    (λ i p e. false≢true (sym (a i 0 (omega arith) (omega (arith, length-take-le n l h))) ∙ eq-eqb _ x (get_or-take n l i 0 p ∙ e)))
 
 -- ---- places
 

@@ -25,7 +25,9 @@ use Rattle.laws.specs.Walk.Placed.{Placed, placed_from, placed_walk, placed-over
 use Rattle.laws.specs.Walk.Places.{length_pos}
 use Rattle.laws.specs.Walk.Reach.{state-nth}
 use Rattle.laws.specs.Walk.Steps.{Ready, ready, wide}
-use Rattle.advance.specs.Axis.{widths_to, starts_to}
+use Rattle.advance.specs.Axis.{widths, starts_to}
+use Rattle.advance.specs.Carry.{state_of}
+use Rattle.advance.specs.declared.State.{State}
 use Rattle.advance.proofs.Reached.{widths_pos}
 use Rattle.walk.specs.Lent.{Taken}
 use Rattle.walk.proofs.Stepping.{begun_taken, running}
@@ -99,13 +101,13 @@ module _ {p : Plan} {zs : List ℤ} {w to from : ℕ} (h : Copyable p zs w to fr
 
 -- ---- the walk before block n: `now` is the destination, from which what is left makes what all of it makes from `old`
 
-pub record Copies (p : Plan) (zs : List ℤ) (wd : ℕ) (y : Way) (w : List ℕ) (old src : List ℕ) (n : ℕ) (more : Bool) (t c : List ℕ) (o : List ℤ) (now : List ℕ) : Type 0 where
-  pub walked : (u : Walk) × (u ≡ started p zs) × Walked p u y w n more t c o
+pub record Copies (p : Plan) (zs : List ℤ) (wd : ℕ) (y : Way) (w : List ℕ) (old src : List ℕ) (n : ℕ) (more : Bool) (at : State) (now : List ℕ) : Type 0 where
+  pub walked : (u : Walk) × (u ≡ started p zs) × Walked p u y w n more at
   pub long : length now ≡ length old
   pub left : copied wd (over (drop n (placed_walk p zs)) (block_cells wd p.strides)) now src ≡ copied wd (walk_cells wd p zs) old src
 
-pub copies_while : {p : Plan} {zs : List ℤ} {wd : ℕ} {y : Way} {w old src : List ℕ} {n : ℕ} {more b : Bool} {t c : List ℕ} {o : List ℤ} {now : List ℕ}
-    → Copies p zs wd y w old src n more t c o now → more ≡ b → Copies p zs wd y w old src n b t c o now
+pub copies_while : {p : Plan} {zs : List ℤ} {wd : ℕ} {y : Way} {w old src : List ℕ} {n : ℕ} {more b : Bool} {at : State} {now : List ℕ}
+    → Copies p zs wd y w old src n more at now → more ≡ b → Copies p zs wd y w old src n b at now
 copies_while k e = rw e at k
 
 -- at its beginning
@@ -124,24 +126,24 @@ module _ {p : Plan} {zs : List ℤ} {wd to from : ℕ} (h : Copyable p zs wd to 
     pub first_taken : Taken p (walk_of false u.counters u.offsets)
     first_taken = subst (Taken p) (sym running_is) (begun_taken p zs (copy_ready h) h.sized)
 
-    pub widths_some : {w : List ℕ} → w ≡ widths_to p.rank p.extents p.blocks p.rank → (i : ℕ) → i < p.rank → 0 < get_or w i 0
+    pub widths_some : {w : List ℕ} → w ≡ widths p → (i : ℕ) → i < p.rank → 0 < get_or w i 0
     widths_some is i l = rw is (widths_pos p zs (copy_ready h) h.sized i l)
 
-    pub copies_start : {w : List ℕ} → w ≡ widths_to p.rank p.extents p.blocks p.rank → {y : Way} → Leads y p.rank p.operands p.extents w
-        → {t : List ℕ} → t ≡ starts_to w u.counters p.rank → (dst src : List ℕ) → Copies p zs wd y w dst src 0 true t u.counters u.offsets dst
+    pub copies_start : {w : List ℕ} → w ≡ widths p → {y : Way} → Leads y p w
+        → {t : List ℕ} → t ≡ starts_to w u.counters p.rank → (dst src : List ℕ) → Copies p zs wd y w dst src 0 true (state_of t u.counters u.offsets) dst
     unfolding walk_cells
     copies_start ws l f dst src =
         record { walked = (walk_of false u.counters u.offsets, running_is, walked_none ws l first_taken f); long = refl; left = refl }
 
 -- while it runs
-module _ {p : Plan} {zs : List ℤ} {wd : ℕ} {y : Way} {w old src : List ℕ} (h : Copyable p zs wd (length old) (length src)) {n : ℕ} {t c : List ℕ} {o : List ℤ} {now : List ℕ}
-    (k : Copies p zs wd y w old src n true t c o now) where
-  pub copies_asks : Strides y p.extents w p.strides t c o
+module _ {p : Plan} {zs : List ℤ} {wd : ℕ} {y : Way} {w old src : List ℕ} (h : Copyable p zs wd (length old) (length src)) {n : ℕ} {at : State} {now : List ℕ}
+    (k : Copies p zs wd y w old src n true at now) where
+  pub copies_asks : Strides y p w at
   copies_asks = walked_asks k.walked.2
 
   -- a stretch of it
-  module _ {limit : ℕ} (some : 1 ≤ limit) (most : limit < 2 ^ 63) {r : Next} {first : List ℤ} {t' c' : List ℕ} {o' : List ℤ}
-      (x : Strode y limit p.extents w p.strides c o r first t' c' o') {d : List ℤ} (d-is : d ≡ moves_of y y.operands p.strides) where
+  module _ {limit : ℕ} (some : 1 ≤ limit) (most : limit < 2 ^ 63) {r : Next} {first : List ℤ} {at' : State}
+      (x : Strode y limit p w at r first at') {d : List ℤ} (d-is : d ≡ moves_of y p) where
     abbrev S : Stretch
     S = told p.operands r first d
 
@@ -221,7 +223,7 @@ module _ {p : Plan} {zs : List ℤ} {wd : ℕ} {y : Way} {w old src : List ℕ} 
 
     -- it is copied, and the walk is behind it
     pub copies_next : {new : List ℕ} → new ≡ copied wd (stretch_cells wd r.length r.count p.strides d first) now src
-        → Copies p zs wd y w old src (n + r.count) r.more t' c' o' new
+        → Copies p zs wd y w old src (n + r.count) r.more at' new
     copies_next {new} e =
         record {
           walked = (k.walked.0, k.walked.1, walked_next k.walked.2 x);
@@ -246,8 +248,8 @@ module _ {p : Plan} {zs : List ℤ} {wd : ℕ} {y : Way} {w old src : List ℕ} 
     copies_less = let a = within in let b = stretch_some in omega (arith, a, b)
 
 -- at its end nothing is left
-pub copies_end : {p : Plan} {zs : List ℤ} {wd : ℕ} {y : Way} {w old src : List ℕ} → Copyable p zs wd (length old) (length src) → {n : ℕ} {t c : List ℕ} {o : List ℤ} {now : List ℕ}
-    → Copies p zs wd y w old src n false t c o now → now ≡ copied wd (walk_cells wd p zs) old src
+pub copies_end : {p : Plan} {zs : List ℤ} {wd : ℕ} {y : Way} {w old src : List ℕ} → Copyable p zs wd (length old) (length src) → {n : ℕ} {at : State} {now : List ℕ}
+    → Copies p zs wd y w old src n false at now → now ≡ copied wd (walk_cells wd p zs) old src
 unfolding copied
-copies_end {p} {zs} {wd} {y} {w} {old} {src} h {n} {t} {c} {o} {now} k =
+copies_end {p} {zs} {wd} {y} {w} {old} {src} h {n} {at} {now} k =
     sym (ap (λ (l : List Placed). copied wd (over l (block_cells wd p.strides)) now src) (walked_over k.walked.2 (copy_ready h) k.walked.1)) ∙ k.left

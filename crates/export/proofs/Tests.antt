@@ -1,10 +1,10 @@
--- What the tests of rows 17 and 18 ask, and row 18 as the code tests it.
+-- What the test of row 18 asks, and the row as the code tests it.
 -- Assumes nothing.
 use mathlib.Core.Path.{◌≡◌, sym, ap, ◌∙◌, subst}
 use mathlib.Core.Bool.{false, not}
 use mathlib.Core.List.{List}
 use Rattle.std.specs.Prelude.{Option, None, Ok, Err, Result}
-use Prim.Native.Nat.{ℕ, ◌*◌, ◌≤◌, ◌<◌}
+use Prim.Native.Nat.{ℕ, ◌*◌, ◌^◌, ◌≤◌, ◌<◌}
 use native.Mathlib.Nat.{zero-mul, mul-one}
 use native.Mathlib.Omega.{arith}
 use lib.Dec.{ltb, eqb}
@@ -24,10 +24,16 @@ use Rattle.laws.specs.Refusals.Operands.{some_of_none}
 use Rattle.laws.specs.Refusals.Rows.{none_refuses, passes-unless}
 use Rattle.laws.specs.Refusals.Zeros.{row5-total}
 use Rattle.export.specs.Export.{row18, is_no}
-use Rattle.export.specs.Asked.{Held, Marking}
 use Rattle.strided.specs.declared.Mark.{Mark}
 
 -- ---- the mark of operand 0
+
+-- the mark is told of it: rows 1, 3, 5 and 6 pass
+pub record Marking (es : List ℕ) (ss : List ℤ) : Type 0 where
+  pub axes : length es ≤ 64
+  pub there : length es ≤ length ss
+  pub cells : total es < 2 ^ 64
+  pub near : has_zero es ≡ false → reach es (stride_row ss (length es) 0) ≤ max_i
 
 module _ (es : List ℕ) (ss : List ℤ) (h : Marking es ss) where
   first-row : take (length es) ss ≡ stride_row ss (length es) 0
@@ -77,15 +83,9 @@ module _ (es : List ℕ) (ss : List ℤ) (h : Marking es ss) where
 -- ---- what planning's rows have let through
 
 module _ {es sizes : List ℕ} {ss : List ℤ} {u : Purpose} (a : Accepted es sizes ss u) where
-  pub held : (k : ℕ) → k < length sizes → Held es ss k
-  held k l =
-      let f = row_fits k (length es) (length sizes) l in
-      let s = a.strides in
-      record { there = omega (arith, f, s); near = λ q. a.near q k l }
-
   pub marking : Marking es ss
   marking =
-      let o = a.one in
-      let h = held 0 (omega (arith, o)) in
-      let t = h.there in
-      record { axes = a.axes; there = omega (arith, t); cells = a.cells; near = h.near }
+      let o : 0 < length sizes = omega (arith, a.one) in
+      let f = row_fits 0 (length es) (length sizes) o in
+      let s = a.strides in
+      record { axes = a.axes; there = omega (arith, f, s); cells = a.cells; near = λ q. a.near q 0 o }

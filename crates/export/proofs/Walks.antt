@@ -39,6 +39,7 @@ use Rattle.laws.specs.Walk.Offsets.{place_offset}
 use Rattle.laws.specs.Walk.Placed.{Placed, placed_from, placed_walk}
 use Rattle.laws.specs.Walk.Steps.{Ready, ready, wide, as_many, rows-many, cut-many}
 use Rattle.advance.specs.Sized.{Sized}
+use Rattle.layout.specs.Lent.{Whole}
 use Rattle.span.specs.Span.{in_cells}
 use Rattle.cells.specs.Copy.{Pair, pair, In, copied, Clear}
 use Rattle.cells.specs.Meaning.{by_lt, to_eq, from_eq}
@@ -219,6 +220,28 @@ module _ (mc : Machine) (es sizes : List ℕ) (ss : List ℤ) (hp : planning_ref
   pub plan_ready : (zs : List ℤ) → begin_refused p_plan zs ≡ None → Ready p_plan zs
   plan_ready zs b = ready p_plan zs (ap length extents_are ∙ length-extents (plan_axes es (length sizes) ss (PointwiseInto 0)) ∙ sym rank_is) b
 
+  plan_sized : Sized p_plan
+  plan_sized =
+      record {
+        extents-all = plan_extents_lem mc es sizes (plan_axes es (length sizes) ss (PointwiseInto 0)) (PointwiseInto 0);
+        blocks_all = plan_blocks_lem mc es sizes (plan_axes es (length sizes) ss (PointwiseInto 0)) (PointwiseInto 0);
+        strides_all = plan_strides mc es sizes (plan_axes es (length sizes) ss (PointwiseInto 0)) (PointwiseInto 0);
+      }
+
+  -- so that it may be lent
+  pub plan_whole : Whole p_plan
+  plan_whole =
+      let s = plan_sized in
+      let o = planned_operands mc es sizes ss (PointwiseInto 0) hp in
+      record {
+        axes = omega (arith, rank_is, plan_few es sizes ss (PointwiseInto 0) taken);
+        one = omega (arith, o, taken.one);
+        few = omega (arith, o, taken.few);
+        extents-all = s.extents-all;
+        blocks_all = s.blocks_all;
+        strides_all = s.strides_all;
+      }
+
   module _ (zs : List ℤ) (b : begin_refused p_plan zs ≡ None) where
     -- what stands in a block of it
     pub plan_cell : (c : List ℕ) → In c (counters (plan_cut_axes p_plan)) → (k : ℕ) → k < length_at (plan_cut_axes p_plan) c
@@ -273,14 +296,6 @@ module _ (mc : Machine) (es sizes : List ℕ) (ss : List ℤ) (hp : planning_ref
           let s : nat_abs (pos (l - 1) *ℤ t) < n = step_small n o (pos (l - 1) *ℤ t) first (into_block d m (l - 1) (omega (arith, h))) in
           few-cells l (nat_abs t) (width_of sizes) to (subst (λ (k : ℕ). k < to / width_of sizes) (nat_abs_mul (l - 1) t) s) (block_moves d m h) c.some f)
           (λ h. omega (arith, h))
-
-      plan_sized : Sized p_plan
-      plan_sized =
-          record {
-            extents-all = plan_extents_lem mc es sizes (plan_axes es (length sizes) ss (PointwiseInto 0)) (PointwiseInto 0);
-            blocks_all = plan_blocks_lem mc es sizes (plan_axes es (length sizes) ss (PointwiseInto 0)) (PointwiseInto 0);
-            strides_all = plan_strides mc es sizes (plan_axes es (length sizes) ss (PointwiseInto 0)) (PointwiseInto 0);
-          }
 
       -- WHAT THE WALK'S COPY ASKS
       pub plan_copyable : to < 2 ^ 63 → Copyable p_plan zs (width_of sizes) to from

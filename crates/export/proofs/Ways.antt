@@ -29,6 +29,7 @@ use Rattle.laws.specs.Refusals.Record.{planning_layout}
 use Rattle.laws.specs.Refusals.Rows.{served_none, served_is, refused_some}
 use Rattle.laws.specs.Text.Begins.{planned_operands, planned_begins}
 use Rattle.kernel.specs.Made.{Made}
+use Rattle.layout.specs.Lent.{Whole}
 use Rattle.cells.specs.Copy.{moved, copied}
 use Rattle.cells.specs.Offsets.{place_at}
 use Rattle.export.specs.Export.{width_of, exported, cell_rows, copy_refused, copy_done, Done}
@@ -36,7 +37,7 @@ use Rattle.export.specs.Rows.{copy_as_planning, copy_planned, Clean, clean}
 use Rattle.export.specs.Packed.{Plain}
 use Rattle.export.proofs.Plains.{plain_passes, plain_row9, plain_exported}
 use Rattle.export.specs.Blocks.{walk_cells, starts_of, Copyable}
-use Rattle.export.proofs.Walks.{plan_copyable, walk-exported}
+use Rattle.export.proofs.Walks.{plan_whole, plan_copyable, walk-exported}
 
 module _ (mc : Machine) (es sizes : List ℕ) (ss zs : List ℤ) (dst src : List ℕ) where
   -- what the definition says, once it is known what is refused
@@ -80,6 +81,10 @@ module _ (mc : Machine) (es sizes : List ℕ) (ss zs : List ℤ) (dst src : List
         → Done (copy_done mc es sizes ss zs dst src) dst out (Ok tt)
     plain_done p out o =
         served_done (eight p.starts ∙ ap (λ (b : Bool). cond b (Some Offsets) (refused_by cells)) (plain_row9 p) ∙ plain_passes p) (o ∙ sym (plain_exported p dst src))
+
+    -- the plan that is made may be lent
+    pub made_whole : {rank : ℕ} {E B : List ℕ} {S : List ℤ} → Made mc es sizes ss (PointwiseInto 0) rank E B S → Whole (plan_of rank (length sizes) E B S)
+    made_whole made = subst Whole (sym made.is) (plan_whole mc es sizes ss hp)
 
     module _ (many : length zs ≡ length sizes) (rank : ℕ) (E B : List ℕ) (S : List ℤ) (made : Made mc es sizes ss (PointwiseInto 0) rank E B S) where
       abbrev P : Plan
@@ -143,26 +148,23 @@ module _ (mc : Machine) (es sizes : List ℕ) (ss zs : List ℤ) (dst src : List
               pub cells_clean : Clean es sizes ss zs (length dst) (length src)
               cells_clean = clean es sizes ss zs (length dst) (length src) none_refuse
 
-              plan_two : plan_of rank 2 E B S ≡ P
-              plan_two = ap (λ (n : ℕ). plan_of rank n E B S) (sym cells_clean.two) ∙ made.is
-
               starts_back : starts_of w ≡ zs
               starts_back = ap (λ (v : Walk). take 2 v.offsets) walk_is ∙ take_counted (pos 0) 8 2 zs (many ∙ cells_clean.two) (omega arith)
 
               -- what the walk's copy asks
-              pub walk_copyable : length dst < 2 ^ 63 → Copyable (plan_of rank 2 E B S) (starts_of w) (width_of sizes) (length dst) (length src)
+              pub walk_copyable : length dst < 2 ^ 63 → Copyable (plan_of rank (length sizes) E B S) (starts_of w) (width_of sizes) (length dst) (length src)
               walk_copyable f =
-                  subst (λ (p : Plan). Copyable p (starts_of w) (width_of sizes) (length dst) (length src)) (sym plan_two)
+                  subst (λ (p : Plan). Copyable p (starts_of w) (width_of sizes) (length dst) (length src)) (sym made.is)
                   (subst (λ (l : List ℤ). Copyable P l (width_of sizes) (length dst) (length src)) (sym starts_back)
                   (plan_copyable mc es sizes ss hp zs begins (length dst) (length src) cells_clean f))
 
-              pub walk-begun : w ≡ started (plan_of rank 2 E B S) (starts_of w)
-              walk-begun = walk_is ∙ ap₂ started (sym plan_two) (sym starts_back)
+              pub walk-begun : w ≡ started (plan_of rank (length sizes) E B S) (starts_of w)
+              walk-begun = walk_is ∙ ap₂ started (sym made.is) (sym starts_back)
 
               -- and what it leaves
-              pub all_done : (out : List ℕ) → out ≡ copied (width_of sizes) (walk_cells (width_of sizes) (plan_of rank 2 E B S) (starts_of w)) dst src
+              pub all_done : (out : List ℕ) → out ≡ copied (width_of sizes) (walk_cells (width_of sizes) (plan_of rank (length sizes) E B S) (starts_of w)) dst src
                   → Done (copy_done mc es sizes ss zs dst src) dst out (Ok tt)
               all_done out o =
                   served_done (passes ∙ none_refuse)
-                  (o ∙ ap₂ (λ (p : Plan) (l : List ℤ). copied (width_of sizes) (walk_cells (width_of sizes) p l) dst src) plan_two starts_back
+                  (o ∙ ap₂ (λ (p : Plan) (l : List ℤ). copied (width_of sizes) (walk_cells (width_of sizes) p l) dst src) made.is starts_back
                   ∙ walk-exported mc es sizes ss hp zs begins dst src cells_clean)

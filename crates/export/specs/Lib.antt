@@ -9,7 +9,6 @@
 pub mod Export
 pub mod Memory
 pub mod Indices
-pub mod Asked
 pub mod Rows
 pub mod Zeros
 pub mod Blocks

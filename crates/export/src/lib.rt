@@ -9,35 +9,34 @@ ghost use Rattle.strided.specs.declared.Purpose.TheVariants.{PointwiseInto};
 ghost use Rattle.cells.specs.Offsets.{place_at};
 ghost use Rattle.export.specs.Export.{copy_done, Done};
 
-use blocks::{Shape, copy_blocks};
+use asked::Asked;
+use blocks::copy_blocks;
 use cells::bytes::move_pieces;
 use kernel::{Aim, plan_into};
-use layout::check_planning;
+use layout::{LentPlan, check_planning};
 use packed::plain_cells;
 use rows::check_cells;
 use states::begin_on;
 use strided::{Machine, Purpose, Refusal};
 
+pub mod asked;
 pub mod blocks;
 pub mod packed;
 pub mod patch;
 pub mod rows;
 
 // The copy of a layout that planning does not refuse: rows 8, 9, 16, 17 and 18, then the cells, as the plan's walk meets them.
-fn copy_planned<'a, 'b, 'c, 'd>(
-    extents: &'a [u64],
-    sizes: &'a [u64],
-    strides: &'a [i64],
+fn copy_planned(
+    asked: Asked,
     machine: Machine,
-    starts: &'b [i64],
-    destination: &'c mut [u8],
-    source: &'d [u8],
+    destination: &mut [u8],
+    source: &[u8],
 ) -> Result<(), Refusal>
-    requires { planning_refused machine extents.now sizes.now strides.now (PointwiseInto 0) ≡ None }
-    ensures { Done (copy_done machine extents.now sizes.now strides.now starts.now
-        destination.old source.now) destination.old destination.new result }
+    requires { planning_refused machine asked.extents.now asked.sizes.now asked.strides.now (PointwiseInto 0) ≡ None }
+    ensures { let a = asked.entry in Done (copy_done machine a.extents.now a.sizes.now a.strides.now a.starts.now destination.old source.now)
+        destination.old destination.new result }
 {
-    if starts.len() != sizes.len() {
+    if asked.starts.len() != asked.sizes.len() {
         return Err(Refusal::StartCount);
     }
     let mut e = [0u64; 64];
@@ -45,21 +44,26 @@ fn copy_planned<'a, 'b, 'c, 'd>(
     let mut s = [0i64; 512];
     let purpose = Purpose::PointwiseInto(0);
     let aim = Aim { purpose, machine };
-    let rank = plan_into(aim, extents, sizes, strides, &mut e, &mut b, &mut s);
-    let walk = begin_on(rank, sizes.len(), &e, &b, &s, starts)?;
-    check_cells(
-        extents,
-        sizes,
-        strides,
-        starts,
-        destination.len(),
-        source.len(),
-    )?;
-    let shape = Shape {
+    let rank = plan_into(
+        aim,
+        asked.extents,
+        asked.sizes,
+        asked.strides,
+        &mut e,
+        &mut b,
+        &mut s,
+    );
+    let plan = LentPlan {
         rank,
-        width: sizes[0] as usize,
+        operands: asked.sizes.len(),
+        extents: &e,
+        blocks: &b,
+        strides: &s,
     };
-    copy_blocks(shape, walk, &e, &b, &s, destination, source);
+    let walk = begin_on(&plan, asked.starts)?;
+    check_cells(asked, destination.len(), source.len())?;
+    let width = asked.sizes[0] as usize;
+    copy_blocks(&plan, width, walk, destination, source);
     Ok(())
 }
 
@@ -73,61 +77,48 @@ fn first_byte(start: i64, width: usize) -> usize
 
 // The copy of a layout that planning does not refuse: one move of bytes where nothing is refused and the cells lie without gaps, and else
 // by the plan.
-fn copy_accepted<'a, 'b, 'c, 'd>(
-    extents: &'a [u64],
-    sizes: &'a [u64],
-    strides: &'a [i64],
+fn copy_accepted(
+    asked: Asked,
     machine: Machine,
-    starts: &'b [i64],
-    destination: &'c mut [u8],
-    source: &'d [u8],
+    destination: &mut [u8],
+    source: &[u8],
 ) -> Result<(), Refusal>
-    requires { planning_refused machine extents.now sizes.now strides.now (PointwiseInto 0) ≡ None }
-    ensures { Done (copy_done machine extents.now sizes.now strides.now starts.now
-        destination.old source.now) destination.old destination.new result }
+    requires { planning_refused machine asked.extents.now asked.sizes.now asked.strides.now (PointwiseInto 0) ≡ None }
+    ensures { let a = asked.entry in Done (copy_done machine a.extents.now a.sizes.now a.strides.now a.starts.now destination.old source.now)
+        destination.old destination.new result }
 {
     let to = destination.len();
     let from = source.len();
-    let Some(cells) = plain_cells(extents, sizes, strides, starts, to, from) else {
-        return copy_planned(
-            extents,
-            sizes,
-            strides,
-            machine,
-            starts,
-            destination,
-            source,
-        );
+    let Some(cells) = plain_cells(asked, to, from) else {
+        return copy_planned(asked, machine, destination, source);
     };
-    let width = sizes[0] as usize;
-    let d = first_byte(starts[0], width);
-    let s = first_byte(starts[1], width);
+    let width = asked.sizes[0] as usize;
+    let d = first_byte(asked.starts[0], width);
+    let s = first_byte(asked.starts[1], width);
     move_pieces(destination, d, source, s, (cells as usize) * width);
     Ok(())
 }
 
 // THE COPY: rows 1, 2, 3, 24, 5, 6, 8, 9, 16, 17, 18, then the cells. On a refusal the destination keeps every byte.
-pub fn copy<'a, 'b, 'c, 'd>(
+pub fn copy<'a>(
     extents: &'a [u64],
     sizes: &'a [u64],
     strides: &'a [i64],
     machine: Machine,
-    starts: &'b [i64],
-    destination: &'c mut [u8],
-    source: &'d [u8],
+    starts: &'a [i64],
+    destination: &mut [u8],
+    source: &[u8],
 ) -> Result<(), Refusal>
     ensures { Done (copy_done machine extents.now sizes.now strides.now starts.now
         destination.old source.now) destination.old destination.new result }
 {
     let purpose = Purpose::PointwiseInto(0);
     check_planning(extents, sizes, strides, purpose, machine)?;
-    copy_accepted(
+    let asked = Asked {
         extents,
         sizes,
         strides,
-        machine,
         starts,
-        destination,
-        source,
-    )
+    };
+    copy_accepted(asked, machine, destination, source)
 }

@@ -5,7 +5,7 @@ ghost use Rattle.std.proofs.Common.{SFits};
 ghost use Rattle.cells.specs.Copy.{copied};
 ghost use Rattle.export.specs.Blocks.{stretch_cells, Stretching, Bytes, InBytes};
 
-use cells::{Side, copy_patch};
+use cells::{Patch, Side, copy_patch};
 use walker::Next;
 
 // A step in bytes, where there is one to make.
@@ -33,14 +33,14 @@ fn side_of(n0: u64, n1: u64, first: i64, along: i64, on: i64, width: usize) -> S
 }
 
 // The cells of a stretch: `first` has the offsets of its first block, `d` the moves from block to block, and `s` the plan's strides.
-pub fn copy_stretch<'a, 'b, 'c>(
+pub fn copy_stretch(
     x: Next,
     width: usize,
-    s: &'a [i64; 512],
-    d: &'a [i64; 8],
-    first: &'a [i64; 8],
-    destination: &'b mut [u8],
-    source: &'c [u8],
+    s: &[i64; 512],
+    d: &[i64; 8],
+    first: &[i64; 8],
+    destination: &mut [u8],
+    source: &[u8],
 )
     requires { Stretching width (length destination.old) (length source.now) x s.now d.now first.now }
     ensures { destination.new ≡ copied width (stretch_cells width x.length x.count s.now d.now first.now)
@@ -50,5 +50,12 @@ pub fn copy_stretch<'a, 'b, 'c>(
     let n1 = x.count;
     let to = side_of(n0, n1, first[0], s[0], d[0], width);
     let from = side_of(n0, n1, first[1], s[64], d[1], width);
-    copy_patch(destination, source, n0, n1, width, to, from);
+    let patch = Patch {
+        n0,
+        n1,
+        width,
+        to,
+        from,
+    };
+    copy_patch(destination, source, patch);
 }

@@ -8,9 +8,9 @@ use lib.IntN.{ℤ}
 use lib.ListN.{length, get_or}
 use Rattle.strided.specs.Base.{padded}
 use Rattle.strided.specs.Layout.{within, total, extents}
-use Rattle.strided.specs.Refusals.{refused_by, layout_refused, row11}
+use Rattle.strided.specs.Refusals.{refused_by, layout_refused, row11, served_unless}
 use Rattle.strided.specs.Fuse.{plan_axes}
-use Rattle.strided.specs.Index.{original_index, index_in_plan, told_or, told_original, told_plan}
+use Rattle.strided.specs.Index.{original_index, index_in_plan, told, told_original, told_plan}
 use Rattle.strided.specs.Memory.{IndexMemory}
 use Rattle.strided.specs.declared.Purpose.{Purpose}
 use Rattle.strided.specs.declared.Refusal.{Refusal}
@@ -18,7 +18,7 @@ use Rattle.strided.specs.declared.Refusal.TheVariants.{Index}
 use Rattle.strided.specs.declared.Told.{Told}
 use Rattle.laws.specs.Base.Refusals.{layout_counts}
 use Rattle.laws.specs.Refusals.Accepted.{accepted}
-use Rattle.auxiliary.specs.Fitting.{Fitting}
+use Rattle.layout.specs.Fitting.{Fitting}
 use Rattle.finding.specs.Memory.{Leaves}
 use Rattle.finding.specs.Mapped.{Fused, Sound, unraveled_by, raveled_by, unraveled}
 use Rattle.finding.proofs.Maps.{extents_are, unraveled_is, raveled_is}
@@ -31,24 +31,24 @@ same-told {c = c} {x = x} {c' = c'} {x' = x'} {r = r} e l = subst (λ (t : Resul
 -- the code's test b is whether x is an index of the extents
 module _ (es x y : List ℕ) {b : Bool} (is : b ≡ within es x) {old-count old-index : List ℕ} where
   pub leaves : b ≡ true → (n : ℕ) (index : List ℕ) → n ≡ length y → index ≡ padded 64 0 y
-      → Leaves (told_or (refused_by (row11 es x ∷ [])) y) old-count old-index (n ∷ []) index (Ok tt)
+      → Leaves (served_unless (refused_by (row11 es x ∷ [])) (told y)) old-count old-index (n ∷ []) index (Ok tt)
   leaves h n index e f =
       let w : within es x ≡ true = sym is ∙ h in
       record { answer = rw w; memory = rw w (λ i. record { count = e i ∷ []; index = f i }) }
 
-  pub leaves_none : b ≡ false → Leaves (told_or (refused_by (row11 es x ∷ [])) y) old-count old-index old-count old-index (Err Index)
+  pub leaves_none : b ≡ false → Leaves (served_unless (refused_by (row11 es x ∷ [])) (told y)) old-count old-index old-count old-index (Err Index)
   leaves_none h = let w : within es x ≡ false = sym is ∙ h in record { answer = rw w; memory = rw w }
 
 -- ---- through the arrays of a layout's map
 
 module _ {es : List ℕ} {m : ℕ} {ss : List ℤ} {u : Purpose} {order fused : List ℕ} (t : Sound es order fused) (f : Fused es m ss u order fused) where
-  pub tells_original : (cs : List ℕ) → unraveled_by es order fused cs ≡ told_or (refused_by (row11 (extents (plan_axes es m ss u)) cs ∷ [])) (original_index es m ss u cs)
+  pub tells_original : (cs : List ℕ) → unraveled_by es order fused cs ≡ served_unless (refused_by (row11 (extents (plan_axes es m ss u)) cs ∷ [])) (told (original_index es m ss u cs))
   tells_original cs =
-      ap (λ (l : List ℕ). told_or (refused_by (row11 l cs ∷ [])) (unraveled es order fused cs)) (extents_are t.few-axes f)
-      ∙ ap (told_or (refused_by (row11 (extents (plan_axes es m ss u)) cs ∷ []))) (unraveled_is t.few-axes f cs)
+      ap (λ (l : List ℕ). served_unless (refused_by (row11 l cs ∷ [])) (told (unraveled es order fused cs))) (extents_are t.few-axes f)
+      ∙ ap (λ (y : List ℕ). served_unless (refused_by (row11 (extents (plan_axes es m ss u)) cs ∷ [])) (told y)) (unraveled_is t.few-axes f cs)
 
-  pub tells_plan : (is : List ℕ) → raveled_by es order fused is ≡ told_or (refused_by (row11 es is ∷ [])) (index_in_plan es m ss u is)
-  tells_plan is = ap (told_or (refused_by (row11 es is ∷ []))) (raveled_is t.few-axes f is)
+  pub tells_plan : (is : List ℕ) → raveled_by es order fused is ≡ served_unless (refused_by (row11 es is ∷ [])) (told (index_in_plan es m ss u is))
+  tells_plan is = ap (λ (y : List ℕ). served_unless (refused_by (row11 es is ∷ [])) (told y)) (raveled_is t.few-axes f is)
 
 -- ---- the entries: planning's rows first
 
@@ -61,12 +61,12 @@ module _ (es sizes : List ℕ) (ss : List ℤ) (u : Purpose) (h : layout_refused
 
 module _ (es sizes : List ℕ) (ss : List ℤ) (u : Purpose) (x : List ℕ) where
   pub original_passed : layout_refused es sizes ss u ≡ None
-      → told_or (refused_by (row11 (extents (plan_axes es (length sizes) ss u)) x ∷ [])) (original_index es (length sizes) ss u x) ≡ told_original es sizes ss u x
+      → served_unless (refused_by (row11 (extents (plan_axes es (length sizes) ss u)) x ∷ [])) (told (original_index es (length sizes) ss u x)) ≡ told_original es sizes ss u x
   unfolding told_original
   original_passed h = rw h
 
   pub plan_passed : layout_refused es sizes ss u ≡ None
-      → told_or (refused_by (row11 es x ∷ [])) (index_in_plan es (length sizes) ss u x) ≡ told_plan es sizes ss u x
+      → served_unless (refused_by (row11 es x ∷ [])) (told (index_in_plan es (length sizes) ss u x)) ≡ told_plan es sizes ss u x
   unfolding told_plan
   plan_passed h = rw h
 

@@ -8,8 +8,8 @@ use native.Mathlib.Nat.{le_refl, eq-or-lt_of_le}
 use native.Mathlib.Numerals.{add-one}
 use native.Mathlib.Omega.{arith}
 use lib.Dec.{eqb, ltb}
-use lib.ListN.{length, get_or, take, drop, drop_of_length-le}
-use lib.Seq.{drop-cons, get_or-take, length-take-le}
+use lib.ListN.{length, get_or, drop, drop_of_length-le}
+use lib.Seq.{drop-cons}
 use borrow.Author.Tests.{eq-eqb, ne_eqb, lt-ltb, le-ltb, ltb-true}
 use Rattle.strided.specs.Base.{unless}
 use Rattle.strided.specs.Layout.{within}
@@ -95,64 +95,55 @@ extents-few F = go (kept F) F (kept-length F)
     go [] (f ∷ fs) h = omega arith
     go (k ∷ ks) fs h = h
 
--- ---- passing the first n of an array
+-- ---- passing them
 
 -- the axes before i are passed, and j of them are kept
-pub record Passed (fs : List ℕ) (n i j : ℕ) : Type 0 where
-  pub few : i ≤ n
+pub record Passed (fs : List ℕ) (i j : ℕ) : Type 0 where
+  pub few : i ≤ length fs
   pub fewer : j ≤ i
-  pub all : j + length (kept (drop i (take n fs))) ≡ length (kept (take n fs))
+  pub all : j + length (kept (drop i fs)) ≡ length (kept fs)
 
-pub pass_none : (fs : List ℕ) (n : ℕ) → Passed fs n 0 0
-pass_none fs n = record { few = omega arith; fewer = omega arith; all = omega arith }
+pub pass_none : (fs : List ℕ) → Passed fs 0 0
+pass_none fs = record { few = omega arith; fewer = omega arith; all = omega arith }
 
-module _ (fs : List ℕ) (n i j : ℕ) (lf : length fs ≡ 64) (s : n ≤ 64) (p : Passed fs n i j) where
-  long : length (take n fs) ≡ n
-  long = length-take-le n fs (omega arith)
-
-  module _ (h : i < n) where
-    there : i < length (take n fs)
-    there = omega (arith, long)
-
-    same : get_or (take n fs) i 0 ≡ get_or fs i 0
-    same = get_or-take n fs i 0 h
-
-    pub pass_one : get_or fs i 0 ≡ 1 → Passed fs n (i + 1) j
+module _ (fs : List ℕ) (i j : ℕ) (p : Passed fs i j) where
+  module _ (h : i < length fs) where
+    pub pass_one : get_or fs i 0 ≡ 1 → Passed fs (i + 1) j
     pass_one e =
-        let k : length (kept (drop i (take n fs))) ≡ length (kept (drop (suc i) (take n fs))) = ap length (kept-one (take n fs) i there (same ∙ e)) in
+        let k : length (kept (drop i fs)) ≡ length (kept (drop (suc i) fs)) = ap length (kept-one fs i h e) in
         record { few = omega arith; fewer = omega (arith, p.fewer); all = rw (add-one i) (omega (arith, k, p.all)) }
 
-    pub pass_other : (get_or fs i 0 ≡ 1 → ⊥) → Passed fs n (i + 1) (j + 1)
+    pub pass_other : (get_or fs i 0 ≡ 1 → ⊥) → Passed fs (i + 1) (j + 1)
     pass_other f =
-        let k : length (kept (drop i (take n fs))) ≡ suc (length (kept (drop (suc i) (take n fs)))) = ap length (kept_other (take n fs) i there (λ e. f (sym same ∙ e))) in
+        let k : length (kept (drop i fs)) ≡ suc (length (kept (drop (suc i) fs))) = ap length (kept_other fs i h f) in
         record { few = omega arith; fewer = omega (arith, p.fewer); all = rw (add-one i) (omega (arith, k, p.all)) }
 
     -- there is one to keep
-    pub one_kept : (get_or fs i 0 ≡ 1 → ⊥) → kept_extents (take n fs) ≡ kept (take n fs)
+    pub one_kept : (get_or fs i 0 ≡ 1 → ⊥) → kept_extents fs ≡ kept fs
     one_kept f =
-        let k : length (kept (drop i (take n fs))) ≡ suc (length (kept (drop (suc i) (take n fs)))) = ap length (kept_other (take n fs) i there (λ e. f (sym same ∙ e))) in
-        some_kept (take n fs) (omega (arith, k, kept-drop (take n fs) i))
+        let k : length (kept (drop i fs)) ≡ suc (length (kept (drop (suc i) fs))) = ap length (kept_other fs i h f) in
+        some_kept fs (omega (arith, k, kept-drop fs i))
 
   -- all are passed
-  module _ (h : n ≤ i) where
-    nothing : drop i (take n fs) ≡ []
-    nothing = let g : length (take n fs) ≤ i = omega (arith, long) in drop_of_length-le (take n fs) g
+  module _ (h : length fs ≤ i) where
+    nothing : drop i fs ≡ []
+    nothing = drop_of_length-le fs h
 
-    counted : j ≡ length (kept (take n fs))
-    counted = let z : length (kept (drop i (take n fs))) ≡ 0 = ap (λ (l : List ℕ). length (kept l)) nothing in omega (arith, z, p.all)
+    counted : j ≡ length (kept fs)
+    counted = let z : length (kept (drop i fs)) ≡ 0 = ap (λ (l : List ℕ). length (kept l)) nothing in omega (arith, z, p.all)
 
-    pub pass_stays : j ≡ 0 → 0 < n → kept_extents (take n fs) ≡ 1 ∷ []
-    pass_stays e g = none_kept (take n fs) (sym counted ∙ e) (omega (arith, long))
+    pub pass_stays : j ≡ 0 → 0 < length fs → kept_extents fs ≡ 1 ∷ []
+    pass_stays e g = none_kept fs (sym counted ∙ e) g
 
-    pub pass_kept : (j ≡ 0 → ⊥) ⊎ (n ≤ 0) → kept_extents (take n fs) ≡ kept (take n fs)
-    pass_kept (inl f) = some_kept (take n fs) (go j f counted)
+    pub pass_kept : (j ≡ 0 → ⊥) ⊎ (length fs ≤ 0) → kept_extents fs ≡ kept fs
+    pass_kept (inl f) = some_kept fs (go j f counted)
       where
-        go : (j : ℕ) → (j ≡ 0 → ⊥) → j ≡ length (kept (take n fs)) → 0 < length (kept (take n fs))
+        go : (j : ℕ) → (j ≡ 0 → ⊥) → j ≡ length (kept fs) → 0 < length (kept fs)
         go zero f e = absurd (f refl)
         go (suc j) f e = omega arith
-    pass_kept (inr g) = no_axis_lem (take n fs) (omega (arith, long))
+    pass_kept (inr g) = no_axis_lem fs (omega arith)
 
-    pub pass_count : (j ≡ 0 → ⊥) ⊎ (n ≤ 0) → j ≡ length (kept_extents (take n fs))
+    pub pass_count : (j ≡ 0 → ⊥) ⊎ (length fs ≤ 0) → j ≡ length (kept_extents fs)
     pass_count w = counted ∙ ap length (sym (pass_kept w))
 
 -- ---- counters held against them
@@ -165,61 +156,55 @@ held-here f ks cs j = go (le_or_lt (length cs) j)
     go (inr h) = rw (drop-cons cs j 0 h, lt-ltb j (length cs) h)
 
 -- what is left decides the whole
-pub record Held (fs : List ℕ) (n : ℕ) (cs : List ℕ) (i j : ℕ) : Type 0 where
-  pub passed : Passed fs n i j
+pub record Held (fs : List ℕ) (cs : List ℕ) (i j : ℕ) : Type 0 where
+  pub passed : Passed fs i j
   pub there : j ≤ length cs
-  pub rest : within (kept (drop i (take n fs))) (drop j cs) ≡ within (kept (take n fs)) cs
+  pub rest : within (kept (drop i fs)) (drop j cs) ≡ within (kept fs) cs
 
-pub held_none : (fs : List ℕ) (n : ℕ) (cs : List ℕ) → Held fs n cs 0 0
-held_none fs n cs = record { passed = pass_none fs n; there = omega arith; rest = refl }
+pub held_none : (fs : List ℕ) (cs : List ℕ) → Held fs cs 0 0
+held_none fs cs = record { passed = pass_none fs; there = omega arith; rest = refl }
 
-module _ (fs : List ℕ) (n : ℕ) (cs : List ℕ) (i j : ℕ) (lf : length fs ≡ 64) (s : n ≤ 64) (p : Held fs n cs i j) where
-  module _ (h : i < n) where
-    inside : i < length (take n fs)
-    inside = there fs n i j lf s p.passed h
-
-    place : get_or (take n fs) i 0 ≡ get_or fs i 0
-    place = get_or-take n fs i 0 h
-
-    pub held_one : get_or fs i 0 ≡ 1 → Held fs n cs (i + 1) j
+module _ (fs : List ℕ) (cs : List ℕ) (i j : ℕ) (p : Held fs cs i j) where
+  module _ (h : i < length fs) where
+    pub held_one : get_or fs i 0 ≡ 1 → Held fs cs (i + 1) j
     held_one e =
         record {
-          passed = pass_one fs n i j lf s p.passed h e;
+          passed = pass_one fs i j p.passed h e;
           there = p.there;
-          rest = rw (add-one i) (ap (λ (l : List ℕ). within l (drop j cs)) (sym (kept-one (take n fs) i inside (place ∙ e))) ∙ p.rest);
+          rest = rw (add-one i) (ap (λ (l : List ℕ). within l (drop j cs)) (sym (kept-one fs i h e)) ∙ p.rest);
         }
 
     module _ {b : Bool} (is : b ≡ (ltb j (length cs) && ltb (get_or cs j 0) (get_or fs i 0))) (f : get_or fs i 0 ≡ 1 → ⊥) where
-      split : within (kept (take n fs)) cs ≡ (b && within (kept (drop (i + 1) (take n fs))) (drop (j + 1) cs))
+      split : within (kept fs) cs ≡ (b && within (kept (drop (i + 1) fs)) (drop (j + 1) cs))
       split =
           sym p.rest
-          ∙ ap (λ (l : List ℕ). within l (drop j cs)) (kept_other (take n fs) i inside (λ e. f (sym place ∙ e)))
-          ∙ held-here (get_or (take n fs) i 0) (kept (drop (suc i) (take n fs))) cs j
-          ∙ rw (place, ← is, add-one i, add-one j)
+          ∙ ap (λ (l : List ℕ). within l (drop j cs)) (kept_other fs i h f)
+          ∙ held-here (get_or fs i 0) (kept (drop (suc i) fs)) cs j
+          ∙ rw (← is, add-one i, add-one j)
 
-      pub held_other : b ≡ true → Held fs n cs (i + 1) (j + 1)
+      pub held_other : b ≡ true → Held fs cs (i + 1) (j + 1)
       held_other t =
           record {
-            passed = pass_other fs n i j lf s p.passed h f;
+            passed = pass_other fs i j p.passed h f;
             there = omega (arith, ltb-true j (length cs) (front (ltb j (length cs)) (sym is ∙ t)));
-            rest = sym (split ∙ ap (λ (c : Bool). c && within (kept (drop (i + 1) (take n fs))) (drop (j + 1) cs)) t);
+            rest = sym (split ∙ ap (λ (c : Bool). c && within (kept (drop (i + 1) fs)) (drop (j + 1) cs)) t);
           }
         where
           front : (a : Bool) → (a && ltb (get_or cs j 0) (get_or fs i 0)) ≡ true → a ≡ true
           front true e = refl
           front false e = e
 
-      pub held_out : b ≡ false → false ≡ within (kept_extents (take n fs)) cs
+      pub held_out : b ≡ false → false ≡ within (kept_extents fs) cs
       held_out t =
-          sym (ap (λ (l : List ℕ). within l cs) (one_kept fs n i j lf s p.passed h f) ∙ split ∙ ap (λ (c : Bool). c && within (kept (drop (i + 1) (take n fs))) (drop (j + 1) cs)) t)
+          sym (ap (λ (l : List ℕ). within l cs) (one_kept fs i j p.passed h f) ∙ split ∙ ap (λ (c : Bool). c && within (kept (drop (i + 1) fs)) (drop (j + 1) cs)) t)
 
-  module _ (h : n ≤ i) where
+  module _ (h : length fs ≤ i) where
     -- the one axis that stays
-    module _ (e : j ≡ 0) (g : 0 < n) where
-      stays : kept_extents (take n fs) ≡ 1 ∷ []
-      stays = pass_stays fs n i j lf s p.passed h e g
+    module _ (e : j ≡ 0) (g : 0 < length fs) where
+      stays : kept_extents fs ≡ 1 ∷ []
+      stays = pass_stays fs i j p.passed h e g
 
-      pub held-single : length cs ≡ 1 → {b : Bool} → b ≡ (ltb 0 (length cs) && ltb (get_or cs 0 0) 1) → b ≡ within (kept_extents (take n fs)) cs
+      pub held-single : length cs ≡ 1 → {b : Bool} → b ≡ (ltb 0 (length cs) && ltb (get_or cs 0 0) 1) → b ≡ within (kept_extents fs) cs
       held-single q is = is ∙ go cs q ∙ ap (λ (l : List ℕ). within l cs) (sym stays)
         where
           go : (cs : List ℕ) → length cs ≡ 1 → (ltb 0 (length cs) && ltb (get_or cs 0 0) 1) ≡ within (1 ∷ []) cs
@@ -234,16 +219,16 @@ module _ (fs : List ℕ) (n : ℕ) (cs : List ℕ) (i j : ℕ) (lf : length fs �
               bad : suc (suc (length cs)) ≡ 1 → ⊥
               bad q = omega arith
 
-      pub held_several : (length cs ≡ 1 → ⊥) → false ≡ within (kept_extents (take n fs)) cs
+      pub held_several : (length cs ≡ 1 → ⊥) → false ≡ within (kept_extents fs) cs
       held_several q = sym (ap (λ (l : List ℕ). within l cs) stays ∙ other_length (1 ∷ []) cs q)
 
-    pub held_end : (j ≡ 0 → ⊥) ⊎ (n ≤ 0) → {b : Bool} → b ≡ eqb j (length cs) → b ≡ within (kept_extents (take n fs)) cs
+    pub held_end : (j ≡ 0 → ⊥) ⊎ (length fs ≤ 0) → {b : Bool} → b ≡ eqb j (length cs) → b ≡ within (kept_extents fs) cs
     held_end w is =
         is
         ∙ last cs j p.there
-        ∙ ap (λ (l : List ℕ). within (kept l) (drop j cs)) (sym (nothing fs n i j lf s p.passed h))
+        ∙ ap (λ (l : List ℕ). within (kept l) (drop j cs)) (sym (nothing fs i j p.passed h))
         ∙ p.rest
-        ∙ ap (λ (l : List ℕ). within l cs) (sym (pass_kept fs n i j lf s p.passed h w))
+        ∙ ap (λ (l : List ℕ). within l cs) (sym (pass_kept fs i j p.passed h w))
       where
         last : (cs : List ℕ) (j : ℕ) → j ≤ length cs → eqb j (length cs) ≡ within [] (drop j cs)
         last cs j h = go (eq-or-lt_of_le h)

@@ -4,6 +4,7 @@ use mathlib.Core.List.{List, [], ◌∷◌}
 use Prim.Native.Nat.{ℕ, ◌^◌, ◌≤◌, ◌<◌}
 use lib.IntN.{ℤ}
 use lib.ListN.{length, take, replicate}
+use lib.Seq.{get_or-take}
 use Rattle.strided.specs.Base.{padded}
 use Rattle.strided.specs.Layout.{Axis, no_axis, Within, total, axes_of, extents}
 use Rattle.strided.specs.Order.{pick, place, fusing_order}
@@ -19,7 +20,7 @@ use Rattle.laws.specs.Fuse.Radix.{kept}
 use Rattle.laws.specs.Fuse.Maps.{plan_nozero}
 use Rattle.laws.specs.Fuse.Finding.{fusing_length, fusing_below, fusing_total}
 use Rattle.laws.specs.Fuse.Places.{axes_by}
-use Rattle.auxiliary.specs.Fitting.{Fitting}
+use Rattle.layout.specs.Fitting.{Fitting}
 use Rattle.arrange.specs.Axes.{InOrder}
 use Rattle.arrange.specs.Fusing.{take_order, in_order_lem}
 use Rattle.fuse.proofs.Planning.{put-axes}
@@ -29,19 +30,21 @@ use Rattle.finding.specs.Mapped.{Fused, Sound, fused_extents, or_one, kept_exten
 
 module _ (es : List ℕ) (m : ℕ) (ss : List ℤ) (u : Purpose) (fits : Fitting ss (length es) m)
     {order : List ℕ} (is : order ≡ padded 64 0 (fusing_order es m ss u)) where
-  pub ordered : InOrder es m ss order
-  ordered = in_order_lem es m ss u fits.rank-few is fits.operands_few fits.strides_all
+  pub ordered : InOrder (length es) (take (length es) order)
+  ordered = in_order_lem es m ss u fits.rank-few is
 
-  pub fused_made : {E : List ℕ} → E ≡ padded 64 0 (pick 0 es (take (length es) order))
-      → {F : List ℕ} → F ≡ padded 64 0 (extents (fuse (axes_by ss (length es) m order (take (length es) E))))
+  -- the rows that are fused are the layout's
+  pub fused_made : {rs : List ℤ} {p o : ℕ} → rs ≡ ss → p ≡ length es → o ≡ m
+      → {E : List ℕ} → E ≡ padded 64 0 (pick 0 es (take (length es) order))
+      → {F : List ℕ} → F ≡ padded 64 0 (extents (fuse (axes_by rs p o (take (length es) order) (take (length (take (length es) order)) E))))
       → Fused es m ss u order F
-  fused_made put fused =
+  fused_made same pitch operands put fused =
       record {
         order_is = is;
         fused_is =
             fused
             ∙ ap (λ (xs : List Axis). padded 64 0 (extents (fuse xs)))
-            (put-axes ordered put ∙ ap (pick no_axis (axes_of es m ss)) (take_order es m ss u fits.rank-few is));
+            (put-axes es fits ordered same pitch operands put ∙ ap (pick no_axis (axes_of es m ss)) (take_order es m ss u fits.rank-few is));
       }
 
 -- ---- an axis stays where none is kept
@@ -106,13 +109,13 @@ module _ {es : List ℕ} {m : ℕ} {ss : List ℤ} {u : Purpose} {order fused : 
 -- the arrays serve both ways
 pub sound : {es : List ℕ} {m : ℕ} {ss : List ℤ} {u : Purpose} {order fused : List ℕ} → Fitting ss (length es) m → Fused es m ss u order fused
     → total es < 2 ^ 64 → Sound es order fused
-sound {es} {m} {ss} {u} fits f cells =
+sound {es} {m} {ss} {u} {order} fits f cells =
     let t = ordered es m ss u fits f.order_is in
     record {
-      few-axes = t.few-axes;
-      order_long = t.places;
+      few-axes = fits.rank-few;
+      order_long = ap length f.order_is ∙ length-padded 0 64 (fusing_order es m ss u);
       fused_long = ap length f.fused_is ∙ length-padded 0 64 (fused_extents es m ss u);
-      inside = t.inside;
+      inside = λ j h. subst (λ (a : ℕ). a < length es) (get_or-take (length es) order j 0 h) (t.inside j h);
       cells = subst (λ (t : ℕ). t < 2 ^ 64) (sym (ap (λ (l : List ℕ). total (pick 0 es l)) (order_taken fits.rank-few f) ∙ fusing_total es m ss u)) cells;
       positive = λ cs r. plan_nozero es m ss u cs (subst (λ (l : List ℕ). Within l cs) (extents_are fits.rank-few f) r);
     }

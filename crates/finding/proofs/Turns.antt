@@ -17,11 +17,10 @@ use Rattle.strided.specs.Order.{pick, place}
 use Rattle.strided.specs.Index.{hd, tl, unravel, ravel, ravel_step, Raveled}
 use Rattle.laws.specs.Base.Layouts.{within-length}
 use Rattle.laws.specs.Base.Stores.{set-padded, blank-first}
-use Rattle.laws.specs.Order.Picked.{length-place}
+use Rattle.laws.specs.Order.Picked.{length-pick, length-place}
 use Rattle.laws.specs.Fuse.Radix.{kept}
-use Rattle.laws.specs.Fuse.Arrays.{Below, at-below}
+use Rattle.laws.specs.Fuse.Arrays.{Below, at-below, get_d_pick}
 use Rattle.laws.specs.Fuse.Finding.{within-pick}
-use Rattle.arrange.proofs.Turns.{counted, length-picked, at-picked}
 use Rattle.finding.specs.Mapped.{Sound, kept_extents, unraveled, raveled, or_nought, or_one}
 use Rattle.finding.proofs.Kept.{kept-one, kept_other, kept-drop, kept-few, extents-few}
 
@@ -246,10 +245,10 @@ module _ {es order fused : List ℕ} (t : Sound es order fused) where
   F = take (length es) fused
 
   order_counted : length (take (length es) order) ≡ length es
-  order_counted = counted order n t.order_long t.few-axes
+  order_counted = length-take-le n order (omega (arith, t.order_long, t.few-axes))
 
   extents_counted : length (pick 0 es (take (length es) order)) ≡ length es
-  extents_counted = length-picked order n t.order_long t.few-axes 0 es
+  extents_counted = length-pick 0 es o ∙ order_counted
 
   pub fused_counted : length (take (length es) fused) ≡ length es
   fused_counted = length-take-le n fused (omega (arith, t.fused_long, t.few-axes))
@@ -266,7 +265,7 @@ module _ {es order fused : List ℕ} (t : Sound es order fused) where
     order_at = get_or-take n order i 0 h
 
     extent_at : get_or (pick 0 es (take (length es) order)) i 0 ≡ get_or es (get_or order i 0) 0
-    extent_at = at-picked order n t.order_long t.few-axes 0 es i h
+    extent_at = get_d_pick 0 es o i (omega (arith, order_counted)) ∙ ap (λ (a : ℕ). get_or es a 0) order_at
 
     fused_at_lem : get_or (take (length es) fused) i 0 ≡ get_or fused i 0
     fused_at_lem = get_or-take n fused i 0 h
@@ -310,7 +309,7 @@ module _ {es order fused : List ℕ} (t : Sound es order fused) where
   -- ---- and back
 
   index_counted : (is : List ℕ) → length (pick 0 is (take (length es) order)) ≡ length es
-  index_counted is = length-picked order n t.order_long t.few-axes 0 is
+  index_counted is = length-pick 0 is o ∙ order_counted
 
   pub raveled_long : (is : List ℕ) → length (kept_extents (take (length es) fused)) ≡ length (raveled es order fused is)
   raveled_long is =
@@ -347,7 +346,7 @@ module _ {es order fused : List ℕ} (t : Sound es order fused) where
       sum-here = z * get_or es (get_or order (i - 1) 0) 0 + get_or is (get_or order (i - 1) 0) 0
 
       index_at : get_or (pick 0 is (take (length es) order)) (i - 1) 0 ≡ get_or is (get_or order (i - 1) 0) 0
-      index_at = at-picked order n t.order_long t.few-axes 0 is (i - 1) here
+      index_at = get_d_pick 0 is o (i - 1) (omega (arith, order_counted, here)) ∙ ap (λ (a : ℕ). get_or is a 0) (get_or-take n order (i - 1) 0 here)
 
       next : Done es order fused is (suc (i - 1)) j z out
       next =

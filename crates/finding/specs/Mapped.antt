@@ -1,11 +1,12 @@
 -- The map between a layout's indices and its plan's: what it is of a layout, and what the two ways through it tell. Assumes nothing.
 use Rattle.std.specs.Prelude.{◌≡◌, List, [], ◌∷◌, ℕ, ◌^◌, ◌≤◌, ◌<◌, ℤ, length, get_or, take, replicate, Result}
+use Rattle.std.proofs.Props.{props}
 use Rattle.strided.specs.Base.{padded}
 use Rattle.strided.specs.Layout.{no_axis, NoZero, Within, total, axes_of, extents}
-use Rattle.strided.specs.Refusals.{refused_by, row11}
+use Rattle.strided.specs.Refusals.{refused_by, row11, served_unless}
 use Rattle.strided.specs.Order.{pick, place, fusing_order}
 use Rattle.strided.specs.Fuse.{fuse, plan_axes}
-use Rattle.strided.specs.Index.{ravel, unravel, original_index, index_in_plan, told_or}
+use Rattle.strided.specs.Index.{ravel, unravel, original_index, index_in_plan, told}
 use Rattle.strided.specs.declared.Purpose.{Purpose}
 use Rattle.strided.specs.declared.Told.{Told}
 use Rattle.laws.specs.Fuse.Radix.{kept}
@@ -61,10 +62,10 @@ module _ (es order fused : List ℕ) where
 
   -- row 11 is judged on the plan's extents one way, on the layout's own the other
   abbrev pub unraveled_by : List ℕ → Result Told Refusal
-  unraveled_by cs = told_or (refused_by (row11 (kept_extents F) cs ∷ [])) (unraveled cs)
+  unraveled_by cs = served_unless (refused_by (row11 (kept_extents F) cs ∷ [])) (told (unraveled cs))
 
   abbrev pub raveled_by : List ℕ → Result Told Refusal
-  raveled_by is = told_or (refused_by (row11 es is ∷ [])) (raveled is)
+  raveled_by is = served_unless (refused_by (row11 es is ∷ [])) (told (raveled is))
 
   -- what the arrays must be for that
   pub record Sound : Type 0 where
@@ -75,6 +76,14 @@ module _ (es order fused : List ℕ) where
     pub cells : total (pick 0 es (take (length es) order)) < 2 ^ 64
     pub positive : (cs : List ℕ) → Within (kept_extents (take (length es) fused)) cs → NoZero es
 
+-- a fact, and no value
+no_zero_prop : (es : List ℕ) → IsProp (NoZero es)
+no_zero_prop [] = hlevel props
+no_zero_prop (e ∷ es) = hlevel (props, no_zero_prop es)
+
+pub sound_prop : (es order fused : List ℕ) → IsProp (Sound es order fused)
+sound_prop es order fused = hlevel (props, no_zero_prop es)
+
 -- ---- through a map
 
 pub record Usable (es : List ℕ) (map : Map) : Type 0 where
@@ -83,7 +92,7 @@ pub record Usable (es : List ℕ) (map : Map) : Type 0 where
 
 -- what index finding tells of a layout that is not refused
 abbrev pub found_original : List ℕ → ℕ → List ℤ → Purpose → List ℕ → Result Told Refusal
-found_original es m ss u cs = told_or (refused_by (row11 (extents (plan_axes es m ss u)) cs ∷ [])) (original_index es m ss u cs)
+found_original es m ss u cs = served_unless (refused_by (row11 (extents (plan_axes es m ss u)) cs ∷ [])) (told (original_index es m ss u cs))
 
 -- the index that is told is index finding's, of whatever layout it is the map
 abbrev pub TellsOriginal : List ℕ → Map → List ℕ → List ℕ → List ℕ → List ℕ → List ℕ → Result (Unit {0}) Refusal → Type 0
@@ -93,4 +102,4 @@ TellsOriginal es map cs c x c' x' r =
 abbrev pub TellsPlan : List ℕ → Map → List ℕ → List ℕ → List ℕ → List ℕ → List ℕ → Result (Unit {0}) Refusal → Type 0
 TellsPlan es map is c x c' x' r =
     (m : ℕ) (ss : List ℤ) (u : Purpose) → Mapped es m ss u map
-    → Leaves (told_or (refused_by (row11 es is ∷ [])) (index_in_plan es m ss u is)) c x c' x' r
+    → Leaves (served_unless (refused_by (row11 es is ∷ [])) (told (index_in_plan es m ss u is))) c x c' x' r

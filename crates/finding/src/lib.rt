@@ -5,11 +5,11 @@
 ghost use Rattle.std.specs.Prelude.{◌≡◌, ◌^◌, ◌<◌, length, take, replicate};
 ghost use Rattle.strided.specs.Layout.{total};
 ghost use Rattle.strided.specs.Index.{told_original, told_plan};
-ghost use Rattle.auxiliary.specs.Fitting.{Fitting};
-ghost use Rattle.finding.specs.Mapped.{Fused, Mapped, Sound, Usable, kept_extents, unraveled_by, raveled_by, found_original, TellsOriginal, TellsPlan};
+ghost use Rattle.finding.specs.Mapped.{Fused, Mapped, Usable, kept_extents, unraveled_by, raveled_by, found_original, TellsOriginal, TellsPlan};
 ghost use Rattle.finding.specs.Memory.{Leaves};
 
-use layout::check_layout;
+use layout::{Layout, check_layout};
+use radix::LentMap;
 use strided::{Purpose, Refusal, Told};
 
 pub mod radix;
@@ -26,90 +26,71 @@ pub struct Map {
 }
 
 // The map's arrays, written into arrays of zeros. The weights that the order goes by are made where the fused extents come to stand.
-pub fn map_into(
-    extents: &[u64],
-    strides: &[i64],
-    operands: usize,
-    purpose: Purpose,
-    order: &mut [usize; 64],
-    fused: &mut [u64; 64],
-)
-    requires layout { Fitting strides.now (length extents.now) operands }
-    requires zeros { (order.old ≡ replicate 64 0) × (fused.old ≡ replicate 64 0) }
-    ensures { Fused extents.now operands strides.now purpose order.new fused.new }
+pub fn map_into(layout: Layout, purpose: Purpose, order: &mut [usize; 64], fused: &mut [u64; 64])
+    requires { (order.old ≡ replicate 64 0) × (fused.old ≡ replicate 64 0) }
+    ensures { Fused layout.entry.extents.now layout.entry.operands layout.entry.strides.now purpose order.new fused.new }
 {
-    let rank = extents.len();
-    order::fusing_order_into(
-        extents,
-        strides,
-        operands,
-        purpose,
-        &mut *fused,
-        &mut *order,
-    );
-    arrange::pick_into(extents, order, rank, &mut *fused);
-    fuse::fuse_dims(&mut *fused, strides, rank, operands, order, rank);
+    let rank = layout.extents.len();
+    order::fusing_order_into(layout, purpose, &mut *fused, &mut *order);
+    arrange::pick_into(layout.extents, &order[..rank], &mut *fused);
+    fuse::fuse_dims(&mut *fused, layout.rows(), &order[..rank]);
 }
 
 // The map of a layout that is not refused.
-pub fn index_map(extents: &[u64], strides: &[i64], operands: usize, purpose: Purpose) -> Map
-    requires layout { Fitting strides.now (length extents.now) operands }
-    requires total { total extents.now < 2 ^ 64 }
-    ensures mapped { Mapped extents.now operands strides.now purpose result }
-    ensures usable { Usable extents.now result }
+pub fn index_map(layout: Layout, purpose: Purpose) -> Map
+    requires { total layout.extents.now < 2 ^ 64 }
+    ensures mapped { Mapped layout.entry.extents.now layout.entry.operands layout.entry.strides.now purpose result }
+    ensures usable { Usable layout.entry.extents.now result }
 {
     let mut order = [0usize; 64];
     let mut fused = [0u64; 64];
-    map_into(extents, strides, operands, purpose, &mut order, &mut fused);
-    let rank = radix::plan_rank(&fused, extents.len());
+    map_into(layout, purpose, &mut order, &mut fused);
+    let rank = radix::plan_rank(&fused[..layout.extents.len()]);
     Map { rank, order, fused }
 }
 
 // ---- through the map
 
 // The original index of a plan index, with its count: row 11 is judged on the plan's extents.
-fn original_by_into<'a>(
-    extents: &'a [u64],
-    order: &'a [usize; 64],
-    fused: &'a [u64; 64],
+fn original_by_into(
+    map: LentMap,
     counters: &[u64],
     count: &mut [usize; 1],
     index: &mut [u64; 64],
 ) -> Result<(), Refusal>
-    requires { Sound extents.now order.now fused.now }
-    ensures { Leaves (unraveled_by extents.now order.now fused.now counters.now)
+    ensures { Leaves (unraveled_by map.entry.extents.now map.entry.order.now map.entry.fused.now counters.now)
         count.old index.old count.new index.new result }
 {
-    if !radix::plan_within(fused, extents.len(), counters) {
+    let rank = map.extents.len();
+    let fused = map.fused;
+    if !radix::plan_within(&fused[..rank], counters) {
         return Err(Refusal::Index);
     }
-    *count = [extents.len()];
+    *count = [map.extents.len()];
     *index = [0u64; 64];
-    radix::unravel_index(extents, order, fused, counters, index);
+    map.unravel_index(counters, index);
     Ok(())
 }
 
 // The plan index of an original index, with its count: row 11 is judged on the layout's extents.
-fn plan_by_into<'a>(
-    extents: &'a [u64],
-    order: &'a [usize; 64],
-    fused: &'a [u64; 64],
+// Kept: `rank`, the plan's, beside the lent map: this way alone needs it, and the other would pay a pass over the extents for it.
+fn plan_by_into(
+    map: LentMap,
     rank: usize,
     original: &[u64],
     count: &mut [usize; 1],
     index: &mut [u64; 64],
 ) -> Result<(), Refusal>
-    requires arrays { Sound extents.now order.now fused.now }
-    requires rank { rank ≡ length (kept_extents (take (length extents.now) fused.now)) }
-    ensures { Leaves (raveled_by extents.now order.now fused.now original.now)
+    requires { rank ≡ length (kept_extents (take (length map.extents.now) map.fused.now)) }
+    ensures { Leaves (raveled_by map.entry.extents.now map.entry.order.now map.entry.fused.now original.now)
         count.old index.old count.new index.new result }
 {
-    if !radix::within(extents, original) {
+    if !radix::within(map.extents, original) {
         return Err(Refusal::Index);
     }
     *count = [rank];
     *index = [0u64; 64];
-    radix::ravel_index(extents, order, fused, rank, original, index);
+    map.ravel_index(rank, original, index);
     Ok(())
 }
 
@@ -125,7 +106,12 @@ pub fn original_into(
     ensures { TellsOriginal extents.now map counters.now
         count.old index.old count.new index.new result }
 {
-    original_by_into(extents, &map.order, &map.fused, counters, count, index)
+    let lent = LentMap {
+        extents,
+        order: &map.order,
+        fused: &map.fused,
+    };
+    original_by_into(lent, counters, count, index)
 }
 
 // The plan index of an original index, by the map.
@@ -140,32 +126,37 @@ pub fn in_plan_into(
     ensures { TellsPlan extents.now map original.now
         count.old index.old count.new index.new result }
 {
-    plan_by_into(
-        extents, &map.order, &map.fused, map.rank, original, count, index,
-    )
+    let lent = LentMap {
+        extents,
+        order: &map.order,
+        fused: &map.fused,
+    };
+    plan_by_into(lent, map.rank, original, count, index)
 }
 
 // ---- the entries
 
 // The original index of a plan index, for whoever has checked the layout: row 11 alone is judged.
 pub fn original_of_into(
-    extents: &[u64],
-    strides: &[i64],
-    operands: usize,
+    layout: Layout,
     purpose: Purpose,
     counters: &[u64],
     count: &mut [usize; 1],
     index: &mut [u64; 64],
 ) -> Result<(), Refusal>
-    requires layout { Fitting strides.now (length extents.now) operands }
-    requires total { total extents.now < 2 ^ 64 }
-    ensures { Leaves (found_original extents.now operands strides.now purpose counters.now)
+    requires { total layout.extents.now < 2 ^ 64 }
+    ensures { Leaves (found_original layout.entry.extents.now layout.entry.operands layout.entry.strides.now purpose counters.now)
         count.old index.old count.new index.new result }
 {
     let mut order = [0usize; 64];
     let mut fused = [0u64; 64];
-    map_into(extents, strides, operands, purpose, &mut order, &mut fused);
-    original_by_into(extents, &order, &fused, counters, count, index)
+    map_into(layout, purpose, &mut order, &mut fused);
+    let map = LentMap {
+        extents: layout.extents,
+        order: &order,
+        fused: &fused,
+    };
+    original_by_into(map, counters, count, index)
 }
 
 // The original index of a plan index in lent memory: rows 1 to 6, then 11.
@@ -182,15 +173,12 @@ pub fn original_index_into<'a>(
         count.old index.old count.new index.new result }
 {
     check_layout(extents, sizes, strides, purpose)?;
-    original_of_into(
+    let layout = Layout {
         extents,
         strides,
-        sizes.len(),
-        purpose,
-        counters,
-        count,
-        index,
-    )
+        operands: sizes.len(),
+    };
+    original_of_into(layout, purpose, counters, count, index)
 }
 
 // The plan index of an original index in lent memory: rows 1 to 6, then 11.
@@ -207,18 +195,21 @@ pub fn plan_index_into<'a>(
         count.old index.old count.new index.new result }
 {
     check_layout(extents, sizes, strides, purpose)?;
-    let mut order = [0usize; 64];
-    let mut fused = [0u64; 64];
-    map_into(
+    let layout = Layout {
         extents,
         strides,
-        sizes.len(),
-        purpose,
-        &mut order,
-        &mut fused,
-    );
-    let rank = radix::plan_rank(&fused, extents.len());
-    plan_by_into(extents, &order, &fused, rank, original, count, index)
+        operands: sizes.len(),
+    };
+    let mut order = [0usize; 64];
+    let mut fused = [0u64; 64];
+    map_into(layout, purpose, &mut order, &mut fused);
+    let rank = radix::plan_rank(&fused[..extents.len()]);
+    let map = LentMap {
+        extents,
+        order: &order,
+        fused: &fused,
+    };
+    plan_by_into(map, rank, original, count, index)
 }
 
 // The original index of a plan index: rows 1 to 6, then 11.

@@ -3,7 +3,7 @@
 ghost use Rattle.std.specs.Prelude.{◌≡◌, ◌&&◌, ◌/◌, ◌%◌, ◌≤◌, ◌<◌, ltb, length, get_or, take, replicate};
 ghost use Rattle.strided.specs.Base.{padded};
 ghost use Rattle.strided.specs.Layout.{NoZero, Within, within as withinAll};
-ghost use Rattle.finding.specs.Mapped.{kept_extents, unraveled, raveled, Sound};
+ghost use Rattle.finding.specs.Mapped.{kept_extents, unraveled, raveled, Sound, sound_prop};
 
 // ---- ranges
 
@@ -30,46 +30,36 @@ fn below(counters: &[u64], j: usize, extent: u64) -> bool
 }
 
 // Whether counters have a place for each of the plan's axes, and lie below its extent: where no axis is kept, one of extent 1 stays.
-pub fn plan_within(fused: &[u64; 64], rank: usize, counters: &[u64]) -> bool
-    requires { (length fused.now ≡ 64) × (rank ≤ 64) }
-    ensures { result ≡ withinAll (kept_extents (take rank fused.now)) counters.now }
+pub fn plan_within(fused: &[u64], counters: &[u64]) -> bool
+    ensures { result ≡ withinAll (kept_extents fused.now) counters.now }
 {
     let mut j: usize = 0;
-    for i in 0..rank {
-        let f = fused[i];
-        if f != 1 {
-            if !below(counters, j, f) {
+    for f in fused {
+        if *f != 1 {
+            if !below(counters, j, *f) {
                 return false;
             }
             j += 1;
         }
     }
-    if j == 0 {
-        if rank > 0 {
-            if counters.len() == 1 {
-                return below(counters, 0, 1);
-            }
-            return false;
-        }
+    if j == 0 && !fused.is_empty() {
+        return counters.len() == 1 && below(counters, 0, 1);
     }
     j == counters.len()
 }
 
 // How many axes the plan has.
-pub fn plan_rank(fused: &[u64; 64], rank: usize) -> usize
-    requires { (length fused.now ≡ 64) × (rank ≤ 64) }
-    ensures { result ≡ length (kept_extents (take rank fused.now)) }
+pub fn plan_rank(fused: &[u64]) -> usize
+    ensures { result ≡ length (kept_extents fused.now) }
 {
     let mut count: usize = 0;
-    for i in 0..rank {
-        if fused[i] != 1 {
+    for f in fused {
+        if *f != 1 {
             count += 1;
         }
     }
-    if count == 0 {
-        if rank > 0 {
-            return 1;
-        }
+    if count == 0 && !fused.is_empty() {
+        return 1;
     }
     count
 }
@@ -98,57 +88,53 @@ fn quotient(x: u64, e: u64) -> u64
     if x < e { 0 } else { x / e }
 }
 
-// The index that the counters tell, quickest the axis that came first, written into an array of zeros.
-pub fn unravel_index<'a>(
-    extents: &'a [u64],
-    order: &'a [usize; 64],
-    fused: &'a [u64; 64],
-    counters: &[u64],
-    out: &mut [u64; 64],
-)
-    requires arrays { Sound extents.now order.now fused.now }
-    requires extents { NoZero extents.now }
-    requires zeros { out.old ≡ replicate 64 0 }
-    ensures { out.new ≡ padded 64 0 (unraveled extents.now order.now fused.now counters.now) }
-{
-    let mut x: u64 = 0;
-    let mut j: usize = 0;
-    for i in 0..extents.len() {
-        if fused[i] != 1 {
-            x = counter(counters, j);
-            j += 1;
-        }
-        let a = order[i];
-        out[a] = remainder(x, extents[a]);
-        x = quotient(x, extents[a]);
-    }
+// A map that is lent, with the extents of its layout.
+#[derive(Clone, Copy)]
+pub struct LentMap<'a> {
+    pub extents: &'a [u64],
+    pub order: &'a [usize; 64],
+    pub fused: &'a [u64; 64],
+    pub ghost sound: { Sound extents.now order.now fused.now } by { sound_prop extents.now order.now fused.now },
 }
 
-// The counters of an index, from the last axis down, written into an array of zeros: what an axis leaves goes to the one that it joined.
-// `rank` is the plan's.
-pub fn ravel_index<'a>(
-    extents: &'a [u64],
-    order: &'a [usize; 64],
-    fused: &'a [u64; 64],
-    rank: usize,
-    index: &[u64],
-    out: &mut [u64; 64],
-)
-    requires arrays { Sound extents.now order.now fused.now }
-    requires rank { rank ≡ length (kept_extents (take (length extents.now) fused.now)) }
-    requires inside { Within extents.now index.now }
-    requires zeros { out.old ≡ replicate 64 0 }
-    ensures { out.new ≡ padded 64 0 (raveled extents.now order.now fused.now index.now) }
-{
-    let mut z: u64 = 0;
-    let mut j = rank;
-    for i in (0..extents.len()).rev() {
-        let a = order[i];
-        z = z * extents[a] + index[a];
-        if fused[i] != 1 {
-            j -= 1;
-            out[j] = z;
-            z = 0;
+impl<'a> LentMap<'a> {
+    // The index that the counters tell, quickest the axis that came first, written into an array of zeros.
+    pub fn unravel_index(self, counters: &[u64], out: &mut [u64; 64])
+        requires extents { NoZero self.extents.now }
+        requires zeros { out.old ≡ replicate 64 0 }
+        ensures { out.new ≡ padded 64 0 (unraveled self.entry.extents.now self.entry.order.now self.entry.fused.now counters.now) }
+    {
+        let mut x: u64 = 0;
+        let mut j: usize = 0;
+        for i in 0..self.extents.len() {
+            if self.fused[i] != 1 {
+                x = counter(counters, j);
+                j += 1;
+            }
+            let a = self.order[i];
+            out[a] = remainder(x, self.extents[a]);
+            x = quotient(x, self.extents[a]);
+        }
+    }
+
+    // The counters of an index, from the last axis down, written into an array of zeros: what an axis leaves goes to the one that it joined.
+    // Kept: `rank`, the plan's, beside the map: the other way goes without it.
+    pub fn ravel_index(self, rank: usize, index: &[u64], out: &mut [u64; 64])
+        requires rank { rank ≡ length (kept_extents (take (length self.extents.now) self.fused.now)) }
+        requires inside { Within self.extents.now index.now }
+        requires zeros { out.old ≡ replicate 64 0 }
+        ensures { out.new ≡ padded 64 0 (raveled self.entry.extents.now self.entry.order.now self.entry.fused.now index.now) }
+    {
+        let mut z: u64 = 0;
+        let mut j = rank;
+        for i in (0..self.extents.len()).rev() {
+            let a = self.order[i];
+            z = z * self.extents[a] + index[a];
+            if self.fused[i] != 1 {
+                j -= 1;
+                out[j] = z;
+                z = 0;
+            }
         }
     }
 }

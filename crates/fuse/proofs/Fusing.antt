@@ -147,5 +147,5 @@ pub tests_places : (ss : List ℤ) (p m : ℕ) (order : List ℕ) (i j x y a b :
 tests_places ss p m order i j x y a b v q r e = e ∙ ap₂ (λ (x y : ℕ). all_join a (stride_column ss p x 0 m) (stride_column ss p y 0 m) && ltb (a * b) (2 ^ 64)) q r
 
 -- as many extents as there are axes
-pub as_many : {ss : List ℤ} {p m n : ℕ} {order : List ℕ} → Named ss p m order n → (E : List ℕ) → length E ≡ 64 → length (take n E) ≡ n
+pub as_many : {p m : ℕ} {order : List ℕ} → Named p m order → (E : List ℕ) → length E ≡ 64 → length (take (length order) E) ≡ length order
 as_many t E l = length-take-le _ E (omega (arith, t.few-axes))

@@ -2,24 +2,24 @@
 use mathlib.Core.Path.{◌≡◌, refl, sym, ap, ap₂, ◌∙◌, subst}
 use mathlib.Core.Bool.{Bool, true, false, cond}
 use mathlib.Core.List.{List, [], ◌∷◌, ◌++◌, cons≢nil}
-use Prim.Native.Nat.{ℕ, zero, suc, ◌+◌, ◌≤◌, ◌<◌}
+use Prim.Native.Nat.{ℕ, suc, ◌+◌, ◌≤◌, ◌<◌}
 use native.Mathlib.Nat.{lt_of_lt_of_le}
 use native.Mathlib.Numerals.{add-one}
 use native.Mathlib.Omega.{arith}
 use lib.Dec.{eqb}
 use lib.IntN.{ℤ, pos}
 use lib.ListN.{length, get_or, take, set, length-append}
-use lib.Seq.{append_snoc, get_or-append_seam, take-suc, length-take-le}
+use lib.Seq.{append_snoc, get_or-append_seam, take-suc, take_all, length-take-le}
 use borrow.Author.Tests.{eqb-true, eq-eqb, ne_eqb}
 use Rattle.strided.specs.Base.{padded, unless}
 use Rattle.strided.specs.Layout.{Axis, no_axis, extents}
 use Rattle.strided.specs.Order.{pick}
 use Rattle.strided.specs.Fuse.{keep, or_first, compress}
 use Rattle.strided.specs.Plan.{stride_table}
-use Rattle.laws.specs.Base.Arrays.{length-padded, get_d_padded, take_counted}
+use Rattle.laws.specs.Base.Arrays.{take_counted}
 use Rattle.laws.specs.Base.Stores.{set_behind}
 use Rattle.laws.specs.Order.Picked.{length-pick}
-use Rattle.laws.specs.Fuse.Arrays.{Below, below_at, get_d_pick, pick_first, pick_rows}
+use Rattle.laws.specs.Fuse.Arrays.{Below, below_at, get_d_pick, pick_rows}
 use Rattle.laws.specs.Fuse.Places.{axes_by, column_by, extents-at, extents_places, table_places}
 use Rattle.fuse.specs.Kept.{kept_from, or_zero, stays}
 
@@ -164,101 +164,86 @@ module _ (F O E A : List ℕ) (i count : ℕ) (h : i < length F) (s : i < 64) (t
 abbrev pub Stand : List ℕ → List ℕ → List ℕ → List ℕ → List ℕ → ℕ → Type 0
 Stand F O ks E A count = (count ≡ length ks) × (Picked F ks E × Picked O ks A)
 
-module _ (F O E A : List ℕ) (i n count : ℕ) (t : Found F O i E A count) (e : i ≡ n) where
-  all_found : Stand F O (kept_from 0 (take n F)) E A count
-  all_found = (
-    t.number ∙ ap (λ (j : ℕ). length (kept_from 0 (take j F))) e,
-    (
-      t.lengths ∙ ap (λ (j : ℕ). padded 64 0 (pick 0 F (kept_from 0 (take j F)))) e,
-      t.names ∙ ap (λ (j : ℕ). padded 64 0 (pick 0 O (kept_from 0 (take j F)))) e,
-    ),
-  )
+module _ (F O E A : List ℕ) (i count : ℕ) (t : Found F O i E A count) (e : length F ≤ i) where
+  all_found : Stand F O (kept_from 0 F) E A count
+  all_found =
+      let q : take i F ≡ F = take_all i F e in (
+        t.number ∙ ap (λ (G : List ℕ). length (kept_from 0 G)) q,
+        (
+          t.lengths ∙ ap (λ (G : List ℕ). padded 64 0 (pick 0 F (kept_from 0 G))) q,
+          t.names ∙ ap (λ (G : List ℕ). padded 64 0 (pick 0 O (kept_from 0 G))) q,
+        ),
+      )
 
   -- some are kept
-  pub out_some : (count ≡ 0 → ⊥) → Stand F O (stays (take n F)) E A count
-  out_some f = go (kept_from 0 (take n F)) all_found
+  pub out_some : (count ≡ 0 → ⊥) → Stand F O (stays F) E A count
+  out_some f = go (kept_from 0 F) all_found
     where
-      go : (ks : List ℕ) → Stand F O ks E A count → Stand F O (or_zero ks (take n F)) E A count
+      go : (ks : List ℕ) → Stand F O ks E A count → Stand F O (or_zero ks F) E A count
       go [] w = absurd (f w.0)
       go (k ∷ ks) w = w
 
   -- none is, and there was none
-  pub out_none : count ≡ 0 → n ≡ 0 → Stand F O (stays (take n F)) E A count
-  out_none z w = go n w all_found
+  pub out_none : length F ≡ 0 → Stand F O (stays F) E A count
+  out_none w = go F w all_found
     where
-      go : (n : ℕ) → n ≡ 0 → Stand F O (kept_from 0 (take n F)) E A count → Stand F O (stays (take n F)) E A count
-      go zero w r = r
-      go (suc n) w r = absurd (bad w)
+      go : (G : List ℕ) → length G ≡ 0 → Stand F O (kept_from 0 G) E A count → Stand F O (stays G) E A count
+      go [] w r = r
+      go (f ∷ G) w r = absurd (bad w)
         where
-          bad : suc n ≡ 0 → ⊥
+          bad : suc (length G) ≡ 0 → ⊥
           bad w = omega arith
 
   -- none is, and there was one
-  pub out_first : count ≡ 0 → 0 < n → 0 < length F → Stand F O (stays (take n F)) (set E 0 (get_or F 0 0)) (set A 0 (get_or O 0 0)) 1
-  out_first z w l = go (kept_from 0 (take n F)) all_found n F w l
+  pub out_first : count ≡ 0 → 0 < length F → Stand F O (stays F) (set E 0 (get_or F 0 0)) (set A 0 (get_or O 0 0)) 1
+  out_first z l = go (kept_from 0 F) all_found F l
     where
-      go : (ks : List ℕ) → Stand F O ks E A count → (n : ℕ) (G : List ℕ) → 0 < n → 0 < length G → Stand F O (or_zero ks (take n G)) (set E 0 (get_or F 0 0)) (set A 0 (get_or O 0 0)) 1
-      go [] r zero G h g = absurd (bad h)
+      go : (ks : List ℕ) → Stand F O ks E A count → (G : List ℕ) → 0 < length G → Stand F O (or_zero ks G) (set E 0 (get_or F 0 0)) (set A 0 (get_or O 0 0)) 1
+      go [] r [] g = absurd (bad g)
         where
           bad : 0 < 0 → ⊥
           bad h = omega arith
-      go [] r (suc n) [] h g = absurd (bad g)
-        where
-          bad : 0 < 0 → ⊥
-          bad h = omega arith
-      go [] r (suc n) (f ∷ G) h g = (refl, (ap (λ (x : List ℕ). set x 0 (get_or F 0 0)) r.1.0, ap (λ (x : List ℕ). set x 0 (get_or O 0 0)) r.1.1))
-      go (k ∷ ks) r n G h g = absurd (bad r.0)
+      go [] r (f ∷ G) g = (refl, (ap (λ (x : List ℕ). set x 0 (get_or F 0 0)) r.1.0, ap (λ (x : List ℕ). set x 0 (get_or O 0 0)) r.1.1))
+      go (k ∷ ks) r G g = absurd (bad r.0)
         where
           bad : count ≡ suc (length ks) → ⊥
           bad p = omega arith
 
 -- ---- the axes that stay, in arrays
 
-module _ (ss : List ℤ) (p m : ℕ) (O F : List ℕ) (n : ℕ) (l : length F ≡ 64) (h : n ≤ 64) where
-  abbrev ks : List ℕ
-  ks = stays (take n F)
-
-  counted : length (take n F) ≡ n
-  counted = length-take-le n F (omega arith)
-
-  pub stays-few : length (stays (take n F)) ≤ 64
-  stays-few = omega (arith, stays-length (take n F), counted)
-
+module _ (ss : List ℤ) (p m : ℕ) (O F : List ℕ) (few : length F ≤ 64) where
   -- the axes without those of extent 1
-  kept_compressed : compress (axes_by ss p m O (take n F)) ≡ pick no_axis (axes_by ss p m O (take n F)) (stays (take n F))
+  kept_compressed : compress (axes_by ss p m O F) ≡ pick no_axis (axes_by ss p m O F) (stays F)
   kept_compressed =
-      compress-pick (axes_by ss p m O (take n F))
-      ∙ ap (λ (fs : List ℕ). pick no_axis (axes_by ss p m O (take n F)) (stays fs)) (extents-at (column_by ss p m O) 0 (take n F))
+      compress-pick (axes_by ss p m O F) ∙ ap (λ (fs : List ℕ). pick no_axis (axes_by ss p m O F) (stays fs)) (extents-at (column_by ss p m O) 0 F)
 
-  module _ {E A : List ℕ} {count : ℕ} (w : Stand F O (stays (take n F)) E A count) where
-    pub stand_few : count ≤ 64
-    stand_few = omega (arith, w.0, stays-few)
+  module _ {E A : List ℕ} {count : ℕ} (w : Stand F O (stays F) E A count) where
+    pub stand_count : count ≤ 64
+    stand_count = omega (arith, w.0, stays-length F)
 
-    pub stand_long : length A ≡ 64
-    stand_long = ap length w.1.1 ∙ length-padded 0 64 (pick 0 O (stays (take n F)))
+    names_are : take count A ≡ pick 0 O (stays F)
+    names_are = ap (take count) w.1.1 ∙ take_counted 0 64 count (pick 0 O (stays F)) (length-pick 0 O (stays F) ∙ sym w.0) stand_count
 
-    names_are : take count A ≡ pick 0 O (stays (take n F))
-    names_are = ap (take count) w.1.1 ∙ take_counted 0 64 count (pick 0 O (stays (take n F))) (length-pick 0 O (stays (take n F)) ∙ sym w.0) stand_few
+    names_long : length (take count A) ≡ length (stays F)
+    names_long = ap length names_are ∙ length-pick 0 O (stays F)
 
-    pub stand_inside : ((j : ℕ) → j < n → get_or O j 0 < p) → (j : ℕ) → j < count → get_or A j 0 < p
+    pub stand_few : length (take count A) ≤ 64
+    stand_few = omega (arith, names_long, stays-length F)
+
+    pub stand_inside : ((j : ℕ) → j < length F → get_or O j 0 < p) → (j : ℕ) → j < length (take count A) → get_or (take count A) j 0 < p
     stand_inside f j g =
-        let a : get_or (stays (take n F)) j 0 < length (take n F) = below_at (length (take n F)) (stays (take n F)) (stays-below (take n F)) j (omega (arith, w.0)) in
-        subst (λ (x : ℕ). x < p)
-        (sym (ap (λ (x : List ℕ). get_or x j 0) w.1.1 ∙ get_d_padded 0 64 (pick 0 O (stays (take n F))) j (omega (arith, stand_few)) ∙ get_d_pick 0 O (stays (take n F)) j (omega (arith, w.0))))
-        (f (get_or (stays (take n F)) j 0) (omega (arith, counted)))
+        let h : j < length (stays F) = omega (arith, names_long) in
+        let a : get_or (stays F) j 0 < length F = below_at (length F) (stays F) (stays-below F) j h in
+        subst (λ (x : ℕ). x < p) (sym (ap (λ (x : List ℕ). get_or x j 0) names_are ∙ get_d_pick 0 O (stays F) j h)) (f (get_or (stays F) j 0) a)
 
-    pub stand_rank : count ≡ length (compress (axes_by ss p m O (take n F)))
-    stand_rank = w.0 ∙ sym (ap length kept_compressed ∙ length-pick no_axis (axes_by ss p m O (take n F)) (stays (take n F)))
+    pub stand_rank : count ≡ length (compress (axes_by ss p m O F))
+    stand_rank = w.0 ∙ sym (ap length kept_compressed ∙ length-pick no_axis (axes_by ss p m O F) (stays F))
 
-    pub stand_extents : E ≡ padded 64 0 (extents (compress (axes_by ss p m O (take n F))))
-    stand_extents =
-        w.1.0
-        ∙ ap (padded 64 0)
-        (pick_first 0 F n (stays (take n F)) (subst (λ (k : ℕ). Below k (stays (take n F))) counted (stays-below (take n F)))
-        ∙ sym (ap extents kept_compressed ∙ extents_places (column_by ss p m O) (take n F) (stays (take n F)) (stays-below (take n F))))
+    pub stand_extents : E ≡ padded 64 0 (extents (compress (axes_by ss p m O F)))
+    stand_extents = w.1.0 ∙ ap (padded 64 0) (sym (ap extents kept_compressed ∙ extents_places (column_by ss p m O) F (stays F) (stays-below F)))
 
-    pub stand_strides : {T : List ℤ} → T ≡ padded 512 (pos 0) (pick_rows ss p (take count A) m) → T ≡ stride_table (compress (axes_by ss p m O (take n F))) m
+    pub stand_strides : {T : List ℤ} → T ≡ padded 512 (pos 0) (pick_rows ss p (take count A) m) → T ≡ stride_table (compress (axes_by ss p m O F)) m
     stand_strides q =
         q ∙ ap (λ (o : List ℕ). padded 512 (pos 0) (pick_rows ss p o m)) names_are
-        ∙ table_places ss p m O (take n F) (stays (take n F)) (stays-below (take n F))
+        ∙ table_places ss p m O F (stays F) (stays-below F)
         ∙ ap (λ (xs : List Axis). stride_table xs m) (sym kept_compressed)

@@ -1,13 +1,13 @@
 -- The steps of `plan_axes_into`: the extents in the order, fused, and the axes without those of extent 1, are the axes of the plan.
 -- Assumes nothing.
-use mathlib.Core.Path.{◌≡◌, refl, sym, ap, ◌∙◌}
+use mathlib.Core.Path.{◌≡◌, refl, sym, ap, ap₂, ◌∙◌, subst}
 use mathlib.Core.Bool.{true}
 use mathlib.Core.List.{List}
 use Prim.Native.Nat.{ℕ, ◌≤◌}
-use native.Mathlib.Nat.{mul_comm}
 use native.Mathlib.Omega.{arith}
 use lib.IntN.{ℤ}
 use lib.ListN.{length, take, drop, replicate, length-replicate}
+use lib.Seq.{take_all}
 use Rattle.strided.specs.Base.{padded}
 use Rattle.strided.specs.Layout.{Axis, no_axis, extents, axes_of}
 use Rattle.strided.specs.Order.{pick}
@@ -17,8 +17,10 @@ use Rattle.laws.specs.Base.Arrays.{length-padded, take_counted, blank-ℕ, blank
 use Rattle.laws.specs.Base.Stores.{blank-first}
 use Rattle.laws.specs.Order.Picked.{length-pick}
 use Rattle.laws.specs.Fuse.Places.{axes_by, column_by, fused_at_lem, length_fused, in_places}
+use Rattle.laws.specs.Fuse.Arrays.{Below}
+use Rattle.layout.specs.Fitting.{Fitting}
 use Rattle.arrange.specs.Axes.{InOrder}
-use Rattle.arrange.specs.Fusing.{whole_order, order_below}
+use Rattle.arrange.specs.Fusing.{order_below}
 use Rattle.fuse.specs.Named.{Named}
 
 -- an array of zeros is 0 behind any count
@@ -26,49 +28,61 @@ pub zeros_behind : (n : ℕ) → n ≤ 64 → (◌≡◌ {A = ℕ} (length {A = 
 zeros_behind n h =
     (refl, ap (λ (l : List ℕ). blank (drop n l)) (blank-first 0 64 n h) ∙ blank_behind blank-ℕ 64 n (replicate n 0) (length-replicate {A = ℕ} n 0))
 
-module _ {es : List ℕ} {m : ℕ} {ss : List ℤ} {order : List ℕ} (t : InOrder es m ss order) where
-  abbrev n : ℕ
-  n = length es
-
+-- a layout's axes in an order, read by rows of strides that are the layout's
+module _ (es : List ℕ) {m : ℕ} {ss : List ℤ} {order : List ℕ} (f : Fitting ss (length es) m) (t : InOrder (length es) order)
+    {rs : List ℤ} {p o : ℕ} (same : rs ≡ ss) (pitch : p ≡ length es) (operands : o ≡ m) where
   abbrev axes : List Axis
-  axes = pick no_axis (axes_of es m ss) (take (length es) order)
+  axes = pick no_axis (axes_of es m ss) order
 
-  pub named : Named ss (length es) m order (length es)
-  named =
-      record {
-        few-axes = t.few-axes;
-        few_operands = t.few_operands;
-        rows = omega (arith, t.rows, mul_comm m (length es));
-        places = t.places;
-        inside = t.inside;
-      }
+  few : length order ≤ 64
+  few = omega (arith, f.rank-few, t.all)
+
+  pub named : Named p o order
+  named = record { few-axes = few; few_operands = omega (arith, f.operands_few); inside = λ j h. omega (arith, t.inside j (omega (arith, t.all))) }
+
+  rows : (fs : List ℕ) → axes_by rs p o order fs ≡ axes_by ss (length es) m order fs
+  rows fs = ap (λ (l : List ℤ). axes_by l p o order fs) same ∙ ap₂ (λ (x y : ℕ). axes_by ss x y order fs) pitch operands
+
+  whole : take (length order) order ≡ order
+  whole = take_all (length order) order (omega arith)
+
+  placed : axes_by ss (length es) m order (pick 0 es order) ≡ pick no_axis (axes_of es m ss) order
+  placed =
+      let below : Below (length es) (take (length order) order) = subst (Below (length es)) (sym whole) (order_below t) in
+      subst (λ (x : List ℕ). axes_by ss (length es) m order (pick 0 es x) ≡ pick no_axis (axes_of es m ss) x) whole
+      (in_places ss (length es) m es order (length order) (omega arith) below)
 
   -- the extents in the order
-  module _ {E : List ℕ} (put : E ≡ padded 64 0 (pick 0 es (take (length es) order))) where
+  module _ {E : List ℕ} (put : E ≡ padded 64 0 (pick 0 es order)) where
     pub put_long : length E ≡ 64
-    put_long = ap length put ∙ length-padded 0 64 (pick 0 es (take n order))
+    put_long = ap length put ∙ length-padded 0 64 (pick 0 es order)
 
-    taken : take (length es) E ≡ pick 0 es (take (length es) order)
-    taken = ap (take n) put ∙ take_counted 0 64 n (pick 0 es (take n order)) (length-pick 0 es (take n order) ∙ whole_order t) t.few-axes
+    taken : take (length order) E ≡ pick 0 es order
+    taken = ap (take (length order)) put ∙ take_counted 0 64 (length order) (pick 0 es order) (length-pick 0 es order) few
 
-    pub put-padded : E ≡ padded 64 0 (take (length es) E)
+    pub put-padded : E ≡ padded 64 0 (take (length order) E)
     put-padded = put ∙ ap (padded 64 0) (sym taken)
 
-    pub put-axes : axes_by ss (length es) m order (take (length es) E) ≡ pick no_axis (axes_of es m ss) (take (length es) order)
-    put-axes = ap (axes_by ss n m order) taken ∙ in_places ss n m es order n (omega (arith, t.places, t.few-axes)) (order_below t)
+    pub put-axes : axes_by rs p o order (take (length order) E) ≡ pick no_axis (axes_of es m ss) order
+    put-axes = rows (take (length order) E) ∙ ap (axes_by ss (length es) m order) taken ∙ placed
 
     -- and fused
-    module _ {F : List ℕ} (made : F ≡ padded 64 0 (extents (fuse (axes_by ss (length es) m order (take (length es) E))))) where
-      pub made_long : length F ≡ 64
-      made_long = ap length made ∙ length-padded 0 64 (extents (fuse (axes_by ss n m order (take n E))))
+    module _ {F : List ℕ} (made : F ≡ padded 64 0 (extents (fuse (axes_by rs p o order (take (length order) E))))) {n : ℕ} (all : n ≡ length order) where
+      fused-long : length (extents (fuse (axes_by rs p o order (take (length order) E)))) ≡ n
+      fused-long = length_fused (column_by rs p o order) 0 (take (length order) E) ∙ ap length taken ∙ length-pick 0 es order ∙ sym all
 
-      made-axes : compress (axes_by ss (length es) m order (take (length es) F)) ≡ fused_axes (pick no_axis (axes_of es m ss) (take (length es) order))
+      made-taken : take n F ≡ extents (fuse (axes_by rs p o order (take (length order) E)))
+      made-taken = ap (take n) made ∙ take_counted 0 64 n (extents (fuse (axes_by rs p o order (take (length order) E)))) fused-long (omega (arith, few))
+
+      pub made_long : length order ≡ length (take n F)
+      made_long = omega (arith, ap length made-taken, fused-long)
+
+      made-axes : compress (axes_by rs p o order (take n F)) ≡ fused_axes (pick no_axis (axes_of es m ss) order)
       made-axes =
-          let long : length (extents (fuse (axes_by ss n m order (take n E)))) ≡ n = length_fused (column_by ss n m order) 0 (take n E) ∙ ap length taken ∙ length-pick 0 es (take n order) ∙ whole_order t in
-          ap (λ (fs : List ℕ). compress (axes_by ss n m order fs)) (ap (take n) made ∙ take_counted 0 64 n (extents (fuse (axes_by ss n m order (take n E)))) long t.few-axes)
-          ∙ ap compress (sym (fused_at_lem (column_by ss n m order) 0 (take n E)) ∙ ap fuse put-axes)
+          ap (λ (fs : List ℕ). compress (axes_by rs p o order fs)) made-taken
+          ∙ ap compress (sym (fused_at_lem (column_by rs p o order) 0 (take (length order) E)) ∙ ap fuse put-axes)
 
       -- what the arrays of those axes are, they are of the plan's axes
-      pub as_planned : {A : Type 0} (f : List Axis → A) {x : A} → x ≡ f (compress (axes_by ss (length es) m order (take (length es) F)))
-          → x ≡ f (fused_axes (pick no_axis (axes_of es m ss) (take (length es) order)))
-      as_planned f q = q ∙ ap f made-axes
+      pub as_planned : {A : Type 0} (f : List Axis → ℕ → A) {x : A} → x ≡ f (compress (axes_by rs p o order (take n F))) o
+          → x ≡ f (fused_axes (pick no_axis (axes_of es m ss) order)) m
+      as_planned f q = q ∙ ap₂ f made-axes operands

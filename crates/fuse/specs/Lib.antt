@@ -1,3 +1,2 @@
-pub mod Room
 pub mod Kept
 pub mod Named

@@ -1,6 +1,6 @@
 // Fusing axes, dropping those of extent 1, and the costs of the axes that are left: fuse_dims, compress_dims and compute_costs of the Rust.
-// Axes are named by an order, and operand k's stride on axis a stands at k * pitch + a: the pitch is the rank for a layout's own strides, 64
-// for a plan's. So a layout's axes are fused where they stand, and only the plan's strides are written.
+// Axes are named by an order, and a layout's strides or a plan's are read as rows of a pitch. So a layout's axes are fused where they stand,
+// and only the plan's strides are written.
 #![tactic(auto)]
 
 ghost use Rattle.std.specs.Prelude.{◌≡◌, List, ◌&&◌, ℕ, ◌+◌, ◌*◌, ◌^◌, ◌<◌, ◌≤◌, ltb, pos, nat_abs, length, get_or, take, replicate};
@@ -15,6 +15,8 @@ ghost use Rattle.arrange.specs.Axes.{InOrder};
 ghost use Rattle.fuse.specs.Kept.{stays};
 ghost use Rattle.fuse.specs.Named.{Named, given, fused_in};
 
+use layout::{Layout, Rows, lay_into};
+
 // ---- which axes join
 
 // Whether an axis of stride b joins one of extent e and stride a, at one operand.
@@ -24,22 +26,19 @@ fn joins(e: u64, a: i64, b: i64) -> bool
     if a == 0 {
         return b == 0;
     }
-    match i64::try_from(e) {
-        Ok(s) => s.checked_mul(a) == Some(b),
-        Err(_) => false,
-    }
+    i64::try_from(e).is_ok_and(|s| s.checked_mul(a) == Some(b))
 }
 
 // Whether axis i joins axis h, of extent e, at every operand. The last one is asked first: the order of the axes goes by operand 0, unless
 // another leads, so that of two neighbours which do not join the first operands often say the least.
-fn all_join(e: u64, strides: &[i64], pitch: usize, operands: usize, h: usize, i: usize) -> bool
-    requires operands { operands * pitch ≤ length strides.now }
-    requires axes { (h < pitch) × (i < pitch) }
-    ensures { result ≡ all_join e (stride_column strides.now pitch h 0 operands) (stride_column strides.now pitch i 0 operands) }
+fn all_join(e: u64, rows: Rows, h: usize, i: usize) -> bool
+    requires { (h < rows.pitch) × (i < rows.pitch) }
+    ensures { result ≡ all_join e (stride_column rows.entry.strides.now rows.entry.pitch h 0 rows.entry.operands)
+        (stride_column rows.entry.strides.now rows.entry.pitch i 0 rows.entry.operands) }
 {
-    for k in (0..operands).rev() {
-        let p = k * pitch;
-        if !joins(e, strides[p + h], strides[p + i]) {
+    for k in (0..rows.operands).rev() {
+        let p = k * rows.pitch;
+        if !joins(e, rows.strides[p + h], rows.strides[p + i]) {
             return false;
         }
     }
@@ -47,90 +46,78 @@ fn all_join(e: u64, strides: &[i64], pitch: usize, operands: usize, h: usize, i:
 }
 
 // Whether axis i, of extent b, joins axis h, of extent a.
-fn can_fuse(
-    a: u64,
-    b: u64,
-    strides: &[i64],
-    pitch: usize,
-    operands: usize,
-    h: usize,
-    i: usize,
-) -> bool
-    requires operands { operands * pitch ≤ length strides.now }
-    requires axes { (h < pitch) × (i < pitch) }
-    ensures { result ≡ (all_join a (stride_column strides.now pitch h 0 operands) (stride_column strides.now pitch i 0 operands)
-        && ltb (a * b) (2 ^ 64)) }
+fn can_fuse(a: u64, b: u64, rows: Rows, h: usize, i: usize) -> bool
+    requires { (h < rows.pitch) × (i < rows.pitch) }
+    ensures { result ≡ (all_join a (stride_column rows.entry.strides.now rows.entry.pitch h 0 rows.entry.operands)
+        (stride_column rows.entry.strides.now rows.entry.pitch i 0 rows.entry.operands) && ltb (a * b) (2 ^ 64)) }
 {
-    all_join(a, strides, pitch, operands, h, i) && a.checked_mul(b).is_some()
+    all_join(a, rows, h, i) && a.checked_mul(b).is_some()
 }
 
 // ---- the order
 
 // Which axis stands at each place: a lent order names it, or each axis stands at its own place.
-trait Order {
-    // The axes' numbers, place by place, in an array.
+trait Order: Copy {
+    // The axes' numbers, place by place.
     ghost names: { Self → List ℕ };
 
-    // The places that are asked for.
-    ghost has: { Self → ℕ → Type 0 };
+    fn len(self) -> usize
+        ensures { result ≡ length (names self) };
 
     // The axis at a place.
-    fn axis(&self, place: usize) -> usize
-        requires { has self.now place }
-        ensures { result ≡ get_or (names self.now) place 0 };
+    fn axis(self, place: usize) -> usize
+        requires { place < length (names self) }
+        ensures { result ≡ get_or (names self) place 0 };
 }
 
-impl Order for [usize; 64] {
-    ghost names = { λ o. o };
+impl<'a> Order for &'a [usize] {
+    ghost names = { λ o. o.now };
 
-    ghost has = { λ o j. j < 64 };
+    fn len(self) -> usize {
+        <[usize]>::len(self)
+    }
 
-    fn axis(&self, place: usize) -> usize {
+    fn axis(self, place: usize) -> usize {
         self[place]
     }
 }
 
 // As many axes as are given, each at its own place.
-#[derive(Drop)]
+#[derive(Clone, Copy)]
 struct AsGiven {
     rank: usize,
-    ghost few: { rank ≤ 64 },
 }
 
 impl Order for AsGiven {
     ghost names = { λ g. given g.rank };
 
-    ghost has = { λ g j. j < g.rank };
+    fn len(self) -> usize {
+        self.rank
+    }
 
-    fn axis(&self, place: usize) -> usize {
+    fn axis(self, place: usize) -> usize {
         place
     }
 }
 
 // ---- fusing
 
+// Kept: what is written goes into arrays that are lent as zeros, here and below: who lends one has cleared it already, and clearing it again
+// costs time.
+
 // The extents of axes after fusing. From the last place down, an axis that joins the one before it becomes one of extent 1. The strides stay.
-fn fuse_by<O: Order>(
-    extents: &mut [u64; 64],
-    strides: &[i64],
-    pitch: usize,
-    operands: usize,
-    order: &O,
-    rank: usize,
-)
-    requires order { (j : ℕ) → j < rank → O.has order.now j }
-    requires layout { Named strides.now pitch operands (O.names order.now) rank }
-    requires extents { (length extents.old ≡ 64) × (extents.old ≡ padded 64 0 (take rank extents.old)) }
-    ensures { extents.new ≡ padded 64 0 (extents_of
-        (fuseAxes (axes_by strides.now pitch operands (O.names order.now) (take rank extents.old)))) }
+fn fuse_by<O: Order>(extents: &mut [u64; 64], rows: Rows, order: O)
+    requires layout { Named rows.pitch rows.operands (O.names order) }
+    requires extents { (length extents.old ≡ 64) × (extents.old ≡ padded 64 0 (take (length (O.names order)) extents.old)) }
+    ensures { extents.new ≡ padded 64 0 (extents_of (fuseAxes (axes_by rows.entry.strides.now rows.entry.pitch rows.entry.operands
+        (O.names order) (take (length (O.names order)) extents.old)))) }
 {
+    let rank = order.len();
     for i in (1..rank).rev() {
         let h = i - 1;
         let outer = order.axis(i);
         let inner = order.axis(h);
-        if can_fuse(
-            extents[h], extents[i], strides, pitch, operands, inner, outer,
-        ) {
+        if can_fuse(extents[h], extents[i], rows, inner, outer) {
             extents[h] *= extents[i];
             extents[i] = 1;
         }
@@ -138,51 +125,36 @@ fn fuse_by<O: Order>(
 }
 
 // The extents of the axes that the order names, after fusing.
-pub fn fuse_dims(
-    extents: &mut [u64; 64],
-    strides: &[i64],
-    pitch: usize,
-    operands: usize,
-    order: &[usize; 64],
-    rank: usize,
-)
-    requires layout { Named strides.now pitch operands order.now rank }
-    requires extents { (length extents.old ≡ 64) × (extents.old ≡ padded 64 0 (take rank extents.old)) }
-    ensures { extents.new ≡ padded 64 0 (extents_of
-        (fuseAxes (axes_by strides.now pitch operands order.now (take rank extents.old)))) }
+pub fn fuse_dims(extents: &mut [u64; 64], rows: Rows, order: &[usize])
+    requires layout { Named rows.pitch rows.operands order.now }
+    requires extents { (length extents.old ≡ 64) × (extents.old ≡ padded 64 0 (take (length order.now) extents.old)) }
+    ensures { extents.new ≡ padded 64 0 (extents_of (fuseAxes (axes_by rows.entry.strides.now rows.entry.pitch rows.entry.operands
+        order.now (take (length order.now) extents.old)))) }
 {
-    fuse_by(extents, strides, pitch, operands, order, rank);
+    fuse_by(extents, rows, order);
 }
 
 // ---- dropping
 
 // The axes whose extent is not 1, with their extents, written into arrays of zeros. If there is none the first axis stays, so that a walk has
 // an axis to step on.
-fn kept_by<O: Order>(
-    fused: &[u64; 64],
-    order: &O,
-    rank: usize,
-    extents: &mut [u64; 64],
-    axes: &mut [u8; 64],
-) -> usize
-    requires order { (j : ℕ) → j < rank → O.has order.now j }
-    requires arrays { (length fused.now ≡ 64) × (rank ≤ 64) }
-    requires inside { (j : ℕ) → j < rank → get_or (O.names order.now) j 0 < 256 }
+fn kept_by<O: Order>(fused: &[u64], order: O, extents: &mut [u64; 64], axes: &mut [u8; 64]) -> usize
+    requires arrays { (length (O.names order) ≡ length fused.now) × (length fused.now ≤ 64) }
+    requires inside { (j : ℕ) → j < length fused.now → get_or (O.names order) j 0 < 256 }
     requires zeros { (extents.old ≡ replicate 64 0) × (axes.old ≡ replicate 64 0) }
-    ensures count { result ≡ length (stays (take rank fused.now)) }
-    ensures extents { extents.new ≡ padded 64 0 (pick 0 fused.now (stays (take rank fused.now))) }
-    ensures axes { axes.new ≡ padded 64 0 (pick 0 (O.names order.now) (stays (take rank fused.now))) }
+    ensures count { result ≡ length (stays fused.now) }
+    ensures extents { extents.new ≡ padded 64 0 (pick 0 fused.now (stays fused.now)) }
+    ensures axes { axes.new ≡ padded 64 0 (pick 0 (O.names order) (stays fused.now)) }
 {
     let mut count: usize = 0;
-    for i in 0..rank {
-        let f = fused[i];
-        if f != 1 {
-            extents[count] = f;
+    for (i, f) in fused.iter().enumerate() {
+        if *f != 1 {
+            extents[count] = *f;
             axes[count] = order.axis(i) as u8;
             count += 1;
         }
     }
-    if count == 0 && rank > 0 {
+    if count == 0 && !fused.is_empty() {
         extents[0] = fused[0];
         axes[0] = order.axis(0) as u8;
         return 1;
@@ -192,167 +164,168 @@ fn kept_by<O: Order>(
 
 // The axes that the order names whose extent is not 1, or the first one.
 pub fn kept_axes_into<'a>(
-    fused: &'a [u64; 64],
-    order: &'a [usize; 64],
-    rank: usize,
+    fused: &'a [u64],
+    order: &'a [usize],
     extents: &mut [u64; 64],
     axes: &mut [u8; 64],
 ) -> usize
-    requires arrays { (length fused.now ≡ 64) × ((length order.now ≡ 64) × (rank ≤ 64)) }
-    requires inside { (j : ℕ) → j < rank → get_or order.now j 0 < 256 }
+    requires arrays { (length order.now ≡ length fused.now) × (length fused.now ≤ 64) }
+    requires inside { (j : ℕ) → j < length fused.now → get_or order.now j 0 < 256 }
     requires zeros { (extents.old ≡ replicate 64 0) × (axes.old ≡ replicate 64 0) }
-    ensures count { result ≡ length (stays (take rank fused.now)) }
-    ensures extents { extents.new ≡ padded 64 0 (pick 0 fused.now (stays (take rank fused.now))) }
-    ensures axes { axes.new ≡ padded 64 0 (pick 0 order.now (stays (take rank fused.now))) }
+    ensures count { result ≡ length (stays fused.now) }
+    ensures extents { extents.new ≡ padded 64 0 (pick 0 fused.now (stays fused.now)) }
+    ensures axes { axes.new ≡ padded 64 0 (pick 0 order.now (stays fused.now)) }
 {
-    kept_by(fused, order, rank, extents, axes)
+    kept_by(fused, order, extents, axes)
 }
 
 // The axes without those of extent 1, written into arrays of zeros: their extents, and operand k's stride on axis i at k * 64 + i. Answers how
 // many there are.
 fn compress_by<O: Order>(
-    fused: &[u64; 64],
-    strides: &[i64],
-    pitch: usize,
-    operands: usize,
-    order: &O,
-    rank: usize,
+    fused: &[u64],
+    rows: Rows,
+    order: O,
     extents: &mut [u64; 64],
     table: &mut [i64; 512],
 ) -> usize
-    requires order { (j : ℕ) → j < rank → O.has order.now j }
-    requires layout { Named strides.now pitch operands (O.names order.now) rank }
-    requires fused { (length fused.now ≡ 64) × (pitch ≤ 64) }
+    requires layout { Named rows.pitch rows.operands (O.names order) }
+    requires fused { (length (O.names order) ≡ length fused.now) × (rows.pitch ≤ 64) }
     requires zeros { (extents.old ≡ replicate 64 0) × (table.old ≡ replicate 512 (pos 0)) }
-    ensures rank { result ≡ length (compress (axes_by strides.now pitch operands (O.names order.now) (take rank fused.now))) }
+    ensures rank { result ≡ length (compress (axes_by rows.entry.strides.now rows.entry.pitch rows.entry.operands (O.names order) fused.now)) }
     ensures extents { extents.new ≡ padded 64 0 (extents_of
-        (compress (axes_by strides.now pitch operands (O.names order.now) (take rank fused.now)))) }
+        (compress (axes_by rows.entry.strides.now rows.entry.pitch rows.entry.operands (O.names order) fused.now))) }
     ensures strides { table.new ≡ stride_table
-        (compress (axes_by strides.now pitch operands (O.names order.now) (take rank fused.now))) operands }
+        (compress (axes_by rows.entry.strides.now rows.entry.pitch rows.entry.operands (O.names order) fused.now)) rows.entry.operands }
 {
     let mut axes = [0u8; 64];
-    let count = kept_by(fused, order, rank, extents, &mut axes);
-    arrange::pick_strides_into(strides, pitch, operands, &axes, count, table);
+    let count = kept_by(fused, order, extents, &mut axes);
+    arrange::pick_strides_into(rows, &axes[..count], table);
     count
 }
 
 // The axes that the order names without those of extent 1.
-pub fn compress_dims<'a>(
-    fused: &'a [u64; 64],
-    strides: &[i64],
-    pitch: usize,
-    operands: usize,
-    order: &'a [usize; 64],
-    rank: usize,
+pub fn compress_dims(
+    fused: &[u64],
+    rows: Rows,
+    order: &[usize],
     extents: &mut [u64; 64],
     table: &mut [i64; 512],
 ) -> usize
-    requires layout { Named strides.now pitch operands order.now rank }
-    requires fused { (length fused.now ≡ 64) × (pitch ≤ 64) }
+    requires layout { Named rows.pitch rows.operands order.now }
+    requires fused { (length order.now ≡ length fused.now) × (rows.pitch ≤ 64) }
     requires zeros { (extents.old ≡ replicate 64 0) × (table.old ≡ replicate 512 (pos 0)) }
-    ensures rank { result ≡ length (compress (axes_by strides.now pitch operands order.now (take rank fused.now))) }
+    ensures rank { result ≡ length (compress (axes_by rows.entry.strides.now rows.entry.pitch rows.entry.operands order.now fused.now)) }
     ensures extents { extents.new ≡ padded 64 0 (extents_of
-        (compress (axes_by strides.now pitch operands order.now (take rank fused.now)))) }
+        (compress (axes_by rows.entry.strides.now rows.entry.pitch rows.entry.operands order.now fused.now))) }
     ensures strides { table.new ≡ stride_table
-        (compress (axes_by strides.now pitch operands order.now (take rank fused.now))) operands }
+        (compress (axes_by rows.entry.strides.now rows.entry.pitch rows.entry.operands order.now fused.now)) rows.entry.operands }
 {
-    compress_by(fused, strides, pitch, operands, order, rank, extents, table)
+    compress_by(fused, rows, order, extents, table)
 }
 
-// The axes of a layout's plan, written into arrays of zeros: put into the order, fused, those of extent 1 dropped. `strides` has one for each
-// axis, operand by operand. Answers how many axes there are.
+// The axes of a layout's plan, written into arrays of zeros: put into the order, fused, those of extent 1 dropped. Answers how many axes
+// there are.
 pub fn plan_axes_into(
-    extents: &[u64],
-    strides: &[i64],
-    operands: usize,
-    order: &[usize; 64],
+    layout: Layout,
+    order: &[usize],
     es: &mut [u64; 64],
     table: &mut [i64; 512],
 ) -> usize
-    requires layout { InOrder extents.now operands strides.now order.now }
+    requires order { InOrder (length layout.extents.now) order.now }
     requires zeros { (es.old ≡ replicate 64 0) × (table.old ≡ replicate 512 (pos 0)) }
-    ensures rank { result ≡ length (fused_in extents.now operands strides.now order.now) }
-    ensures extents { es.new ≡ padded 64 0 (extents_of (fused_in extents.now operands strides.now order.now)) }
-    ensures strides { table.new ≡ stride_table (fused_in extents.now operands strides.now order.now) operands }
+    ensures rank { result ≡ length (fused_in layout.entry.extents.now layout.entry.operands layout.entry.strides.now order.now) }
+    ensures extents { es.new ≡ padded 64 0 (extents_of
+        (fused_in layout.entry.extents.now layout.entry.operands layout.entry.strides.now order.now)) }
+    ensures strides { table.new ≡ stride_table
+        (fused_in layout.entry.extents.now layout.entry.operands layout.entry.strides.now order.now) layout.entry.operands }
 {
-    let rank = extents.len();
+    let rows = layout.rows();
     let mut fused = [0u64; 64];
-    arrange::pick_into(extents, order, rank, &mut fused);
-    fuse_dims(&mut fused, strides, rank, operands, order, rank);
-    compress_dims(&fused, strides, rank, operands, order, rank, es, table)
+    arrange::pick_into(layout.extents, order, &mut fused);
+    fuse_dims(&mut fused, rows, order);
+    compress_dims(&fused[..order.len()], rows, order, es, table)
 }
 
 // As `plan_axes_into`, where the axes are fused as they are given: there is no order to make, and none to read.
-pub fn given_axes_into(
-    extents: &[u64],
-    strides: &[i64],
-    operands: usize,
-    es: &mut [u64; 64],
-    table: &mut [i64; 512],
-) -> usize
-    requires layout { (length extents.now ≤ 64) × ((operands ≤ 8) × (length strides.now ≡ length extents.now * operands)) }
+pub fn given_axes_into(layout: Layout, es: &mut [u64; 64], table: &mut [i64; 512]) -> usize
     requires zeros { (es.old ≡ replicate 64 0) × (table.old ≡ replicate 512 (pos 0)) }
-    ensures rank { result ≡ length (fused_in extents.now operands strides.now (given (length extents.now))) }
+    ensures rank { result ≡ length
+        (fused_in layout.entry.extents.now layout.entry.operands layout.entry.strides.now (given (length layout.entry.extents.now))) }
     ensures extents { es.new ≡ padded 64 0 (extents_of
-        (fused_in extents.now operands strides.now (given (length extents.now)))) }
-    ensures strides { table.new
-        ≡ stride_table (fused_in extents.now operands strides.now (given (length extents.now))) operands }
+        (fused_in layout.entry.extents.now layout.entry.operands layout.entry.strides.now (given (length layout.entry.extents.now)))) }
+    ensures strides { table.new ≡ stride_table
+        (fused_in layout.entry.extents.now layout.entry.operands layout.entry.strides.now (given (length layout.entry.extents.now))) layout.entry.operands }
 {
-    let rank = extents.len();
+    let rank = layout.extents.len();
+    let rows = layout.rows();
     let mut fused = [0u64; 64];
-    arrange::lay_into(extents, &mut fused);
+    lay_into(layout.extents, &mut fused);
     let order = AsGiven { rank };
-    fuse_by(&mut fused, strides, rank, operands, &order, rank);
-    compress_by(&fused, strides, rank, operands, &order, rank, es, table)
+    fuse_by(&mut fused, rows, order);
+    compress_by(&fused[..rank], rows, order, es, table)
 }
 
 // ---- costs
 
-// The least size of the strides of an axis.
-fn least_size(strides: &[i64; 512], operands: usize, axis: usize) -> u64
-    requires { (0 < operands) × ((operands ≤ 8) × (axis < 64)) }
-    ensures { result ≡ leastOf (λ k. nat_abs (get_or strides.now (k * 64 + axis) (pos 0))) 0 operands }
-{
-    let mut size = strides[axis].unsigned_abs();
-    for k in 1..operands {
-        size = size.min(strides[k * 64 + axis].unsigned_abs());
-    }
-    size
+// The strides of one axis of a plan.
+#[derive(Clone, Copy)]
+struct Column<'a> {
+    strides: &'a [i64; 512],
+    operands: usize,
+    axis: usize,
+    ghost inside: { (0 < operands) × ((operands ≤ 8) × (axis < 64)) },
 }
 
-// Whether every stride of an axis is 0, so that nobody moves along it.
-fn stays(strides: &[i64; 512], operands: usize, axis: usize) -> bool
-    requires { (operands ≤ 8) × (axis < 64) }
-    ensures { result ≡ still (λ k. nat_abs (get_or strides.now (k * 64 + axis) (pos 0))) operands }
-{
-    for k in 0..operands {
-        if strides[k * 64 + axis] != 0 {
-            return false;
+impl<'a> Column<'a> {
+    // The least size of the strides.
+    fn least_size(self) -> u64
+        ensures { result ≡ leastOf (λ k. nat_abs (get_or self.entry.strides.now (k * 64 + self.entry.axis) (pos 0))) 0 self.entry.operands }
+    {
+        let mut size = self.strides[self.axis].unsigned_abs();
+        for k in 1..self.operands {
+            size = size.min(self.strides[k * 64 + self.axis].unsigned_abs());
         }
+        size
     }
-    true
-}
 
-// The cost of an axis, 0 where it has none. It only ranks axes, so it saturates.
-fn cost(strides: &[i64; 512], operands: usize, axis: usize) -> u64
-    requires { (0 < operands) × ((operands ≤ 8) × (axis < 64)) }
-    ensures { result ≡ cost_number (cost_of (λ k. nat_abs (get_or strides.now (k * 64 + axis) (pos 0))) operands) }
-{
-    let size = least_size(strides, operands, axis);
-    if size == 0 {
-        return u64::from(!stays(strides, operands, axis));
+    // Whether every stride is 0, so that nobody moves along the axis.
+    fn stays(self) -> bool
+        ensures { result ≡ still (λ k. nat_abs (get_or self.entry.strides.now (k * 64 + self.entry.axis) (pos 0))) self.entry.operands }
+    {
+        for k in 0..self.operands {
+            if self.strides[k * 64 + self.axis] != 0 {
+                return false;
+            }
+        }
+        true
     }
-    size.saturating_mul(2).min(i64::MAX as u64)
+
+    // The cost of the axis, 0 where it has none. It only ranks axes, so it saturates.
+    fn cost(self) -> u64
+        ensures { result ≡ cost_number (cost_of (λ k. nat_abs (get_or self.entry.strides.now (k * 64 + self.entry.axis) (pos 0))) self.entry.operands) }
+    {
+        let size = self.least_size();
+        if size == 0 {
+            return u64::from(!self.stays());
+        }
+        size.saturating_mul(2).min(i64::MAX as u64)
+    }
 }
 
 // The costs of the axes, 0 where an axis has none, and behind them.
+// Kept: a plan's strides with its two counts: cutting has them while there is no plan yet.
 pub fn compute_costs(strides: &[i64; 512], operands: usize, rank: usize) -> [u64; 64]
     requires { (0 < operands) × ((operands ≤ 8) × (rank ≤ 64)) }
     ensures { result ≡ padded 64 0 (costs strides.now operands rank) }
 {
     let mut found = [0u64; 64];
     for i in 0..rank {
-        found[i] = cost(strides, operands, i);
+        let column = Column {
+            strides,
+            operands,
+            axis: i,
+        };
+        found[i] = column.cost();
     }
     found
 }

@@ -1,8 +1,9 @@
 // NumPy's descriptions of arrays, from C: a text in our numbers, and our numbers as a text.
-ghost use Rattle.std.specs.Prelude.{◌≡◌};
+ghost use Rattle.strided.specs.Memory.{Fills};
 ghost use Rattle.numpy.specs.Numpy.{to_numpy};
 ghost use Rattle.numpy.specs.Memory.{described_at, FromNumpyMemory};
 
+use super::codes::length_code;
 use layout::negated;
 use numpy::{from_numpy, to_numpy};
 
@@ -42,7 +43,8 @@ pub extern "C" fn gougelily_to_numpy<'a>(
     strides: &'a [i64],
     room: &mut [u8],
 ) -> i64
-    ensures { record { answer = result; room = room.new } ≡ to_numpy size extents.now strides.now room.old }
+    ensures { Fills (to_numpy size extents.now strides.now room.old) room.new result }
 {
-    to_numpy(size, extents, strides, room)
+    let listed = to_numpy(size, extents, strides, room);
+    length_code(listed)
 }

@@ -3,8 +3,8 @@ ghost use Rattle.strided.specs.Bulk.{stepped_many};
 ghost use Rattle.strided.specs.Memory.{plan_of, walk_at, walk_in, many_at, StepsMany};
 
 use bulk::step_many_on;
-use layout::negated;
-use strided::{Outcome, Walk};
+use layout::{LentPlan, negated};
+use strided::Walk;
 use walk::memory::flag;
 
 // Many steps of a lent walk: as many of its next blocks as both slices have room for.
@@ -29,6 +29,10 @@ pub extern "C" fn gougelily_step_many<'a>(
         (many_at w' block_lengths.new block_offsets.new)
         result }
 {
+    let plan = match LentPlan::of(rank, operands, extents, blocks, strides) {
+        Ok(plan) => plan,
+        Err(refusal) => return negated(refusal),
+    };
     let over = ended[0] != 0;
     let c = *counters;
     let o = *offsets;
@@ -37,21 +41,13 @@ pub extern "C" fn gougelily_step_many<'a>(
         counters: c,
         offsets: o,
     };
-    let several = step_many_on(
-        rank,
-        operands,
-        extents,
-        blocks,
-        strides,
-        walk,
-        &mut *block_lengths,
-        &mut *block_offsets,
-    );
-    let answer = several.answer;
-    match answer {
-        Outcome::Rejected(refusal) => negated(refusal),
-        Outcome::Ended => 0,
-        Outcome::Block => {
+    let several = match step_many_on(&plan, walk, &mut *block_lengths, &mut *block_offsets) {
+        Ok(several) => several,
+        Err(refusal) => return negated(refusal),
+    };
+    match several.blocks {
+        None => 0,
+        Some(count) => {
             let next = several.walk;
             let e = flag(next.ended);
             let nc = next.counters;
@@ -59,7 +55,7 @@ pub extern "C" fn gougelily_step_many<'a>(
             *ended = [e];
             *counters = nc;
             *offsets = no;
-            several.count as i64
+            count as i64
         }
     }
 }

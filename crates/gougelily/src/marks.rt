@@ -7,15 +7,11 @@ use layout::negated;
 use mark::repeat_mark;
 use strided::Mark;
 
-// The mark as a number.
+// The mark as a number: which of the three it is, counted from 0.
 fn mark_number(mark: Mark) -> u64
     ensures { result ≡ mark_number mark }
 {
-    match mark {
-        Mark::No => 0,
-        Mark::Yes => 1,
-        Mark::Undecided => 2,
-    }
+    mark as u64
 }
 
 // 0 if no two indices of the operand share an offset, 1 if two do, 2 if it is not decided.

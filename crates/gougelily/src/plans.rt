@@ -1,5 +1,5 @@
 // Planning from C: rows 1 to 6 and 24, then the plan, made where the caller wants it.
-ghost use Rattle.std.specs.Prelude.{◌≡◌, length};
+ghost use Rattle.std.specs.Prelude.{◌≡◌};
 ghost use Rattle.strided.specs.Machine.{machine_of};
 ghost use Rattle.strided.specs.Plan.{planned};
 ghost use Rattle.strided.specs.Memory.{purpose_of, plan_at, Plans};
@@ -7,21 +7,6 @@ ghost use Rattle.strided.specs.Memory.{purpose_of, plan_at, Plans};
 use kernel::{Aim, clear_axes, plan_into};
 use layout::{check_planning, negated, purpose_of};
 use strided::Machine;
-
-// How many strides there are, where a slice has them all.
-fn counted(table: &[i64]) -> usize
-    requires { length table.now ≡ 512 }
-    ensures { length table.now ≡ 512 }
-{
-    table.len()
-}
-
-// How many strides a plan's array holds. Its type says so; the contract makes it a fact, which clearing asks for.
-fn places(table: &[i64; 512]) -> usize
-    ensures { length table.now ≡ 512 }
-{
-    counted(table)
-}
 
 // The plan of a layout for a purpose, on a machine of these four numbers.
 #[unsafe(no_mangle)]
@@ -57,7 +42,6 @@ pub extern "C" fn gougelily_plan<'a>(
     if let Err(refusal) = check_planning(extents, sizes, strides, wanted, machine) {
         return negated(refusal);
     }
-    let count = places(plan_strides);
     clear_axes(&mut *plan_extents, &mut *plan_strides);
     let aim = Aim {
         purpose: wanted,

@@ -5,10 +5,11 @@ ghost use Rattle.views.specs.Views.{engineer_of, student_of};
 ghost use Rattle.views.specs.Visits.{visited};
 ghost use Rattle.views.specs.Memory.{visit_at, VisitsMemory, record_of, engineer_at, engineer_memory, student_at, student_memory};
 
+use super::codes::step_code;
 use layout::{negated, purpose_of};
-use strided::Outcome;
+use views::lend;
 use views::memory::visit_into;
-use views::readers::{engineer_into, student_into};
+use views::readers::{LentVisit, engineer_into, student_into};
 
 // A visit of a lent walk.
 #[unsafe(no_mangle)]
@@ -44,16 +45,24 @@ pub extern "C" fn gougelily_visit<'a>(
         let u = purpose_of purpose chosen in
         VisitsMemory (visited extents.now sizes.now strides.now u p (walk_in w)) old new result }
 {
-    let answer = visit_into(
-        extents,
-        sizes,
-        strides,
-        purpose_of(purpose, chosen),
+    let lent = lend(
+        extents.len(),
         rank,
         operands,
         plan_extents,
         blocks,
         plan_strides,
+    );
+    let plan = match lent {
+        Ok(plan) => plan,
+        Err(refusal) => return negated(refusal),
+    };
+    let some = visit_into(
+        extents,
+        sizes,
+        strides,
+        purpose_of(purpose, chosen),
+        &plan,
         ended,
         counters,
         offsets,
@@ -65,11 +74,7 @@ pub extern "C" fn gougelily_visit<'a>(
         count,
         index,
     );
-    match answer {
-        Outcome::Rejected(refusal) => negated(refusal),
-        Outcome::Ended => 0,
-        Outcome::Block => 1,
-    }
+    step_code(some)
 }
 
 // What an engineer sees of a record.
@@ -92,7 +97,7 @@ pub extern "C" fn gougelily_engineer<'a>(
         let new = engineer_at engineer_counters.new engineer_length.new engineer_offsets.new engineer_strides.new in
         new ≡ engineer_memory (engineer_of v) }
 {
-    engineer_into(
+    let visit = LentVisit {
         number,
         counters,
         length,
@@ -100,6 +105,9 @@ pub extern "C" fn gougelily_engineer<'a>(
         strides,
         count,
         index,
+    };
+    engineer_into(
+        &visit,
         engineer_counters,
         engineer_length,
         engineer_offsets,
@@ -128,7 +136,7 @@ pub extern "C" fn gougelily_student<'a>(
         let new = student_at student_number.new student_length.new student_count.new student_index.new in
         new ≡ student_memory (student_of v) }
 {
-    student_into(
+    let visit = LentVisit {
         number,
         counters,
         length,
@@ -136,6 +144,9 @@ pub extern "C" fn gougelily_student<'a>(
         strides,
         count,
         index,
+    };
+    student_into(
+        &visit,
         student_number,
         student_length,
         student_count,

@@ -1,11 +1,29 @@
 // A walk from C: its beginning, and one step of a state that is lent.
+ghost use Rattle.std.specs.Prelude.{◌≡◌};
 ghost use Rattle.strided.specs.Begin.{begun_at};
 ghost use Rattle.strided.specs.Step.{stepped};
 ghost use Rattle.strided.specs.Memory.{plan_of, walk_at, walk_in, step_at, Steps, Begins};
 
-use layout::negated;
+use super::codes::step_code;
+use layout::{LentPlan, negated};
 use states::begin_on;
+use strided::{Refusal, Walk};
 use walk::memory::{flag, step_into};
+
+// A walk begins on the plan, once it is lent.
+fn begun(
+    rank: usize,
+    operands: usize,
+    extents: &[u64; 64],
+    blocks: &[u64; 64],
+    strides: &[i64; 512],
+    starts: &[i64],
+) -> Result<Walk, Refusal>
+    ensures { result ≡ begun_at (plan_of rank operands extents.now blocks.now strides.now) starts.now }
+{
+    let plan = LentPlan::of(rank, operands, extents, blocks, strides)?;
+    begin_on(&plan, starts)
+}
 
 // A walk's beginning.
 #[unsafe(no_mangle)]
@@ -25,7 +43,7 @@ pub extern "C" fn gougelily_begin<'a>(
         (walk_at ended.new counters.new offsets.new)
         result }
 {
-    match begin_on(rank, operands, extents, blocks, strides, starts) {
+    match begun(rank, operands, extents, blocks, strides, starts) {
         Ok(walk) => {
             let first = walk.counters;
             let starts = walk.offsets;
@@ -61,12 +79,12 @@ pub extern "C" fn gougelily_step<'a>(
         let new = step_at w' block_counters.new length.new block_offsets.new block_strides.new in
         Steps (stepped p (walk_in w)) old new result }
 {
-    step_into(
-        rank,
-        operands,
-        extents,
-        blocks,
-        strides,
+    let plan = match LentPlan::of(rank, operands, extents, blocks, strides) {
+        Ok(plan) => plan,
+        Err(refusal) => return negated(refusal),
+    };
+    let some = step_into(
+        &plan,
         ended,
         counters,
         offsets,
@@ -74,5 +92,6 @@ pub extern "C" fn gougelily_step<'a>(
         length,
         block_offsets,
         block_strides,
-    )
+    );
+    step_code(some)
 }

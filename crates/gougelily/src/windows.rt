@@ -3,7 +3,7 @@ ghost use Rattle.window.specs.Window.{windowed};
 ghost use Rattle.window.specs.Memory.{Windows};
 
 use layout::negated;
-use window::{check_window, window_into};
+use window::{Picks, check_window, window_into};
 
 // A window of a layout: its own layout, and a shift of each operand's start.
 #[unsafe(no_mangle)]
@@ -24,7 +24,12 @@ pub extern "C" fn gougelily_window<'a>(
         (record { extents = window_extents.new; strides = window_strides.new; shifts = shifts.new })
         result }
 {
-    if let Err(refusal) = check_window(extents, sizes, strides, firsts, counts, steps) {
+    let picks = Picks {
+        firsts,
+        counts,
+        steps,
+    };
+    if let Err(refusal) = check_window(extents, sizes, strides, picks) {
         return negated(refusal);
     }
     *window_extents = [0u64; 64];
@@ -34,9 +39,7 @@ pub extern "C" fn gougelily_window<'a>(
         extents,
         sizes,
         strides,
-        firsts,
-        counts,
-        steps,
+        picks,
         &mut *window_extents,
         &mut *window_strides,
         &mut *shifts,

@@ -1,15 +1,8 @@
--- What the functions that try widths and caps are handed, and the form in which they answer.
+-- The form in which the functions that try widths and caps answer.
 -- Assumes nothing.
 use Rattle.std.specs.Prelude.{Bool, true, false, cond, List, [], map, ℕ, leb, ℤ, length, get_or, Option, None, Some, unwrap_or}
 use Rattle.strided.specs.Base.{padded, run, sum}
 use Rattle.strided.specs.Weights.{addend}
-use Rattle.auxiliary.specs.Fitting.{Fitting}
-use Rattle.auxiliary.specs.Moving.{MovingTo}
-
--- a layout within the limits, and a table with the ranks of its axes that move: no other enters a weight
-pub record Ranked (es : List ℕ) (ss : List ℤ) (table : List (List ℕ)) (operands : ℕ) : Type 0 where
-  pub fits : Fitting ss (length es) operands
-  pub ranks : MovingTo es ss operands table
 
 -- whether a try gave weights, and its weights as an array, all 0 where it gave none
 unfoldable pub there : Option (List ℕ) → Bool

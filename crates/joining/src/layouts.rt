@@ -118,6 +118,7 @@ pub fn put_row(row: &[u8; 64], at: usize, out: &mut [u64; 512])
 }
 
 // The rows of ranks of the operands, one behind the other, written into an array of zeros.
+// Kept: `operands` beside a table that has rows for eight: they are read there, and written behind one another.
 pub fn ranks_into(table: &[[u8; 64]; 8], operands: usize, out: &mut [u64; 512])
     requires operands_bound { operands ≤ 8 }
     requires even { Even table.now }

@@ -5,16 +5,19 @@ ghost use Rattle.session.specs.Session.{given, begun, joined, left};
 ghost use Rattle.session.specs.Made.{session_at, Lent};
 
 use kernel::Aim;
-use layout::check_planning;
+use layout::{Layout, check_planning};
 use layouts::lay;
 use moves::{add_operand, begun, clear_plan, drop_operand, grown, keep, lay_operands, shrunk};
-use session::{Numbers, check_join, check_leave};
+use session::{LentSession, Numbers, check_join, check_leave};
 use strided::Refusal;
 pub use values::{begin, join, leave};
 
 pub mod layouts;
 pub mod moves;
 pub mod values;
+
+// Kept: a session's numbers and arrays are lent one by one as C lends them, here and in `keep`: a struct of `&mut` fields would say in each
+// contract of each field that it is lent on, and is no plainer.
 
 // A SESSION BEGINS in lent numbers and arrays, with any layout that planning accepts: rows 1 to 4, 24, 5, 6. On a refusal every byte is as it
 // was.
@@ -49,13 +52,17 @@ pub fn begin_lent<'a>(
         aim.machine,
     )?;
     let rank = layout_extents.len();
+    let layout = Layout {
+        extents: layout_extents,
+        strides: layout_strides,
+        operands: layout_sizes.len(),
+    };
     let mut table = [[0u8; 64]; 8];
     *extents = [0u64; 64];
     lay(layout_extents, &mut *extents);
     lay_operands(
-        rank,
+        layout,
         layout_sizes,
-        layout_strides,
         &mut table,
         &mut *sizes,
         &mut *strides,
@@ -100,8 +107,8 @@ pub fn join_lent<'a>(
         Lent (joined old size joining.now) old new result }
 {
     let mut table = [[0u8; 64]; 8];
-    check_join(
-        *numbers,
+    let session = LentSession {
+        numbers: *numbers,
         extents,
         sizes,
         strides,
@@ -111,9 +118,8 @@ pub fn join_lent<'a>(
         plan_extents,
         blocks,
         plan_strides,
-        joining,
-        &mut table,
-    )?;
+    };
+    check_join(&session, joining, &mut table)?;
     add_operand(
         *numbers,
         size,
@@ -161,8 +167,8 @@ pub fn leave_lent<'a>(
         Lent (left old operand) old new result }
 {
     let mut table = [[0u8; 64]; 8];
-    check_leave(
-        *numbers,
+    let session = LentSession {
+        numbers: *numbers,
         extents,
         sizes,
         strides,
@@ -172,9 +178,8 @@ pub fn leave_lent<'a>(
         plan_extents,
         blocks,
         plan_strides,
-        operand,
-        &mut table,
-    )?;
+    };
+    check_leave(&session, operand, &mut table)?;
     drop_operand(
         *numbers,
         operand as usize,

@@ -2,7 +2,6 @@
 // gives. Who calls has judged the rows.
 ghost use Rattle.std.specs.Prelude.{◌≡◌, [], ◌∷◌, ◌++◌, ◌*◌, ◌≤◌, ◌<◌, pos, length, take, replicate};
 ghost use Rattle.strided.specs.Base.{padded};
-ghost use Rattle.auxiliary.specs.Fitting.{Fitting};
 ghost use Rattle.session.specs.Session.{sizes_without, strides_without};
 ghost use Rattle.session.specs.Made.{TableOf, KeptIn, LayoutRight, given_in, Standing, begun_with, with_more, with_less, with_plan};
 
@@ -12,7 +11,7 @@ use super::layouts::{
 use auxiliary::rank_table_into;
 use fuse::compute_costs;
 use kernel::Aim;
-use layout::{lead, purpose_of};
+use layout::{Layout, lead, purpose_of};
 use session::Numbers;
 use session::kept::{axes_kept_into, blocks_kept_into, weights_kept};
 
@@ -72,26 +71,24 @@ fn planned(numbers: Numbers, axes: usize) -> Numbers
 
 // A layout's operands, laid into a session's arrays, and the table of their ranks, which is lent as zeros.
 pub fn lay_operands<'a>(
-    rank: usize,
+    layout: Layout<'a>,
     layout_sizes: &'a [u64],
-    layout_strides: &'a [i64],
     table: &mut [[u8; 64]; 8],
     sizes: &mut [u64; 8],
     strides: &mut [i64; 512],
     ranks: &mut [u64; 512],
 )
-    requires fitting { Fitting layout_strides.now rank (length layout_sizes.now) }
+    requires operands { layout.operands ≡ length layout_sizes.now }
     requires table_value { table.old ≡ replicate 8 (replicate 64 0) }
-    ensures { Standing rank layout_sizes.now layout_strides.now sizes.new strides.new ranks.new table.new }
+    ensures { Standing (length layout.entry.extents.now) layout_sizes.now layout.entry.strides.now sizes.new strides.new ranks.new table.new }
 {
-    let operands = layout_sizes.len();
     *sizes = [0u64; 8];
     lay(layout_sizes, &mut *sizes);
     *strides = [0i64; 512];
-    put_strides(strides, 0, layout_strides);
-    rank_table_into(layout_strides, rank, operands, &mut *table);
+    put_strides(strides, 0, layout.strides);
+    rank_table_into(layout, &mut *table);
     *ranks = [0u64; 512];
-    ranks_into(table, operands, ranks);
+    ranks_into(table, layout_sizes.len(), ranks);
 }
 
 // An operand joins at the end: its own ranks alone are worked out.

@@ -1,10 +1,8 @@
-// The entries by value: a session is taken and returned. Each lays its arrays out, changes them where they lie, and puts a session together
-// again.
+// The entries by value: a session is taken and returned. Its arrays are lent to the call where they lie, and its numbers put back behind it.
 ghost use Rattle.std.specs.Prelude.{◌≡◌};
 ghost use Rattle.session.specs.Session.{given, begun as begunOf, joined as joinedOf, left as left_of};
 ghost use Rattle.session.specs.Made.{session_at, numbers_of};
 
-use super::moves::begun;
 use super::{begin_lent, join_lent, leave_lent};
 use kernel::Aim;
 use session::{Numbers, Session};
@@ -26,42 +24,18 @@ fn numbers_of(session: &Session) -> Numbers
     }
 }
 
-// A session out of its numbers and arrays.
-fn together(
-    numbers: Numbers,
-    extents: [u64; 64],
-    sizes: [u64; 8],
-    strides: [i64; 512],
-    ranks: [u64; 512],
-    weights: [u64; 64],
-    costs: [u64; 64],
-    plan_extents: [u64; 64],
-    blocks: [u64; 64],
-    plan_strides: [i64; 512],
-) -> Session
-    ensures { result ≡ session_at numbers extents sizes strides ranks weights costs plan_extents blocks plan_strides }
+// Numbers, put back into a session.
+fn put_numbers(session: &mut Session, numbers: Numbers)
+    ensures { let s = session.old in
+        session.new ≡ session_at numbers s.extents s.sizes s.strides s.ranks s.weights s.costs s.plan.extents s.plan.blocks s.plan.strides }
 {
-    let plan = Plan {
-        rank: numbers.plan_rank,
-        operands: numbers.plan_operands,
-        extents: plan_extents,
-        blocks,
-        strides: plan_strides,
-    };
-    Session {
-        purpose: numbers.purpose,
-        chosen: numbers.chosen,
-        machine: numbers.machine,
-        rank: numbers.rank,
-        operands: numbers.operands,
-        extents,
-        sizes,
-        strides,
-        ranks,
-        weights,
-        costs,
-        plan,
-    }
+    session.purpose = numbers.purpose;
+    session.chosen = numbers.chosen;
+    session.machine = numbers.machine;
+    session.rank = numbers.rank;
+    session.operands = numbers.operands;
+    session.plan.rank = numbers.plan_rank;
+    session.plan.operands = numbers.plan_operands;
 }
 
 // A SESSION BEGINS with any layout that planning accepts: rows 1 to 4, 24, 5, 6.
@@ -73,128 +47,94 @@ pub fn begin<'a>(
 ) -> Result<Session, Refusal>
     ensures { result ≡ begunOf (given aim.machine layout_extents.now layout_sizes.now layout_strides.now aim.purpose) }
 {
-    let mut numbers = begun(aim, layout_extents.len(), layout_sizes.len());
-    let mut extents = [0u64; 64];
-    let mut sizes = [0u64; 8];
-    let mut strides = [0i64; 512];
-    let mut ranks = [0u64; 512];
-    let mut weights = [0u64; 64];
-    let mut costs = [0u64; 64];
-    let mut plan_extents = [0u64; 64];
-    let mut blocks = [0u64; 64];
-    let mut plan_strides = [0i64; 512];
+    let plan = Plan {
+        rank: 0,
+        operands: 0,
+        extents: [0; 64],
+        blocks: [0; 64],
+        strides: [0; 512],
+    };
+    let mut fresh = Session {
+        purpose: 0,
+        chosen: 0,
+        machine: aim.machine,
+        rank: 0,
+        operands: 0,
+        extents: [0; 64],
+        sizes: [0; 8],
+        strides: [0; 512],
+        ranks: [0; 512],
+        weights: [0; 64],
+        costs: [0; 64],
+        plan,
+    };
+    let mut numbers = numbers_of(&fresh);
     begin_lent(
         aim,
         &mut numbers,
         layout_extents,
         layout_sizes,
         layout_strides,
-        &mut extents,
-        &mut sizes,
-        &mut strides,
-        &mut ranks,
-        &mut weights,
-        &mut costs,
-        &mut plan_extents,
-        &mut blocks,
-        &mut plan_strides,
+        &mut fresh.extents,
+        &mut fresh.sizes,
+        &mut fresh.strides,
+        &mut fresh.ranks,
+        &mut fresh.weights,
+        &mut fresh.costs,
+        &mut fresh.plan.extents,
+        &mut fresh.plan.blocks,
+        &mut fresh.plan.strides,
     )?;
-    Ok(together(
-        numbers,
-        extents,
-        sizes,
-        strides,
-        ranks,
-        weights,
-        costs,
-        plan_extents,
-        blocks,
-        plan_strides,
-    ))
+    put_numbers(&mut fresh, numbers);
+    Ok(fresh)
 }
 
 // AN OPERAND JOINS a session: rows 10, 20, 3, 6.
-// Kept: joining and leaving differ in one call, and a closure over its eleven lent places, with its contract, is no plainer.
 pub fn join(session: Session, size: u64, joining: &[i64]) -> Result<Session, Refusal>
     ensures { result ≡ joinedOf session size joining.now }
 {
-    let mut numbers = numbers_of(&session);
-    let extents = session.extents;
-    let mut sizes = session.sizes;
-    let mut strides = session.strides;
-    let mut ranks = session.ranks;
-    let mut weights = session.weights;
-    let mut costs = session.costs;
-    let plan = session.plan;
-    let mut plan_extents = plan.extents;
-    let mut blocks = plan.blocks;
-    let mut plan_strides = plan.strides;
+    let mut after = session;
+    let mut numbers = numbers_of(&after);
+    let lent = &mut after;
     join_lent(
         &mut numbers,
-        &extents,
-        &mut sizes,
-        &mut strides,
-        &mut ranks,
-        &mut weights,
-        &mut costs,
-        &mut plan_extents,
-        &mut blocks,
-        &mut plan_strides,
+        &lent.extents,
+        &mut lent.sizes,
+        &mut lent.strides,
+        &mut lent.ranks,
+        &mut lent.weights,
+        &mut lent.costs,
+        &mut lent.plan.extents,
+        &mut lent.plan.blocks,
+        &mut lent.plan.strides,
         size,
         joining,
     )?;
-    Ok(together(
-        numbers,
-        extents,
-        sizes,
-        strides,
-        ranks,
-        weights,
-        costs,
-        plan_extents,
-        blocks,
-        plan_strides,
-    ))
+    put_numbers(lent, numbers);
+    Ok(after)
 }
 
 // OPERAND `operand` LEAVES a session, and the later ones move up: rows 10, 21.
+// Kept: beside `join`, which differs in one call: a closure over its eleven lent places, with its contract, is no plainer.
 pub fn leave(session: Session, operand: u64) -> Result<Session, Refusal>
     ensures { result ≡ left_of session operand }
 {
-    let mut numbers = numbers_of(&session);
-    let extents = session.extents;
-    let mut sizes = session.sizes;
-    let mut strides = session.strides;
-    let mut ranks = session.ranks;
-    let mut weights = session.weights;
-    let mut costs = session.costs;
-    let plan = session.plan;
-    let mut plan_extents = plan.extents;
-    let mut blocks = plan.blocks;
-    let mut plan_strides = plan.strides;
+    let mut after = session;
+    let mut numbers = numbers_of(&after);
+    let lent = &mut after;
     leave_lent(
         &mut numbers,
-        &extents,
-        &mut sizes,
-        &mut strides,
-        &mut ranks,
-        &mut weights,
-        &mut costs,
-        &mut plan_extents,
-        &mut blocks,
-        &mut plan_strides,
+        &lent.extents,
+        &mut lent.sizes,
+        &mut lent.strides,
+        &mut lent.ranks,
+        &mut lent.weights,
+        &mut lent.costs,
+        &mut lent.plan.extents,
+        &mut lent.plan.blocks,
+        &mut lent.plan.strides,
         operand,
     )?;
-    Ok(together(
-        numbers,
-        extents,
-        sizes,
-        strides,
-        ranks,
-        weights,
-        costs,
-        plan_extents,
-        blocks,
-        plan_strides,
-    ))
+    put_numbers(lent, numbers);
+    Ok(after)
 }

@@ -1,7 +1,7 @@
 -- OUR OWN WALKS BY BLOCKS, WHERE AXIS 0 OF THE PLAN IS AN ORIGINAL AXIS: there the cells of each block go along that axis, so that the walk with
 -- each block as one run along it is accepted. For the index in the plan is additive in the original index.
 -- Assumes nothing.
-use Rattle.std.specs.Prelude.{◌≡◌, refl, Bool, true, false, eqb, ℤ, length, get_or, take, replicate, Some}
+use Rattle.std.specs.Prelude.{◌≡◌, refl, Bool, true, false, eqb, ℤ, length, get_or, take, replicate, Option, None, Some, Result}
 use Rattle.std.proofs.Math.Path.{sym, ap}
 use Rattle.std.proofs.Common.{ap₂, ◌∙◌, subst, add-zero, zero-add, arith}
 use mathlib.Core.List.{List, [], ◌∷◌, ◌++◌}
@@ -16,21 +16,23 @@ use Rattle.strided.specs.Walk.{cell_at}
 use Rattle.strided.specs.Text.{Each, FitU}
 use Rattle.strided.specs.Plan.{planned}
 use Rattle.strided.specs.Begin.{begun_at}
-use Rattle.strided.specs.Demand3.{replaced, steps_from, Place, cell_of, Meets, Demand3}
+use Rattle.strided.specs.Demand3.{replaced, steps_from, Ends, Place, cell_of, Meets, Demand3}
 use Rattle.strided.specs.declared.Machine.{Machine}
 use Rattle.strided.specs.declared.Purpose.{Purpose}
 use Rattle.strided.specs.declared.Plan.{Plan}
+use Rattle.strided.specs.declared.Refusal.{Refusal}
+use Rattle.strided.specs.declared.Block.{Block}
 use Rattle.strided.specs.declared.Stepped.{Stepped}
-use Rattle.strided.specs.declared.Outcome.{Outcome}
-use Rattle.strided.specs.declared.Outcome.TheVariants.{Block, Ended, Rejected}
+use Rattle.strided.specs.Step.{handed_block}
 use Rattle.laws.specs.Base.Layouts.{within-length, within-at, within-total, extent_le, length-extents}
 use Rattle.laws.specs.Order.Picked.{length-pick}
 use Rattle.laws.specs.Fuse.Maps.{plan_in, orig_plan}
+use Rattle.laws.specs.Demand3.Served.{one_block}
 use Rattle.laws.specs.Demand3.Whole.{demand3_any}
 use Rattle.judge.specs.Visits.{Visit, visit_line, VisitFits, Formed}
 use Rattle.judge.specs.Judge.{moved, Judgement, Judges}
 use Rattle.judge.proofs.Own.{each_fits, text_accepted, told_at, taken, told-met}
-use Rattle.judge.proofs.Blocks.{run_by, block_run, run_in, runs_before, AlongAxis, blocks_accepted}
+use Rattle.judge.proofs.Blocks.{run_by, run_in, runs_before, AlongAxis, blocks_accepted}
 use Rattle.judge.specs.declared.Verdict.TheVariants.{Accepted}
 use Rattle.std.specs.Prelude.{Ok}
 use Rattle.strided.specs.declared.Walk.{Walk}
@@ -210,53 +212,52 @@ each_over : {A : Type 0} (P : Visit → Type 0) (f : A → List Visit) (l : List
 each_over P f [] h = tt
 each_over P f (x ∷ l) h = each_append P (f x) (over l f) (h 0 x refl) (each_over P f l (λ i y e. h (suc i) y e))
 
-module _ (es sizes : List ℕ) (ss : List ℤ) (u : Purpose) (p : Plan) (steps : List Stepped) (few : length es ≤ 64)
+module _ (es sizes : List ℕ) (ss : List ℤ) (u : Purpose) (p : Plan) (steps : List (Result Stepped Refusal)) (few : length es ≤ 64)
     (starts : List ℤ) (d : Demand3 es sizes ss u p steps starts) (a : ℕ) (f : FirstAxis es (length sizes) ss u a) where
   -- the index met at a place: it is told there, and its plan index is the cell's
-  record Met (s : Stepped) (k : ℕ) : Type 0 where
+  record Met (b : Block) (k : ℕ) : Type 0 where
     pub index : List ℕ
     pub inside : Within es index
-    pub told : told_at es sizes ss u p steps s k ≡ index
-    pub cell : index_in_plan es (length sizes) ss u index ≡ cell_of es sizes ss u p steps k s
+    pub told : told_at es sizes ss u p steps b k ≡ index
+    pub cell : index_in_plan es (length sizes) ss u index ≡ cell_of es sizes ss u p steps k b
 
-  met_at_lem : (m k : ℕ) (s : Stepped) → Place es sizes ss u p steps m k s → Met s k
-  met_at_lem m k s at =
-      let w = d.meets m k s at in
+  met_at_lem : (m k : ℕ) (b : Block) → Place es sizes ss u p steps m k b → Met b k
+  met_at_lem m k b at =
+      let w = d.meets m k b at in
       let q : Meets es sizes ss u p steps m k w.0 = w.1 in
-      let by-is : q.by ≡ s = let g = q.place.there in let h = at.there in cc (g, h) in
+      let by-is : q.by ≡ b = one_block es sizes ss u p steps q.place at in
       record {
         index = w.0;
         inside = q.inside;
-        told = ap (λ (t : Stepped). told_at es sizes ss u p steps t k) (sym by-is) ∙ told-met es sizes ss u p steps few starts d m k w.0 q;
+        told = ap (λ (t : Block). told_at es sizes ss u p steps t k) (sym by-is) ∙ told-met es sizes ss u p steps few starts d m k w.0 q;
         cell = q.index ∙ ap (cell_of es sizes ss u p steps k) by-is;
       }
 
   -- THE CELLS OF A BLOCK GO ALONG a
   pub first-along : AlongAxis es sizes ss u p steps a
-  first-along m k s at =
-      let h : k < s.length = at.below in
-      let x = met_at_lem m 0 s (record { there = at.there; hands = at.hands; below = omega arith }) in
-      let y = met_at_lem m k s at in
+  first-along m k b at =
+      let h : k < b.length = at.below in
+      let x = met_at_lem m 0 b (record { step = at.step; there = at.there; hands = at.hands; below = omega arith }) in
+      let y = met_at_lem m k b at in
       y.told
       ∙ plan_along es (length sizes) ss u a f x.index y.index k x.inside y.inside
-      (y.cell ∙ cell_moved (take p.rank s.counters) k ∙ ap (moved 0 k) (sym x.cell))
+      (y.cell ∙ cell_moved (take p.rank b.counters) k ∙ ap (moved 0 k) (sym x.cell))
       ∙ ap (moved a k) (sym x.told)
 
   -- a block is a run that a line can say
-  run_fits : total es ≤ 65536 → (m : ℕ) (s : Stepped) → nth steps m ≡ Some s → Each (VisitFits (length es)) (run_in es sizes ss u p steps a s)
-  run_fits t m s e = go s.answer refl
+  run_fits : total es ≤ 65536 → (m : ℕ) (s : Result Stepped Refusal) → nth steps m ≡ Some s → Each (VisitFits (length es)) (run_in es sizes ss u p steps a s)
+  run_fits t m s e = go (handed_block s) refl
     where
-      go : (o : Outcome) → s.answer ≡ o → Each (VisitFits (length es)) (run_by o (block_run es sizes ss u p steps a s))
-      go Ended q = tt
-      go (Rejected r) q = tt
-      go Block q =
-          let some : 0 < s.length = (d.order m s e q).4 in
-          let k : ℕ = s.length - 1 in
-          let x = met_at_lem m 0 s (record { there = e; hands = q; below = some }) in
-          let at : Place es sizes ss u p steps m k s = record { there = e; hands = q; below = omega arith } in
-          let y = met_at_lem m k s at in
+      go : (o : Option Block) → handed_block s ≡ o → Each (VisitFits (length es)) (run_by es sizes ss u p steps a o)
+      go None q = tt
+      go (Some b) q =
+          let some : 0 < b.length = (d.order m s b e q).4 in
+          let k : ℕ = b.length - 1 in
+          let x = met_at_lem m 0 b (record { step = s; there = e; hands = q; below = some }) in
+          let at : Place es sizes ss u p steps m k b = record { step = s; there = e; hands = q; below = omega arith } in
+          let y = met_at_lem m k b at in
           let long : length x.index ≡ length es = within-length es x.index x.inside in
-          let moves : y.index ≡ moved a k x.index = sym y.told ∙ first-along m k s at ∙ ap (moved a k) x.told in
+          let moves : y.index ≡ moved a k x.index = sym y.told ∙ first-along m k b at ∙ ap (moved a k) x.told in
           let last : get_or y.index a 0 ≡ get_or x.index a 0 + k = ap (λ (l : List ℕ). get_or l a 0) moves ∙ moved_at_lem a k x.index (omega (arith, long, f.there)) in
           let below : get_or y.index a 0 < get_or es a 0 = within-at es y.index a y.inside f.there in
           let extent : get_or es a 0 ≤ total es = extent_le es a (within-total es x.index x.inside) in (
@@ -284,16 +285,16 @@ pub first_accepted : (mc : Machine) (es sizes : List ℕ) (ss : List ℤ) (u : P
     → (bs : List ℕ) (starts : List ℤ) (w : Walk) → begun_at (replaced q bs) starts ≡ Ok w
     → (n : ℕ)
     → let p : Plan = replaced q bs in
-    let steps : List Stepped = steps_from p n w in
-    (m : ℕ) (s : Stepped) → nth steps m ≡ Some s → s.answer ≡ Ended
+    let steps : List (Result Stepped Refusal) = steps_from p n w in
+    (m : ℕ) (s : Result Stepped Refusal) (end : Walk) → nth steps m ≡ Some s → Ends s end
     → (marks : List ℕ) → length marks ≡ total es → (j : Judgement) → Judges es (over (runs_before es sizes ss u p steps a m) visit_line) marks j → j.answer ≡ Ok Accepted
-first_accepted mc es sizes ss u q hp few t a f bs starts w hb n m s e h marks k j g =
+first_accepted mc es sizes ss u q hp few t a f bs starts w hb n m s end e h marks k j g =
     let p : Plan = replaced q bs in
-    let steps : List Stepped = steps_from p n w in
+    let steps : List (Result Stepped Refusal) = steps_from p n w in
     let d : Demand3 es sizes ss u p steps starts = demand3_any mc es sizes ss u hp bs starts hb n in
     let vs : List Visit = runs_before es sizes ss u p steps a m in
     let there : a < length es = f.there in
     text_accepted es (over vs visit_line) marks vs
     (runs_formed es sizes ss u p steps few starts d a f t m)
-    (blocks_accepted mc es sizes ss u q hp few bs starts w hb n a (first-along es sizes ss u p steps few starts d a f) m s e h)
+    (blocks_accepted mc es sizes ss u q hp few bs starts w hb n a (first-along es sizes ss u p steps few starts d a f) m s end e h)
     (omega arith) few t k j g

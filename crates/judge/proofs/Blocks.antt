@@ -2,18 +2,19 @@
 -- walk followed to its end, each as one run along that axis, are accepted. `AlongAxis` says so of a walk, by the indices told; Along has plans
 -- of which it holds.
 -- Assumes nothing.
-use Rattle.std.specs.Prelude.{◌≡◌, refl, List, [], ◌∷◌, ◌++◌, map, ℕ, zero, suc, ◌+◌, ◌≤◌, ◌<◌, ℤ, length, take, Some, Ok}
+use Rattle.std.specs.Prelude.{◌≡◌, refl, List, [], ◌∷◌, ◌++◌, map, ℕ, zero, suc, ◌+◌, ◌≤◌, ◌<◌, ℤ, length, take, Option, None, Some, Result, Ok}
 use Rattle.std.proofs.Common.{sym, ap, ap₂, ◌∙◌, subst, append-nil, zero-add, arith}
 use Rattle.strided.specs.Base.{over, nth, run}
 use Rattle.strided.specs.Plan.{planned}
 use Rattle.strided.specs.Begin.{begun_at}
-use Rattle.strided.specs.Demand3.{replaced, steps_from, Place}
+use Rattle.strided.specs.Demand3.{replaced, steps_from, Ends, Place}
 use Rattle.strided.specs.declared.Machine.{Machine}
 use Rattle.strided.specs.declared.Purpose.{Purpose}
 use Rattle.strided.specs.declared.Plan.{Plan}
+use Rattle.strided.specs.declared.Refusal.{Refusal}
+use Rattle.strided.specs.declared.Block.{Block}
 use Rattle.strided.specs.declared.Stepped.{Stepped}
-use Rattle.strided.specs.declared.Outcome.{Outcome}
-use Rattle.strided.specs.declared.Outcome.TheVariants.{Block, Ended, Rejected}
+use Rattle.strided.specs.Step.{handed_block}
 use Rattle.laws.specs.Base.Lists.{over-append}
 use Rattle.laws.specs.Base.Counting.{count}
 use Rattle.laws.specs.Demand3.Whole.{demand3_any}
@@ -49,18 +50,17 @@ map-run f g s (suc n) h =
 
 -- ---- the runs of a walk's blocks
 
-abbrev pub run_by : Outcome → Visit → List Visit
-run_by Block v = v ∷ []
-run_by Ended v = []
-run_by (Rejected r) v = []
+module _ (es sizes : List ℕ) (ss : List ℤ) (u : Purpose) (p : Plan) (steps : List (Result Stepped Refusal)) (a : ℕ) where
+  -- a block, from the index told at its first cell
+  abbrev pub block_run : Block → Visit
+  block_run b = record { axis = a; len = b.length; index = told_at es sizes ss u p steps b 0 }
 
-module _ (es sizes : List ℕ) (ss : List ℤ) (u : Purpose) (p : Plan) (steps : List Stepped) (a : ℕ) where
-  -- the block of a step, from the index told at its first cell
-  abbrev pub block_run : Stepped → Visit
-  block_run s = record { axis = a; len = s.length; index = told_at es sizes ss u p steps s 0 }
+  abbrev pub run_by : Option Block → List Visit
+  run_by None = []
+  run_by (Some b) = block_run b ∷ []
 
-  abbrev pub run_in : Stepped → List Visit
-  run_in s = run_by s.answer (block_run s)
+  abbrev pub run_in : Result Stepped Refusal → List Visit
+  run_in s = run_by (handed_block s)
 
   -- those of the steps before step m
   abbrev pub runs_before : ℕ → List Visit
@@ -68,21 +68,20 @@ module _ (es sizes : List ℕ) (ss : List ℤ) (u : Purpose) (p : Plan) (steps :
 
   -- cell k of a block is told k further along the original axis a than the first
   abbrev pub AlongAxis : Type 0
-  AlongAxis = (m k : ℕ) (s : Stepped) → Place es sizes ss u p steps m k s → told_at es sizes ss u p steps s k ≡ moved a k (told_at es sizes ss u p steps s 0)
+  AlongAxis = (m k : ℕ) (b : Block) → Place es sizes ss u p steps m k b → told_at es sizes ss u p steps b k ≡ moved a k (told_at es sizes ss u p steps b 0)
 
   module _ (along : AlongAxis) where
-    run-cells : (i : ℕ) (s : Stepped) → nth steps i ≡ Some s → over (run_in s) cells ≡ told_in es sizes ss u p steps s
-    run-cells i s e = go s.answer refl
+    run-cells : (i : ℕ) (s : Result Stepped Refusal) → nth steps i ≡ Some s → over (run_in s) cells ≡ told_in es sizes ss u p steps s
+    run-cells i s e = go (handed_block s) refl
       where
-        go : (o : Outcome) → s.answer ≡ o → over (run_by o (block_run s)) cells ≡ told_by o (map (told_at es sizes ss u p steps s) (run 0 s.length))
-        go Block q =
-            append-nil (cells (block_run s))
-            ∙ map-run (λ (k : ℕ). moved a k (told_at es sizes ss u p steps s 0)) (told_at es sizes ss u p steps s) 0 s.length
-            (λ k l. ap (λ (j : ℕ). moved a j (told_at es sizes ss u p steps s 0)) (zero-add k)
-            ∙ sym (along i k s (record { there = e; hands = q; below = l }))
-            ∙ ap (told_at es sizes ss u p steps s) (sym (zero-add k)))
-        go Ended q = refl
-        go (Rejected r) q = refl
+        go : (o : Option Block) → handed_block s ≡ o → over (run_by o) cells ≡ told_by es sizes ss u p steps o
+        go None q = refl
+        go (Some b) q =
+            append-nil (cells (block_run b))
+            ∙ map-run (λ (k : ℕ). moved a k (told_at es sizes ss u p steps b 0)) (told_at es sizes ss u p steps b) 0 b.length
+            (λ k l. ap (λ (j : ℕ). moved a j (told_at es sizes ss u p steps b 0)) (zero-add k)
+            ∙ sym (along i k b (record { step = s; there = e; hands = q; below = l }))
+            ∙ ap (told_at es sizes ss u p steps b) (sym (zero-add k)))
 
     runs_cells : (m : ℕ) → met (runs_before m) ≡ told_before es sizes ss u p steps m
     runs_cells m = over-over run_in (told_in es sizes ss u p steps) (take m steps) (λ i s e. run-cells i s (taken es sizes ss u p steps steps m i s e).1)
@@ -92,12 +91,12 @@ pub blocks_accepted : (mc : Machine) (es sizes : List ℕ) (ss : List ℤ) (u : 
     → (bs : List ℕ) (starts : List ℤ) (w : Walk) → begun_at (replaced q bs) starts ≡ Ok w
     → (n a : ℕ)
     → let p : Plan = replaced q bs in
-    let steps : List Stepped = steps_from p n w in
-    AlongAxis es sizes ss u p steps a → (m : ℕ) (s : Stepped) → nth steps m ≡ Some s → s.answer ≡ Ended
+    let steps : List (Result Stepped Refusal) = steps_from p n w in
+    AlongAxis es sizes ss u p steps a → (m : ℕ) (s : Result Stepped Refusal) (end : Walk) → nth steps m ≡ Some s → Ends s end
     → verdict es (runs_before es sizes ss u p steps a m) ≡ Accepted
-blocks_accepted mc es sizes ss u q hp few bs starts w hb n a along m s e h =
+blocks_accepted mc es sizes ss u q hp few bs starts w hb n a along m s end e h =
     let p : Plan = replaced q bs in
-    let steps : List Stepped = steps_from p n w in
+    let steps : List (Result Stepped Refusal) = steps_from p n w in
     cells_accepted es (runs_before es sizes ss u p steps a m)
     (subst (EachOnce es) (sym (runs_cells es sizes ss u p steps a along m))
-    (walk_once es sizes ss u p steps few starts (demand3_any mc es sizes ss u hp bs starts hb n) m s e h))
+    (walk_once es sizes ss u p steps few starts (demand3_any mc es sizes ss u hp bs starts hb n) m s end e h))

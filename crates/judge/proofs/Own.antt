@@ -1,7 +1,7 @@
 -- OUR OWN WALKS: "Each of our own walks at such a rank and total, followed to its end and turned into runs of single cells along axis 0, is
 -- accepted." First of any list that has each index of the layout once and no other; then of the indices told at the places of a walk.
 -- Assumes nothing.
-use Rattle.std.specs.Prelude.{◌≡◌, refl, false, List, [], ◌∷◌, map, ℕ, zero, suc, ◌*◌, ◌≤◌, ◌<◌, ℤ, length, take, None, Some, Err, Result}
+use Rattle.std.specs.Prelude.{◌≡◌, refl, false, List, [], ◌∷◌, map, ℕ, zero, suc, ◌*◌, ◌≤◌, ◌<◌, ℤ, length, take, Option, None, Some, Err, Result}
 use Rattle.std.proofs.Common.{sym, ap, ◌∙◌, subst, add-zero, zero-add, arith, le-ltb, eq-eqb, ne_eqb}
 use Rattle.strided.specs.Base.{over, nth, run}
 use Rattle.strided.specs.Layout.{total, Within, max_u}
@@ -9,20 +9,21 @@ use Rattle.strided.specs.Index.{told_original}
 use Rattle.strided.specs.Text.{Each, FitU}
 use Rattle.strided.specs.Plan.{planned}
 use Rattle.strided.specs.Begin.{begun_at}
-use Rattle.strided.specs.Demand3.{replaced, steps_from, Place, cell_of, Meets, Demand3}
+use Rattle.strided.specs.Demand3.{replaced, steps_from, Ends, Place, cell_of, Meets, Demand3}
 use Rattle.strided.specs.declared.Machine.{Machine}
 use Rattle.strided.specs.declared.Purpose.{Purpose}
 use Rattle.strided.specs.declared.Plan.{Plan}
 use Rattle.strided.specs.declared.Told.{Told}
+use Rattle.strided.specs.declared.Block.{Block}
 use Rattle.strided.specs.declared.Stepped.{Stepped}
-use Rattle.strided.specs.declared.Outcome.{Outcome}
-use Rattle.strided.specs.declared.Outcome.TheVariants.{Block, Ended, Rejected}
 use Rattle.laws.specs.Base.Lists.{nth-take}
 use Rattle.laws.specs.Base.Counting.{count}
 use Rattle.laws.specs.Base.Arrays.{take_counted}
 use Rattle.laws.specs.Base.Layouts.{within-length, extent_le, within-total}
 use Rattle.laws.specs.Base.Sums.{mul_pos}
 use Rattle.laws.specs.Refusals.Zeros.{row5-total}
+use Rattle.strided.specs.Step.{handed_block}
+use Rattle.laws.specs.Demand3.Served.{one_block}
 use Rattle.laws.specs.Demand3.Whole.{demand3_any, walk_ends, exactly_one}
 use Rattle.strided.specs.Refusals.{row5}
 use Rattle.judge.specs.Visits.{Visit, visit_line, VisitFits, Formed}
@@ -139,35 +140,33 @@ text_accepted es text marks vs f v r1 r2 t e j d =
 
 -- ---- the walk
 
--- the original indices told at the places of a step, in order: none at a step that hands out no block
-abbrev pub told_by : Outcome → List (List ℕ) → List (List ℕ)
-told_by Block l = l
-told_by Ended l = []
-told_by (Rejected r) l = []
-
 -- the index that index finding tells
 abbrev pub index_of : Result Told Refusal → List ℕ
 index_of (Ok t) = t.index
 index_of (Err r) = []
 
-module _ (es sizes : List ℕ) (ss : List ℤ) (u : Purpose) (p : Plan) (steps : List Stepped) where
-  abbrev pub told_at : Stepped → ℕ → List ℕ
-  told_at s k = take (length es) (index_of (told_original es sizes ss u (cell_of es sizes ss u p steps k s)))
+module _ (es sizes : List ℕ) (ss : List ℤ) (u : Purpose) (p : Plan) (steps : List (Result Stepped Refusal)) where
+  abbrev pub told_at : Block → ℕ → List ℕ
+  told_at b k = take (length es) (index_of (told_original es sizes ss u (cell_of es sizes ss u p steps k b)))
 
-  abbrev pub told_in : Stepped → List (List ℕ)
-  told_in s = told_by s.answer (map (told_at s) (run 0 s.length))
+  -- the original indices told at the places of a step, in order: none at a step that hands out no block
+  abbrev pub told_by : Option Block → List (List ℕ)
+  told_by None = []
+  told_by (Some b) = map (told_at b) (run 0 b.length)
+
+  abbrev pub told_in : Result Stepped Refusal → List (List ℕ)
+  told_in s = told_by (handed_block s)
 
   -- those of the steps before step m
   abbrev pub told_before : ℕ → List (List ℕ)
   told_before m = over (take m steps) told_in
 
-  told_block : (o : Outcome) (l : List (List ℕ)) (k : ℕ) (x : List ℕ) → nth (told_by o l) k ≡ Some x → (o ≡ Block) × (nth l k ≡ Some x)
-  told_block Block l k x e = (refl, e)
-  told_block Ended l k x e = let z : ◌≡◌ {A = ℕ} 0 1 = cc e in absurd (omega arith)
-  told_block (Rejected r) l k x e = let z : ◌≡◌ {A = ℕ} 0 1 = cc e in absurd (omega arith)
+  told_block : (o : Option Block) (k : ℕ) (x : List ℕ) → nth (told_by o) k ≡ Some x → (b : Block) × (o ≡ Some b) × (nth (map (told_at b) (run 0 b.length)) k ≡ Some x)
+  told_block None k x e = let z : ◌≡◌ {A = ℕ} 0 1 = cc e in absurd (omega arith)
+  told_block (Some b) k x e = (b, refl, e)
 
   -- an element of the first m is one of all, and its number is below m
-  pub taken : (l : List Stepped) (m i : ℕ) (s : Stepped) → nth (take m l) i ≡ Some s → (i < m) × (nth l i ≡ Some s)
+  pub taken : (l : List (Result Stepped Refusal)) (m i : ℕ) (s : Result Stepped Refusal) → nth (take m l) i ≡ Some s → (i < m) × (nth l i ≡ Some s)
   taken l zero i s e = let z : ◌≡◌ {A = ℕ} 0 1 = cc e in absurd (omega arith)
   taken [] (suc m) i s e = let z : ◌≡◌ {A = ℕ} 0 1 = cc e in absurd (omega arith)
   taken (a ∷ l) (suc m) zero s e = (omega arith, e)
@@ -182,38 +181,38 @@ module _ (es sizes : List ℕ) (ss : List ℤ) (u : Purpose) (p : Plan) (steps :
     -- what stands in the list of told indices is met there
     stands_meets : (m j l : ℕ) (x : List ℕ) → Stands (take m steps) told_in j l x → Meets es sizes ss u p steps j l x
     stands_meets m j l x t =
-        let s : Stepped = t.of in
-        let a = taken steps m j s t.element in
-        let b = told_block s.answer (map (told_at s) (run 0 s.length)) l x t.inside in
-        let r = run-nth (told_at s) s.length 0 l x b.1 in
-        let place : Place es sizes ss u p steps j l s = record { there = a.1; hands = b.0; below = r.0 } in
-        let w = d.meets j l s place in
+        let a = taken steps m j t.of t.element in
+        let found = told_block (handed_block t.of) l x t.inside in
+        let b : Block = found.0 in
+        let r = run-nth (told_at b) b.length 0 l x found.2 in
+        let place : Place es sizes ss u p steps j l b = record { step = t.of; there = a.1; hands = found.1; below = r.0 } in
+        let w = d.meets j l b place in
         let y : List ℕ = w.0 in
         let q : Meets es sizes ss u p steps j l y = w.1 in
-        let same : s ≡ q.by = let g = q.place.there in let h = a.1 in cc (g, h) in
-        let e : x ≡ y = r.1 ∙ ap (told_at s) (zero-add l) ∙ ap (λ (v : Stepped). told_at v l) same ∙ told-met j l y q in
+        let e : x ≡ y =
+        r.1 ∙ ap (told_at b) (zero-add l) ∙ ap (λ (v : Block). told_at v l) (one_block es sizes ss u p steps place q.place) ∙ told-met j l y q in
         subst (λ (v : List ℕ). Meets es sizes ss u p steps j l v) (sym e) q
 
     meets_stands : (m i k : ℕ) (x : List ℕ) → i < m → Meets es sizes ss u p steps i k x → Stands (take m steps) told_in i k x
     meets_stands m i k x h q =
-        let s : Stepped = q.by in
-        let n : nth (map (told_at s) (run 0 s.length)) k ≡ Some x =
-        nth-run (told_at s) s.length 0 k q.place.below ∙ ap (λ (j : ℕ). Some (told_at s j)) (zero-add k) ∙ ap (λ (v : List ℕ). Some v) (told-met i k x q) in
+        let b : Block = q.by in
+        let n : nth (map (told_at b) (run 0 b.length)) k ≡ Some x =
+        nth-run (told_at b) b.length 0 k q.place.below ∙ ap (λ (j : ℕ). Some (told_at b j)) (zero-add k) ∙ ap (λ (v : List ℕ). Some v) (told-met i k x q) in
         record {
-          of = s;
+          of = q.place.step;
           element = nth-take steps m i h ∙ q.place.there;
-          inside = ap (λ (o : Outcome). nth (told_by o (map (told_at s) (run 0 s.length))) k) q.place.hands ∙ n;
+          inside = ap (λ (o : Option Block). nth (told_by o) k) q.place.hands ∙ n;
         }
 
     -- the indices told before the end: each of the layout once, and no other
-    pub walk_once : (m : ℕ) (s : Stepped) → nth steps m ≡ Some s → s.answer ≡ Ended → EachOnce es (told_before m)
-    walk_once m s e h =
+    pub walk_once : (m : ℕ) (s : Result Stepped Refusal) (end : Walk) → nth steps m ≡ Some s → Ends s end → EachOnce es (told_before m)
+    walk_once m s end e h =
         record {
           inside = λ i x g. (
               let w = counted_stands told_in x (take m steps) (there x (told_before m) i g) in
               (stands_meets m w.0 w.1 x w.2).inside);
           once = λ x w. (
-              let q = exactly_one es sizes ss u p steps starts d m s e h x w in
+              let q = exactly_one es sizes ss u p steps starts d m s end e h x w in
               once_stands told_in x (take m steps) q.0 q.1 (meets_stands m q.0 q.1 x q.2 q.3) (λ j l t. q.4 j l (stands_meets m j l x t)));
         }
 
@@ -223,24 +222,24 @@ module _ (es sizes : List ℕ) (ss : List ℤ) (u : Purpose) (p : Plan) (steps :
 pub own_accepted : (mc : Machine) (es sizes : List ℕ) (ss : List ℤ) (u : Purpose) (q : Plan) → planned mc es sizes ss u ≡ Ok q
     → 0 < length es → length es ≤ 64 → total es ≤ 65536
     → (bs : List ℕ) (starts : List ℤ) (w : Walk) → begun_at (replaced q bs) starts ≡ Ok w
-    → (n m : ℕ) (s : Stepped)
+    → (n m : ℕ) (s : Result Stepped Refusal) (end : Walk)
     → nth (steps_from (replaced q bs) n w) m ≡ Some s
-    → s.answer ≡ Ended
+    → Ends s end
     → (marks : List ℕ) → length marks ≡ total es → (j : Judgement)
     → Judges es
     (over (singles (told_before es sizes ss u (replaced q bs) (steps_from (replaced q bs) n w) m)) visit_line)
     marks j
     → j.answer ≡ Ok Accepted
-own_accepted mc es sizes ss u q hp r1 r2 t bs starts w hb n m s e h marks k j d =
+own_accepted mc es sizes ss u q hp r1 r2 t bs starts w hb n m s end e h marks k j d =
     let p : Plan = replaced q bs in
-    let steps : List Stepped = steps_from p n w in
+    let steps : List (Result Stepped Refusal) = steps_from p n w in
     let xs : List (List ℕ) = told_before es sizes ss u p steps m in
-    let each : EachOnce es xs = walk_once es sizes ss u p steps r2 starts (demand3_any mc es sizes ss u hp bs starts hb n) m s e h in
+    let each : EachOnce es xs = walk_once es sizes ss u p steps r2 starts (demand3_any mc es sizes ss u hp bs starts hb n) m s end e h in
     text_accepted es (over (singles xs) visit_line) marks (singles xs) (singles_formed es xs r1 t each.inside) (singles_accepted es xs each) r1 r2 t k j d
 
 -- and there is such a step: every walk comes to its end
 pub own_ends : (mc : Machine) (es sizes : List ℕ) (ss : List ℤ) (u : Purpose) (q : Plan) → planned mc es sizes ss u ≡ Ok q
     → (bs : List ℕ) (starts : List ℤ) (w : Walk) → begun_at (replaced q bs) starts ≡ Ok w
-    → (m : ℕ) × (s : Stepped)
-    × (nth (steps_from (replaced q bs) (suc m) w) m ≡ Some s) × (s.answer ≡ Ended)
+    → (m : ℕ) × (s : Result Stepped Refusal) × (end : Walk)
+    × (nth (steps_from (replaced q bs) (suc m) w) m ≡ Some s) × Ends s end
 own_ends mc es sizes ss u q hp bs starts w hb = walk_ends mc es sizes ss u hp bs starts hb

@@ -2,15 +2,13 @@
 -- Assumes nothing.
 use mathlib.Core.Path.{◌≡◌, refl, sym, ap, ap₂, ◌∙◌}
 use mathlib.Core.Bool.{Bool, true, false}
-use mathlib.Core.List.{List, [], ◌∷◌, ◌++◌, append-nil, append_assoc}
-use Prim.Native.Nat.{ℕ, zero, suc, ◌+◌, ◌-◌, ◌*◌, ◌≤◌, ◌<◌}
+use mathlib.Core.List.{List, [], ◌∷◌}
+use Prim.Native.Nat.{ℕ, zero, suc, ◌+◌, ◌*◌, ◌≤◌, ◌<◌}
 use native.Mathlib.Nat.{zero-add, mul_assoc, mul-le-mul_left, mul-le-mul_right}
 use native.Mathlib.Numerals.{add-one}
 use native.Mathlib.Omega.{arith}
-use lib.Dec.{leb}
-use lib.ListN.{length, get_or, drop, set, replicate, length-replicate, replicate-append-replicate, drop_of_length-le}
-use lib.Seq.{drop-cons, drop-length, set_at}
-use borrow.Author.Tests.{leb-true, leb-false, le-leb, lt-leb}
+use lib.ListN.{length, get_or, drop}
+use lib.Seq.{drop-cons}
 use Rattle.strided.specs.Base.{every}
 use Rattle.strided.specs.Layout.{total, NoZero, Within}
 use Rattle.laws.specs.Base.Ranges.{every_fails}
@@ -19,13 +17,6 @@ use Rattle.laws.specs.Base.Sums.{pos_mul}
 use Rattle.laws.specs.Refusals.Zeros.{total_some}
 use Rattle.judge.specs.Laying.{place, step_of}
 use Rattle.judge.proofs.Places.{place-below}
-
-pub shift_leb : (x n e : ℕ) → n ≤ e → leb x (e - n) ≡ leb (x + n) e
-shift_leb x n e h = go (leb x (e - n)) refl
-  where
-    go : (b : Bool) → leb x (e - n) ≡ b → leb x (e - n) ≡ leb (x + n) e
-    go true q = q ∙ sym (le-leb (x + n) e (omega (arith, leb-true x (e - n) q)))
-    go false q = q ∙ sym (lt-leb (x + n) e (omega (arith, leb-false x (e - n) q)))
 
 -- ---- tests over a range
 
@@ -52,9 +43,6 @@ total-drop (e ∷ es) (suc i) z =
     let h : total (drop i es) ≤ total es = total-drop es i z.1 in
     let g : 1 * total es ≤ e * total es = mul-le-mul_right (total es) z.0 in
     omega arith
-
-pub place_end : (es x : List ℕ) → 0 ≡ place (drop (length es) es) (drop (length es) x)
-place_end es x = sym (ap (λ (l : List ℕ). place l (drop (length es) x)) (drop-length es))
 
 pub record Turned (es x : List ℕ) (i at : ℕ) : Type 0 where
   pub small : at * get_or es i 0 ≤ 65536
@@ -87,19 +75,3 @@ pub step_fits : (es : List ℕ) (i : ℕ) → NoZero es → i ≤ length es → 
 step_fits [] i z h = omega arith
 step_fits (e ∷ es) zero z h = omega (arith, pos_mul e (total es) z.0 (total_some es z.1))
 step_fits (e ∷ es) (suc i) z h = mul-le-mul_left e (step_fits es i z.1 (omega arith))
-
--- ---- a buffer swept to 0
-
-pub sweep_turn : (old : List ℕ) (i : ℕ) → i < length old → set (replicate i 0 ++ drop i old) i 0 ≡ replicate (i + 1) 0 ++ drop (i + 1) old
-sweep_turn old i h =
-    let f : List ℕ = replicate {A = ℕ} i 0 in
-    ap (λ (l : List ℕ). set (replicate {A = ℕ} i 0 ++ l) i 0) (drop-cons old i 0 h)
-    ∙ set_at (replicate {A = ℕ} i 0) (get_or old i 0) (drop (suc i) old) 0 i (length-replicate {A = ℕ} i 0)
-    ∙ sym (append_assoc (replicate {A = ℕ} i 0) (0 ∷ []) (drop (suc i) old))
-    ∙ ap (λ (l : List ℕ). l ++ drop (suc i) old) (replicate-append-replicate {A = ℕ} i 1 0)
-    ∙ ap (λ (l : List ℕ). replicate {A = ℕ} (i + 1) 0 ++ l) (rw (add-one i))
-
-pub sweep_end : (old : List ℕ) (i : ℕ) → i ≤ length old → length old ≤ i → replicate i 0 ++ drop i old ≡ replicate (length old) 0
-sweep_end old i a b =
-    let e : i ≡ length old = omega arith in
-    ap (λ (l : List ℕ). replicate {A = ℕ} i 0 ++ l) (drop_of_length-le old b) ∙ append-nil (replicate {A = ℕ} i 0) ∙ ap (λ (k : ℕ). replicate {A = ℕ} k 0) e

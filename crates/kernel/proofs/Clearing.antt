@@ -1,56 +1,23 @@
--- Zeros written from the first place on: the array with its first n places cleared. Assumes nothing.
-use mathlib.Core.Path.{◌≡◌, refl, sym, ap, ◌∙◌}
-use mathlib.Core.List.{List, [], ◌∷◌, ◌++◌}
-use Prim.Native.Nat.{ℕ, zero, suc, ◌+◌, ◌≤◌, ◌<◌}
-use native.Mathlib.Numerals.{add-one}
+-- An array that is filled by halves. Assumes nothing.
+use mathlib.Core.Path.{◌≡◌, sym, ap, ap₂, subst, ◌∙◌}
+use mathlib.Core.List.{List, [], ◌++◌}
+use Prim.Native.Nat.{ℕ, ◌+◌}
 use native.Mathlib.Omega.{arith}
-use lib.ListN.{length, drop, set, replicate}
+use lib.ListN.{length, take, drop, replicate, length-replicate, length-drop, replicate-append-replicate, drop_of_length-le}
+use lib.Seq.{length-take-le}
+use Rattle.std.proofs.Math.Seq.{take-append_seam, drop-append_seam}
+use Rattle.std.proofs.lemmas.List.{append-nil}
 
-module _ {A : Type 0} (z : A) where
-  abbrev pub cleared : ℕ → List A → List A
-  cleared n s = replicate n z ++ drop n s
-
-  next : (n : ℕ) (s : List A) → n < length s → set (cleared n s) n z ≡ cleared (suc n) s
-  next zero [] h = absurd (bad h)
-    where
-      bad : 0 < 0 → ⊥
-      bad h = omega arith
-  next zero (x ∷ s) h = refl
-  next (suc n) [] h = absurd (bad h)
-    where
-      bad : suc n < 0 → ⊥
-      bad h = omega arith
-  next (suc n) (x ∷ s) h = ap (λ r. z ∷ r) (next n s (omega arith))
-
-  -- a turn's store
-  pub clear_next : (n : ℕ) (s : List A) → n < length s → set (cleared n s) n z ≡ cleared (n + 1) s
-  clear_next n s h = rw add-one (next n s h)
-
-  behind : (n : ℕ) (r : List A) → drop n (replicate n z ++ r) ≡ r
-  behind zero r = refl
-  behind (suc n) r = behind n r
-
-  -- what is cleared up to a place can be cleared on from there
-  pub clear_again : (n : ℕ) (s t : List A) → t ≡ cleared n s → t ≡ cleared n t
-  clear_again n s t e = e ∙ ap (λ r. replicate n z ++ r) (sym (ap (drop n) e ∙ behind n (drop n s)))
-
-  pub length-cleared : (n : ℕ) (s : List A) → n ≤ length s → length (cleared n s) ≡ length s
-  length-cleared zero s h = refl
-  length-cleared (suc n) [] h = absurd (bad h)
-    where
-      bad : suc n ≤ 0 → ⊥
-      bad h = omega arith
-  length-cleared (suc n) (x ∷ s) h = ap suc (length-cleared n s (omega arith))
-
-  -- cleared to the end
-  pub clear_all : (n : ℕ) (s : List A) → length s ≡ n → cleared n s ≡ replicate n z
-  clear_all zero [] e = refl
-  clear_all zero (x ∷ s) e = absurd (bad e)
-    where
-      bad : suc (length s) ≡ 0 → ⊥
-      bad e = omega arith
-  clear_all (suc n) [] e = absurd (bad e)
-    where
-      bad : ◌≡◌ {A = ℕ} 0 (suc n) → ⊥
-      bad e = omega arith
-  clear_all (suc n) (x ∷ s) e = ap (λ r. z ∷ r) (clear_all n s (omega arith))
+-- f fills the first n places of s, and then g the n others
+pub halves : {A : Type 0} (z : A) (n : ℕ) (s f g : List A) → length s ≡ n + n → f ≡ replicate (length (take n s)) z
+    → g ≡ replicate (length (take n (drop n (f ++ drop n s)))) z → take n (f ++ drop n s) ++ (g ++ drop n (drop n (f ++ drop n s))) ≡ replicate (n + n) z
+halves {A} z n s f g l e h =
+    let ls : length (take n s) ≡ n = length-take-le n s (omega (arith, l)) in
+    let lf : length f ≡ n = ap length e ∙ length-replicate {A = A} (length (take n s)) z ∙ ls in
+    let d : drop n (f ++ drop n s) ≡ drop n s = subst (λ (k : ℕ). drop k (f ++ drop n s) ≡ drop n s) lf (drop-append_seam f (drop n s)) in
+    let t : take n (f ++ drop n s) ≡ f = subst (λ (k : ℕ). take k (f ++ drop n s) ≡ f) lf (take-append_seam f (drop n s)) in
+    let m : length (drop n s) ≡ n = omega (arith, l, length-drop n s) in
+    let lg : length (take n (drop n (f ++ drop n s))) ≡ n = ap (λ (r : List A). length (take n r)) d ∙ length-take-le n (drop n s) (omega (arith, m)) in
+    let none : drop n (drop n (f ++ drop n s)) ≡ [] = ap (drop n) d ∙ drop_of_length-le (drop n s) (omega (arith, m)) in
+    let g' : g ++ drop n (drop n (f ++ drop n s)) ≡ replicate n z = ap₂ ◌++◌ (h ∙ ap (λ (k : ℕ). replicate k z) lg) none ∙ append-nil (replicate n z) in
+    ap₂ ◌++◌ (t ∙ e ∙ ap (λ (k : ℕ). replicate k z) ls) g' ∙ replicate-append-replicate n n z

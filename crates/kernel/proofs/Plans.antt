@@ -23,16 +23,25 @@ use Rattle.laws.specs.Refusals.Accepted.{Accepted}
 use Rattle.laws.specs.Refusals.Zeros.{no_zero_test}
 use Rattle.laws.specs.Plan.Answers.{planned_served}
 use Rattle.laws.specs.Plan.Bounds.{plan_few, array_small, array_near}
-use Rattle.fuse.specs.Named.{given}
+use Rattle.fuse.specs.Named.{given, fused_in}
 use Rattle.model.specs.Plannable.{Plannable}
 use Rattle.kernel.specs.Made.{Made}
 use Rattle.strided.specs.declared.Refusal.{Refusal}
 use Rattle.strided.specs.declared.Plan.{Plan}
 
 -- "Total at most 1,024": the order of fusing names each axis at its own place
-pub given_small : (es : List ℕ) (m : ℕ) (ss : List ℤ) (u : Purpose) → leb (total es) 1024 ≡ true → given (length es) ≡ padded 64 0 (fusing_order es m ss u)
-unfolding fusing_order
-given_small es m ss u h = ap (padded 64 0) (sym (ap (λ (t : Bool). cond t (run 0 (length es)) (loop_order es m ss u)) h))
+module _ (es : List ℕ) (m : ℕ) (ss : List ℤ) (u : Purpose) (h : leb (total es) 1024 ≡ true) where
+  given_small : given (length es) ≡ fusing_order es m ss u
+  unfolding fusing_order
+  given_small = sym (ap (λ (t : Bool). cond t (run 0 (length es)) (loop_order es m ss u)) h)
+
+  given_axes : fused_in es m ss (given (length es)) ≡ plan_axes es m ss u
+  unfolding plan_axes
+  given_axes = ap (fused_in es m ss) given_small
+
+  -- and arrays of the ones are arrays of the others
+  pub given_planned : {A : Type 0} (f : List Axis → A) {x : A} → x ≡ f (fused_in es m ss (given (length es))) → x ≡ f (plan_axes es m ss u)
+  given_planned f q = q ∙ ap f given_axes
 
 -- the arrays have the plan's axes
 module _ (es sizes : List ℕ) (ss : List ℤ) (u : Purpose) (a : Accepted es sizes ss u) (rank : ℕ) (E : List ℕ) (S : List ℤ)

@@ -9,14 +9,17 @@ ghost use Rattle.strided.specs.Machine.{Allowed};
 ghost use Rattle.strided.specs.Fuse.{plan_axes};
 ghost use Rattle.strided.specs.Plan.{stride_table, planned};
 ghost use Rattle.laws.specs.Refusals.Accepted.{Accepted};
-ghost use Rattle.auxiliary.specs.Fitting.{Fitting};
 ghost use Rattle.kernel.specs.Made.{Zeros, Made};
 
 use fuse::{given_axes_into, plan_axes_into};
-use layout::{check_planning, total_at_most};
+use layout::{Layout, check_planning, total_at_most};
 use model::block_sizes_into;
 use order::{SMALL_TENSOR_THRESHOLD, fusing_order_into};
+use region::Axes;
 use strided::{Machine, Plan, Purpose, Refusal};
+
+// Kept: a plan's arrays are lent as zeros, one by one: who lends them has cleared them already, as C does, and a struct of `&mut` fields would
+// say in each contract of each that it is lent on.
 
 // What a plan is for: layout, purpose and record alone fix the plan.
 #[derive(Clone, Copy)]
@@ -25,55 +28,35 @@ pub struct Aim {
     pub machine: Machine,
 }
 
-// Zeros in the first `to` of a plan's strides, of which the first `from` are 0 already.
-fn clear_up_to(table: &mut [i64; 512], from: usize, to: usize)
-    requires from_le_to { (from ≤ to) × (to ≤ length table.old) }
-    requires table_value { table.old ≡ replicate from (pos 0) ++ drop from table.old }
-    requires table_len { length table.old ≡ 512 }
-    ensures { table.new ≡ replicate to (pos 0) ++ drop to table.old }
-{
-    for i in from..to {
-        table[i] = 0;
-    }
-}
-
 // Zeros in the arrays that a plan's axes are written into. The strides are cleared in two halves with the extents between them: each is a
 // call of the C library's memset, which takes longer for 4 KB at once than for 2 KB twice.
 pub fn clear_axes(es: &mut [u64; 64], table: &mut [i64; 512])
     requires { length table.old ≡ 512 }
     ensures { Zeros es.new table.new }
 {
-    clear_up_to(&mut *table, 0, 256);
+    table[..256].fill(0);
     *es = [0u64; 64];
-    clear_up_to(table, 256, 512);
+    table[256..].fill(0);
 }
 
 // The axes of the plan, their extents and strides written into arrays of zeros. Their number is answered.
 pub fn axes_into(
-    extents: &[u64],
-    strides: &[i64],
-    operands: usize,
+    layout: Layout,
     purpose: Purpose,
     es: &mut [u64; 64],
     table: &mut [i64; 512],
 ) -> usize
-    requires fitting { Fitting strides.now (length extents.now) operands }
     requires zeros { Zeros es.old table.old }
-    ensures rank { result ≡ length (plan_axes extents.now operands strides.now purpose) }
-    ensures extents { es.new ≡ padded 64 0 (extents_of (plan_axes extents.now operands strides.now purpose)) }
-    ensures strides { table.new ≡ stride_table (plan_axes extents.now operands strides.now purpose) operands }
+    ensures rank { result ≡ length (plan_axes layout.entry.extents.now layout.entry.operands layout.entry.strides.now purpose) }
+    ensures extents { es.new ≡ padded 64 0 (extents_of
+        (plan_axes layout.entry.extents.now layout.entry.operands layout.entry.strides.now purpose)) }
+    ensures strides { table.new ≡ stride_table
+        (plan_axes layout.entry.extents.now layout.entry.operands layout.entry.strides.now purpose) layout.entry.operands }
 {
     let mut weights = [0u64; 64];
     let mut order = [0usize; 64];
-    fusing_order_into(
-        extents,
-        strides,
-        operands,
-        purpose,
-        &mut weights,
-        &mut order,
-    );
-    plan_axes_into(extents, strides, operands, &order, es, table)
+    fusing_order_into(layout, purpose, &mut weights, &mut order);
+    plan_axes_into(layout, &order[..layout.extents.len()], es, table)
 }
 
 // The plan of a layout that is not refused, made in arrays of zeros: its axes are fused, and cut if there are more than 1,024 cells. So few
@@ -94,22 +77,24 @@ pub fn plan_into<'a>(
     ensures { Made aim.machine extents.now sizes.now strides.now aim.purpose
         result es.new blocks.new table.new }
 {
-    let purpose = aim.purpose;
-    let machine = aim.machine;
-    if total_at_most(extents, SMALL_TENSOR_THRESHOLD) {
-        let axes = given_axes_into(extents, strides, sizes.len(), &mut *es, &mut *table);
-        *blocks = *es;
-        return axes;
-    }
-    let rank = axes_into(
+    let layout = Layout {
         extents,
         strides,
-        sizes.len(),
-        purpose,
-        &mut *es,
-        &mut *table,
-    );
-    block_sizes_into(machine, sizes, es, table, rank, purpose, blocks);
+        operands: sizes.len(),
+    };
+    if total_at_most(extents, SMALL_TENSOR_THRESHOLD) {
+        let rank = given_axes_into(layout, &mut *es, &mut *table);
+        *blocks = *es;
+        return rank;
+    }
+    let rank = axes_into(layout, aim.purpose, &mut *es, &mut *table);
+    let axes = Axes {
+        sizes,
+        extents: es,
+        strides: table,
+        rank,
+    };
+    block_sizes_into(aim.machine, axes, aim.purpose, blocks);
     rank
 }
 

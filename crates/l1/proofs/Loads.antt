@@ -1,5 +1,5 @@
 -- Sets of axes as bits; and the fit's definitions by an L1Sets are those by the byte strides. Assumes nothing.
-use mathlib.Core.Path.{◌≡◌, refl, sym, ap, subst, ◌∙◌}
+use mathlib.Core.Path.{◌≡◌, refl, sym, ap, subst, subst⁻¹, ◌∙◌}
 use mathlib.Core.List.{List}
 use mathlib.Core.Logic.{⊎_elim}
 use mathlib.Core.Bool.{Bool, true, false, cond, not, ◌&&◌}
@@ -21,7 +21,7 @@ use Rattle.laws.specs.Cut.Ranges.{le_or_lt, cond_same, cond_mono, product_none, 
 use Rattle.laws.specs.Cut.Grow.{set_mono}
 use Rattle.l1.specs.Live.{top, within, Holds, aliases_at, live_count, Live, Of, factor_by, product_by, load_by, enters_by, most_by}
 use Rattle.l1.specs.declared.L1Sets.{L1Sets}
-use Rattle.l1.specs.declared.LiveAxes.{LiveAxes}
+use Rattle.l1.specs.declared.live.LiveAxes.{LiveAxes}
 
 -- ---- sets of axes
 
@@ -96,9 +96,10 @@ module _ (mc : Machine) (bytes sizes : List ℕ) (rank k : ℕ) where
     load_of_lem b =
         let r : ℕ = reuse mc bytes rank k in
         live_cases (λ c n. l.count ≡ n → cond c (product (factor mc bytes b k) 0 r) 0 ≡ product_by l b l.count)
-        (λ h e. rw (e, lt-ltb 0 r h, one-mul)
-        (product_cong (factor mc bytes b k) (factor_by l b) 0 r (λ i p q. rw (is.aliased.each i, e, lt-ltb i r (omega arith)))))
-        (λ e. rw e (sym (zero-mul (product (factor_by l b) 0 0))))
+        (λ h e. subst⁻¹ (λ (n : ℕ). product (factor mc bytes b k) 0 r ≡ bool_byte (ltb 0 n) * product (factor_by l b) 0 n) e (rw (lt-ltb 0 r h, one-mul)
+        (product_cong (factor mc bytes b k) (factor_by l b) 0 r
+        (λ i p q. rw (is.aliased.each i ∙ ap (λ (n : ℕ). ltb i n && aliases_at mc bytes k i) e, lt-ltb i r (omega arith))))))
+        (λ e. subst⁻¹ (λ (n : ℕ). 0 ≡ bool_byte (ltb 0 n) * product (factor_by l b) 0 n) e (sym (zero-mul (product (factor_by l b) 0 0))))
         is.count
 
     enters_of_lem : (i : ℕ) → enters_of mc bytes sizes rank i k ≡ within l.aliased i

@@ -1,11 +1,11 @@
 -- What an L1Sets holds of the byte strides, and the fit's definitions by it. Assumes nothing.
-use Rattle.std.specs.Prelude.{◌≡◌, Bool, cond, ◌&&◌, ◌||◌, List, ℕ, ◌+◌, ◌*◌, ◌/◌, ◌%◌, ◌^◌, ◌<◌, ◌≤◌, ltb, leb, eqb, ℤ, pos, nat_abs, get_or, set}
+use Rattle.std.specs.Prelude.{◌≡◌, Bool, cond, ◌&&◌, ◌||◌, List, ℕ, ◌+◌, ◌*◌, ◌/◌, ◌%◌, ◌^◌, ◌<◌, ltb, leb, eqb, ℤ, pos, nat_abs, get_or, set}
 use mir.Val.{bool_byte}
 use Rattle.strided.specs.Base.{product, greatest}
 use Rattle.strided.specs.Region.{byte_at}
 use Rattle.strided.specs.Fit.{reuse, aliases}
 use Rattle.strided.specs.declared.Machine.{Machine}
-use Rattle.l1.specs.declared.LiveAxes.{LiveAxes}
+use Rattle.l1.specs.declared.live.LiveAxes.{LiveAxes}
 use Rattle.l1.specs.declared.L1Sets.{L1Sets}
 
 -- more than any allowed number of live lines: loads from here on are not told apart
@@ -31,16 +31,11 @@ live_count mc bytes size rank k = cond (eqb size 0) 0 (cond (ltb (reuse mc bytes
 -- l is of operand k, s of operands 0 and 1
 pub record Live (mc : Machine) (bytes : List ℕ) (size rank k : ℕ) (l : LiveAxes) : Type 0 where
   pub count : l.count ≡ live_count mc bytes size rank k
-  pub few : l.count ≤ 64
   pub aliased : Holds (aliases_at mc bytes k) l.count l.aliased
-
-abbrev pub Few : L1Sets → Type 0
-Few s = (s.first.count ≤ 64) × (s.second.count ≤ 64)
 
 pub record Of (mc : Machine) (bytes sizes : List ℕ) (rank : ℕ) (s : L1Sets) : Type 0 where
   pub first : Live mc bytes (get_or sizes 0 0) rank 0 s.first
   pub second : Live mc bytes (get_or sizes 1 0) rank 1 s.second
-  pub few : Few s
 
 -- the size of operand c's stride on axis i
 abbrev pub chosen_size : List ℤ → ℕ → ℕ → ℕ

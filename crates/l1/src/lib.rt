@@ -4,19 +4,15 @@
 // Which axes these are is worked out once: the way may be any multiple of a line, so that each remainder is a division.
 #![tactic(auto)]
 
-ghost use Rattle.std.specs.Prelude.{◌≡◌, ◌<◌, ◌≤◌, min, length, set};
+ghost use Rattle.std.specs.Prelude.{◌≡◌, ◌<◌, ◌≤◌, min, length, get_or, set};
 ghost use Rattle.strided.specs.Fit.{fitted};
-ghost use Rattle.l1.specs.Live.{top, Live, Of, Few, product_by, load_by, enters_by, most_by, chosen_size};
+ghost use Rattle.l1.specs.Live.{top, Live, Of, product_by, load_by, enters_by, most_by, chosen_size};
 
-use region::AllowedMachine;
+use region::{AllowedMachine, Axes, Operand};
 
-// Of one operand the axes before its reuse axis: their number, 0 if it does not count; and those whose byte stride is a multiple of the way,
-// axis i as bit i.
-#[derive(Clone, Copy)]
-pub struct LiveAxes {
-    pub count: usize,
-    pub aliased: u64,
-}
+mod live;
+
+pub use live::LiveAxes;
 
 #[derive(Clone, Copy)]
 pub struct L1Sets {
@@ -38,17 +34,12 @@ impl L1Sets {
     // More than the live lines of any machine: loads from here on are not told apart.
     const TOP: u64 = 17;
 
-    // The live axes of operand k, whose size is given. Their byte strides are a line at least, so none is 0.
-    fn live_axes(
-        machine: AllowedMachine,
-        bytes: &[u32; 512],
-        size: u64,
-        rank: usize,
-        k: usize,
-    ) -> LiveAxes
-        requires { (k < 8) × (rank ≤ 64) }
-        ensures { Live machine.numbers bytes.now size rank k result }
+    // The live axes of an operand. Their byte strides are a line at least, so none is 0.
+    fn live_axes(machine: AllowedMachine, bytes: &[u32; 512], operand: Operand) -> LiveAxes
+        ensures { let o = operand.entry in let a = o.axes in Live machine.numbers bytes.now (get_or a.sizes.now o.k 0) a.rank o.k result }
     {
+        let k = operand.k;
+        let size = operand.axes.sizes[k];
         let none = LiveAxes {
             count: 0,
             aliased: 0,
@@ -57,33 +48,27 @@ impl L1Sets {
             return none;
         }
         let mut aliased: u64 = 0;
-        for i in 0..rank {
+        for i in 0..operand.axes.rank {
             let s = u64::from(bytes[k * 64 + i]);
             if s < machine.numbers.line {
                 return LiveAxes { count: i, aliased };
             }
-            aliased += u64::from(s % machine.numbers.way == 0) << i;
+            aliased += u64::from(s.is_multiple_of(machine.numbers.way)) << i;
         }
         none
     }
 
-    fn of<'a>(
-        machine: AllowedMachine,
-        bytes: &'a [u32; 512],
-        sizes: &'a [u64],
-        rank: usize,
-    ) -> L1Sets
-        requires { (rank ≤ 64) × (length sizes.now ≡ 2) }
-        ensures { Of machine.numbers bytes.now sizes.now rank result }
+    fn of(machine: AllowedMachine, bytes: &[u32; 512], axes: Axes) -> L1Sets
+        requires { length axes.sizes.now ≡ 2 }
+        ensures { let a = axes.entry in Of machine.numbers bytes.now a.sizes.now a.rank result }
     {
-        let first = Self::live_axes(machine, bytes, sizes[0], rank, 0);
-        let second = Self::live_axes(machine, bytes, sizes[1], rank, 1);
+        let first = Self::live_axes(machine, bytes, Operand { axes, k: 0 });
+        let second = Self::live_axes(machine, bytes, Operand { axes, k: 1 });
         L1Sets { first, second }
     }
 
     // The lines of one set that an operand keeps live; 0 if it does not count.
     fn operand_load(live: LiveAxes, blocks: &[u64; 64]) -> u64
-        requires { live.count ≤ 64 }
         ensures { result ≡ min (product_by live blocks.now live.count) top }
     {
         let mut m = u64::from(0 < live.count);
@@ -97,7 +82,6 @@ impl L1Sets {
 
     // The lines of one set that both operands keep live.
     fn load(self, blocks: &[u64; 64]) -> u64
-        requires { Few self }
         ensures { result ≡ min (load_by self blocks.now) top }
     {
         let first = Self::operand_load(self.first, blocks);
@@ -107,7 +91,7 @@ impl L1Sets {
 
     // The block of axis i is put at x. Answers the load.
     fn set_block(self, blocks: &mut [u64; 64], i: usize, x: u64) -> u64
-        requires { Few self × (i < 64) }
+        requires { i < 64 }
         ensures load { result ≡ min (load_by self (set blocks.old i x)) top }
         ensures blocks { blocks.new ≡ set blocks.old i x }
     {
@@ -120,12 +104,12 @@ impl L1Sets {
         requires { i < 64 }
         ensures { result ≡ enters_by self i }
     {
-        ((self.first.aliased >> i) % 2 == 1) | ((self.second.aliased >> i) % 2 == 1)
+        (self.first.aliased >> i) % 2 == 1 || (self.second.aliased >> i) % 2 == 1
     }
 
     // The block of axis i is put at the greatest up to `whole` with load at most the live lines, where block 1 has one.
     fn widen(self, live: u64, blocks: &mut [u64; 64], i: usize, whole: u64)
-        requires { (Few self × (i < 64)) × ((live < top) × ((1 ≤ whole) × (load_by self (set blocks.old i 1) ≤ live))) }
+        requires { (i < 64) × ((live < top) × ((1 ≤ whole) × (load_by self (set blocks.old i 1) ≤ live))) }
         ensures { blocks.new ≡ set blocks.old i (most_by live self blocks.old i whole) }
     {
         let mut lo: u64 = 1;
@@ -143,27 +127,27 @@ impl L1Sets {
 
     // The blocks with load at most the live lines, or with every block that may be shortened at 1. The outermost axis is shortened first, so
     // that the inner run stays long; blocks only shrink, so that the region still fits.
-    pub fn fit<'a>(
+    pub fn fit(
         machine: AllowedMachine,
-        blocks: &mut [u64; 64],
-        bytes: &'a [u32; 512],
-        sizes: &'a [u64],
-        strides: &'a [i64; 512],
+        bytes: &[u32; 512],
+        axes: Axes,
         chosen: usize,
-        rank: usize,
+        blocks: &mut [u64; 64],
     )
-        requires { ((rank ≤ 64) × (chosen < 8)) × (length sizes.now ≡ 2) }
-        ensures { blocks.new
-            ≡ fitted machine.numbers bytes.now sizes.now rank (chosen_size strides.now chosen) blocks.old }
+        requires { (chosen < 8) × (length axes.sizes.now ≡ 2) }
+        ensures { let a = axes.entry in blocks.new
+            ≡ fitted machine.numbers bytes.now a.sizes.now a.rank (chosen_size a.strides.now chosen) blocks.old }
     {
-        let sets = Self::of(machine, bytes, sizes, rank);
+        let sets = Self::of(machine, bytes, axes);
         if sets.load(blocks) <= machine.numbers.live {
             return;
         }
-        for i in (0..rank).rev() {
+        for i in (0..axes.rank).rev() {
             let whole = blocks[i];
             // The order in which a cell of the chosen operand is written never changes: an axis along which it does not move is left alone.
-            if (strides[chosen * 64 + i] != 0) & (sets.enters(i) & (1 < whole)) {
+            let moves = axes.strides[chosen * 64 + i] != 0;
+            if moves && sets.enters(i) && 1 < whole {
+                // A test of its own: it puts the block at 1, which stays where the load is still too great.
                 if sets.set_block(blocks, i, 1) <= machine.numbers.live {
                     sets.widen(machine.numbers.live, blocks, i, whole);
                     return;

@@ -2,6 +2,7 @@
 --   what a layout has that planning does not refuse, and back          Refusals/Accepted  accepted, accepted_back
 --   fewer cells and less reach are not refused either                  Refusals/Accepted  accepted_within
 --   row 24: the test is the claim; an allowed record changes no other row  Refusals/Record  allowed_true, allowed-back, planning_as, planning_layout
+--   that a machine record is allowed has one proof                     Refusals/Allowed   Allowed-prop
 --   the loop order and the order of fusing are permutations            Order/Permutation  fusing_permutes
 --   the loop order is the one that is sorted                           Order/Sorted       loop_order_is
 --   sums and products over axes do not depend on the order             Order/Folds        picked_fold
@@ -43,7 +44,7 @@
 --   layouts that were answered while row 7 was given keep their plans  Plan/Widened       plans_kept, widened
 --   a plan begins where rows 8 and 9 of its layout pass                Plan/Begins        begins_to, begins_from
 --   a plan's arrays have 64, 64 and 512 places                         Plan/Places        plan_extents_lem, plan_blocks_lem, plan_strides
---   the text entry's answer: below 0, or within the lent bytes         Text/Answers       negated-below, lists_within
+--   the text entry's answer: within the lent bytes; in C, or below 0   Text/Answers       lists_within; negated-below, code_within
 pub mod Base
 pub mod Refusals
 pub mod Order

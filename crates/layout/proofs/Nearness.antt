@@ -1,87 +1,77 @@
--- What is above a bound, summed; and no reach of a small layout is above 2^63 - 1. Assumes nothing.
+-- What is gathered of numbers above a bound; and no reach of a small layout is above 2^63 - 1. Assumes nothing.
 use mathlib.Core.Path.{◌≡◌, refl, sym, ap, ◌∙◌}
-use mathlib.Core.Logic.{⊎_elim}
 use mathlib.Core.Bool.{Bool, true, false, not, ◌&&◌, false≢true}
 use mathlib.Core.List.{List, [], ◌∷◌}
 use Prim.Native.Nat.{ℕ, zero, suc, ◌+◌, ◌-◌, ◌*◌, ◌/◌, ◌^◌, ◌≤◌, ◌<◌}
-use native.Mathlib.Nat.{mul-le-mul_right}
+use native.Mathlib.Nat.{mul-le-mul_right, div-lt_iff_lt-mul}
 use native.Mathlib.Numerals.{add-one}
 use native.Mathlib.Omega.{arith}
+use lib.Bits.{bit_or, or_add_and, and_le_l, and_le_r}
 use lib.Dec.{ltb, eqb}
-use lib.IntN.{ℤ, pos, nat_abs}
+use lib.IntN.{ℤ, nat_abs}
 use lib.ListN.{length, get_or, take, drop, drop_of_length-le}
 use lib.Seq.{drop-cons}
-use borrow.Author.Tests.{ltb-true, lt-ltb, le-ltb, eq-eqb, ne_eqb}
+use borrow.Author.Tests.{ltb-true, ltb-false, le-ltb, eqb-true, eqb-false, eq-eqb, ne_eqb}
 use Rattle.strided.specs.Layout.{has_zero, reach, max_i}
 use Rattle.strided.specs.Refusals.{some_operand}
-use Rattle.laws.specs.Cut.Ranges.{le_or_lt}
 use Rattle.laws.specs.Refusals.Operands.{some_of_none}
 use Rattle.layout.specs.Laid.{row_at, far_at}
-use Rattle.layout.specs.Near.{short, near}
+use Rattle.layout.specs.Near.{all_below}
 
--- ---- the sums
+-- ---- what lies above a bound
 
--- one more term: nothing above 2^16, or 2^41
-short_more : (t e : ℕ) → eqb (t + e / 2 ^ 16) 0 ≡ (eqb t 0 && ltb e (2 ^ 16))
-short_more zero e = ⊎_elim
-    (λ (h : 2 ^ 16 ≤ e). ne_eqb (0 + e / 2 ^ 16) 0 (λ z. omega arith) ∙ sym (le-ltb e (2 ^ 16) h))
-    (λ (h : e < 2 ^ 16). eq-eqb (0 + e / 2 ^ 16) 0 (omega arith) ∙ sym (lt-ltb e (2 ^ 16) h))
-    (le_or_lt (2 ^ 16) e)
-short_more (suc t) e =
-    ne_eqb (suc t + e / 2 ^ 16) 0 (λ z. omega arith) ∙ sym (ap (λ (b : Bool). b && ltb e (2 ^ 16)) (ne_eqb (suc t) 0 (λ z. omega arith)))
+-- two numbers gathered have no bit exactly if neither has one
+or_none : (a b : ℕ) → eqb (bit_or a b) 0 ≡ (eqb a 0 && eqb b 0)
+or_none a b = go (eqb a 0) (eqb b 0) refl refl
+  where
+    go : (x y : Bool) → eqb a 0 ≡ x → eqb b 0 ≡ y → eqb (bit_or a b) 0 ≡ (x && y)
+    go true true p q = eq-eqb (bit_or a b) 0 (omega (arith, or_add_and a b, eqb-true a 0 p, eqb-true b 0 q))
+    go true false p q = ne_eqb (bit_or a b) 0 (λ e. eqb-false b 0 q (omega (arith, or_add_and a b, and_le_l a b, e)))
+    go false y p q = ne_eqb (bit_or a b) 0 (λ e. eqb-false a 0 p (omega (arith, or_add_and a b, and_le_r a b, e)))
 
-near_more : (t e : ℕ) → eqb (t + e / 2 ^ 41) 0 ≡ (eqb t 0 && ltb e (2 ^ 41))
-near_more zero e = ⊎_elim
-    (λ (h : 2 ^ 41 ≤ e). ne_eqb (0 + e / 2 ^ 41) 0 (λ z. omega arith) ∙ sym (le-ltb e (2 ^ 41) h))
-    (λ (h : e < 2 ^ 41). eq-eqb (0 + e / 2 ^ 41) 0 (omega arith) ∙ sym (lt-ltb e (2 ^ 41) h))
-    (le_or_lt (2 ^ 41) e)
-near_more (suc t) e =
-    ne_eqb (suc t + e / 2 ^ 41) 0 (λ z. omega arith) ∙ sym (ap (λ (b : Bool). b && ltb e (2 ^ 41)) (ne_eqb (suc t) 0 (λ z. omega arith)))
+-- nothing is left of x exactly if it is below the bound
+above_none : (x m : ℕ) → 0 < m → eqb (x / m) 0 ≡ ltb x m
+above_none x m p = go (ltb x m) refl
+  where
+    go : (b : Bool) → ltb x m ≡ b → eqb (x / m) 0 ≡ b
+    go true q = eq-eqb (x / m) 0 (let h : x / m < 1 = (div-lt_iff_lt-mul p).1 (omega (arith, ltb-true x m q)) in omega arith)
+    go false q = ne_eqb (x / m) 0 (λ e. let h : x < 1 * m = (div-lt_iff_lt-mul p).0 (omega (arith, e)) in omega (arith, ltb-false x m q))
+
+pow_some : (n : ℕ) → 0 < 2 ^ n
+pow_some zero = omega arith
+pow_some (suc n) = let h = pow_some n in omega (arith, h)
 
 assoc : (a b d : Bool) → ((a && b) && d) ≡ (a && (b && d))
 assoc true b d = refl
 assoc false b d = refl
 
--- nothing above so far, and nothing in the rest
-pub short_turn : (es : List ℕ) (t i : ℕ) → i < length es → (eqb t 0 && short (drop i es)) ≡ short es
-    → (eqb (t + get_or es i 0 / 2 ^ 16) 0 && short (drop (i + 1) es)) ≡ short es
-short_turn es t i h q =
-    let s = short (drop (i + 1) es) in
-    let d : short (drop i es) ≡ (ltb (get_or es i 0) (2 ^ 16) && short (drop (i + 1) es)) = rw (add-one i, drop-cons es i 0 h) in
-    ap (λ (b : Bool). b && s) (short_more t (get_or es i 0)) ∙ assoc (eqb t 0) (ltb (get_or es i 0) (2 ^ 16)) s ∙ ap (λ (b : Bool). eqb t 0 && b) (sym d) ∙ q
-
-pub near_turn : (ss : List ℤ) (t i : ℕ) → i < length ss → (eqb t 0 && near (drop i ss)) ≡ near ss
-    → (eqb (t + nat_abs (get_or ss i (pos 0)) / 2 ^ 41) 0 && near (drop (i + 1) ss)) ≡ near ss
-near_turn ss t i h q =
-    let s = near (drop (i + 1) ss) in
-    let m = nat_abs (get_or ss i (pos 0)) in
-    let d : near (drop i ss) ≡ (ltb (nat_abs (get_or ss i (pos 0))) (2 ^ 41) && near (drop (i + 1) ss)) = rw (add-one i, drop-cons ss i (pos 0) h) in
-    ap (λ (b : Bool). b && s) (near_more t m) ∙ assoc (eqb t 0) (ltb m (2 ^ 41)) s ∙ ap (λ (b : Bool). eqb t 0 && b) (sym d) ∙ q
-
 whole : (b : Bool) → b ≡ (b && true)
 whole true = refl
 whole false = refl
 
-pub short_end : (es : List ℕ) (t i : ℕ) → length es ≤ i → (eqb t 0 && short (drop i es)) ≡ short es → eqb t 0 ≡ short es
-short_end es t i h q = whole (eqb t 0) ∙ ap (λ (l : List ℕ). eqb t 0 && short l) (sym (drop_of_length-le es h)) ∙ q
+-- what is gathered of the places so far is nothing exactly if these are below, and the rest is still to test
+module _ {A : Type 0} (size : A → ℕ) (bits : ℕ) (xs : List A) (i above : ℕ) where
+  pub gathered_next : (z : A) (n : ℕ) → i < length xs → n ≡ size (get_or xs i z) → (eqb above 0 && all_below size (2 ^ bits) (drop i xs)) ≡ all_below size (2 ^ bits) xs
+      → (eqb (bit_or above (n / 2 ^ bits)) 0 && all_below size (2 ^ bits) (drop (i + 1) xs)) ≡ all_below size (2 ^ bits) xs
+  gathered_next z n h q e =
+      let rest : Bool = all_below size (2 ^ bits) (drop (i + 1) xs) in
+      let x : A = get_or xs i z in
+      let first : eqb (n / 2 ^ bits) 0 ≡ ltb (size x) (2 ^ bits) = above_none n (2 ^ bits) (pow_some bits) ∙ ap (λ (k : ℕ). ltb k (2 ^ bits)) q in
+      let step : all_below size (2 ^ bits) (drop i xs) ≡ (ltb (size x) (2 ^ bits) && rest) =
+      ap (all_below size (2 ^ bits)) (drop-cons xs i z h) ∙ ap (λ (j : ℕ). ltb (size x) (2 ^ bits) && all_below size (2 ^ bits) (drop j xs)) (sym (add-one i)) in
+      ap (λ (y : Bool). y && rest) (or_none above (n / 2 ^ bits) ∙ ap (λ (y : Bool). eqb above 0 && y) first)
+      ∙ assoc (eqb above 0) (ltb (size x) (2 ^ bits)) rest ∙ ap (λ (y : Bool). eqb above 0 && y) (sym step) ∙ e
 
-pub near_end : (ss : List ℤ) (t i : ℕ) → length ss ≤ i → (eqb t 0 && near (drop i ss)) ≡ near ss → eqb t 0 ≡ near ss
-near_end ss t i h q = whole (eqb t 0) ∙ ap (λ (l : List ℤ). eqb t 0 && near l) (sym (drop_of_length-le ss h)) ∙ q
-
--- the sums stay small
-pub short-room : (t e i n : ℕ) → t ≤ i * 2 ^ 48 → e < 2 ^ 64 → i < n → n ≤ 64 → t + e / 2 ^ 16 < 2 ^ 64
-short-room t e i n h l m few = omega arith
-
-pub short-next : (t e i : ℕ) → t ≤ i * 2 ^ 48 → e < 2 ^ 64 → t + e / 2 ^ 16 ≤ (i + 1) * 2 ^ 48
-short-next t e i h l = omega arith
-
-pub near-room : (t m i n : ℕ) → t ≤ i * 2 ^ 23 → m < 2 ^ 64 → i < n → n ≤ 512 → t + m / 2 ^ 41 < 2 ^ 64
-near-room t m i n h l k few = omega arith
-
-pub near_next : (t m i : ℕ) → t ≤ i * 2 ^ 23 → m < 2 ^ 64 → t + m / 2 ^ 41 ≤ (i + 1) * 2 ^ 23
-near_next t m i h l = omega arith
+  pub gathered_end : length xs ≤ i → (eqb above 0 && all_below size (2 ^ bits) (drop i xs)) ≡ all_below size (2 ^ bits) xs → eqb above 0 ≡ all_below size (2 ^ bits) xs
+  gathered_end h e = whole (eqb above 0) ∙ ap (λ (l : List A). eqb above 0 && all_below size (2 ^ bits) l) (sym (drop_of_length-le xs h)) ∙ e
 
 -- ---- the reach
+
+abbrev low : List ℕ → Bool
+low es = all_below (λ n. n) (2 ^ 16) es
+
+abbrev near : List ℤ → Bool
+near ss = all_below nat_abs (2 ^ 41) ss
 
 -- both parts of a test that holds
 left : (a b : Bool) → (a && b) ≡ true → a ≡ true
@@ -98,13 +88,13 @@ product e m h l =
     let p : (e - 1) * m ≤ 65535 * m = mul-le-mul_right m a in
     omega arith
 
-small : (es : List ℕ) (ts : List ℤ) → short es ≡ true → near ts ≡ true → reach es ts ≤ length es * 144115188075855871
+small : (es : List ℕ) (ts : List ℤ) → low es ≡ true → near ts ≡ true → reach es ts ≤ length es * 144115188075855871
 small [] ts h l = omega arith
 small (e ∷ es) [] h l = omega arith
 small (e ∷ es) (t ∷ ts) h l =
-    let a = ltb-true e (2 ^ 16) (left (ltb e (2 ^ 16)) (short es) h) in
+    let a = ltb-true e (2 ^ 16) (left (ltb e (2 ^ 16)) (low es) h) in
     let b = ltb-true (nat_abs t) (2 ^ 41) (left (ltb (nat_abs t) (2 ^ 41)) (near ts) l) in
-    omega (arith, product e (nat_abs t) a b, small es ts (right (ltb e (2 ^ 16)) (short es) h) (right (ltb (nat_abs t) (2 ^ 41)) (near ts) l))
+    omega (arith, product e (nat_abs t) a b, small es ts (right (ltb e (2 ^ 16)) (low es) h) (right (ltb (nat_abs t) (2 ^ 41)) (near ts) l))
 
 near-drop : (n : ℕ) (ss : List ℤ) → near ss ≡ true → near (drop n ss) ≡ true
 near-drop zero ss h = h
@@ -118,11 +108,11 @@ near-take (suc n) (s ∷ ss) h =
     rw (left (ltb (nat_abs s) (2 ^ 41)) (near ss) h, near-take n ss (right (ltb (nat_abs s) (2 ^ 41)) (near ss) h))
 
 -- row 6 does not apply
-module _ (es : List ℕ) (ss : List ℤ) (operands pitch : ℕ) (few : length es ≤ 64) {b : Bool} (is : b ≡ (short es && near ss)) (t : b ≡ true) where
+module _ (es : List ℕ) (ss : List ℤ) (operands pitch : ℕ) (few : length es ≤ 64) {b : Bool} (is : b ≡ (all_below (λ n. n) (2 ^ 16) es && all_below nat_abs (2 ^ 41) ss)) (t : b ≡ true) where
   none_far : (k : ℕ) → far_at es (row_at es ss pitch) k ≡ false
   none_far k =
-      let h : (short es && near ss) ≡ true = sym is ∙ t in
-      let r = small es (row_at es ss pitch k) (left (short es) (near ss) h) (near-take (length es) (drop (k * pitch) ss) (near-drop (k * pitch) ss (right (short es) (near ss) h))) in
+      let h : (low es && near ss) ≡ true = sym is ∙ t in
+      let r = small es (row_at es ss pitch k) (left (low es) (near ss) h) (near-take (length es) (drop (k * pitch) ss) (near-drop (k * pitch) ss (right (low es) (near ss) h))) in
       le-ltb max_i (reach es (row_at es ss pitch k)) (omega (arith, r))
 
   never : (z : Bool) → (z && false) ≡ false

@@ -19,7 +19,6 @@ use Rattle.strided.specs.declared.Refusal.TheVariants.{Record}
 use Rattle.laws.specs.Base.Refusals.{NoneApplies, none_applies}
 use Rattle.laws.specs.Refusals.Rows.{Past, rows_refuse, rows_pass, refused_some, few-axes, few_operands}
 use Rattle.layout.specs.Laid.{Laid}
-use Rattle.strided.specs.Index.{told}
 
 -- the first n of rows 1 to 4 do not apply
 abbrev pub Passed : ℕ → List ℕ → List ℕ → List ℤ → Purpose → Type 0

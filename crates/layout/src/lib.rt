@@ -10,15 +10,21 @@ ghost use Rattle.layout.specs.Laid.{Laid};
 
 use strided::{Machine, Purpose, Refusal};
 
+pub mod below;
+pub mod lent;
 mod near;
 pub mod rows;
 pub mod sizes;
+pub mod slices;
 
+pub use below::{all_below, all_zero, first_below};
+pub use lent::LentPlan;
 pub use rows::{
     chosen_missing, machine_allowed, operands_wrong, rank_over, reach_at, reach_over,
     strides_wrong, total_over,
 };
 pub use sizes::{has_zero, total_at_most, total_len};
+pub use slices::{Layout, Rows, lay_into};
 
 // The number of a refusal in document 01's table.
 pub fn number(refusal: Refusal) -> u64

@@ -49,32 +49,21 @@ fn line_allowed(line: u64) -> bool
     matches!(line, 32 | 64 | 128 | 256)
 }
 
-// A number between two, both included.
-fn between(low: u64, x: u64, high: u64) -> bool
-    ensures { result ≡ leb low x && leb x high }
-{
-    low <= x && x <= high
-}
-
 // A way of the machine: whole lines, from one up to the cache.
 fn way_allowed(line: u64, cache: u64, way: u64) -> bool
-    requires { 0 < line }
     ensures { result ≡ eqb (way % line) 0 && (leb line way && leb way cache) }
 {
-    way % line == 0 && between(line, way, cache)
+    way.is_multiple_of(line) && (line..=cache).contains(&way)
 }
 
-// Row 24, whether it does not apply. The line is tested first: the way is divided by it.
+// Row 24, whether it does not apply.
 pub fn machine_allowed(machine: Machine) -> bool
     ensures { result ≡ allowed machine }
 {
-    if !line_allowed(machine.line) {
-        return false;
-    }
-    if !between(4096, machine.cache, 1048576) {
-        return false;
-    }
-    way_allowed(machine.line, machine.cache, machine.way) && between(1, machine.live, 16)
+    line_allowed(machine.line)
+        && (4096..=1048576).contains(&machine.cache)
+        && way_allowed(machine.line, machine.cache, machine.way)
+        && (1..=16).contains(&machine.live)
 }
 
 // Row 5. A zero extent makes the total 0.
@@ -100,7 +89,7 @@ fn some_far<'a>(extents: &'a [u64], strides: &'a [i64], pitch: usize, operands: 
     ensures { result ≡ some_of (far_at extents.now (row_at extents.now strides.now pitch)) 0 operands }
 {
     for k in 0..operands {
-        if 9223372036854775807 < reach_at(extents, strides, pitch, k) {
+        if reach_at(extents, strides, pitch, k) > i64::MAX as u64 {
             return true;
         }
     }

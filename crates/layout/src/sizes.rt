@@ -60,7 +60,10 @@ pub fn has_zero(extents: &[u64]) -> bool
     extents.contains(&0)
 }
 
-// The reach of an operand, or 2^63 where that is less: above 2^63 - 1 the reach is refused.
+// Above 2^63 - 1 a reach is refused, so that none is counted further than this.
+const REACH_CAP: u64 = 1 << 63;
+
+// The reach of an operand, or 2^63 where that is less.
 pub fn reach_of<'a>(extents: &'a [u64], strides: &'a [i64]) -> u64
     requires { length strides.now ≡ length extents.now }
     ensures { result ≡ min (reach extents.now strides.now) (2 ^ 63) }
@@ -70,9 +73,9 @@ pub fn reach_of<'a>(extents: &'a [u64], strides: &'a [i64]) -> u64
         let way = mul_cap(
             extents[i].saturating_sub(1),
             strides[i].unsigned_abs(),
-            9223372036854775808,
+            REACH_CAP,
         );
-        sum = add_cap(sum, way, 9223372036854775808);
+        sum = add_cap(sum, way, REACH_CAP);
     }
     sum
 }

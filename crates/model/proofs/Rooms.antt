@@ -1,4 +1,4 @@
--- What row 6 gives on the plan's axes: scores and the spans of declining fit 64 bits. Assumes nothing.
+-- What row 6 gives on the plan's axes: scores fit 64 bits. Assumes nothing.
 use mathlib.Core.Path.{subst⁻¹}
 use mathlib.Core.List.{List}
 use Prim.Native.Nat.{ℕ, ◌-◌, ◌*◌, ◌^◌, ◌<◌}
@@ -9,7 +9,6 @@ use Rattle.strided.specs.declared.Purpose.{Purpose}
 use Rattle.laws.specs.Cut.Same.{SameCosts}
 use Rattle.laws.specs.Cut.Steps.{ScoresFit}
 use Rattle.laws.specs.Cut.Tables.{scores_fit}
-use Rattle.decline.specs.Reach.{WithinReach}
 use Rattle.model.specs.Plannable.{Plannable}
 
 module _ (sizes es : List ℕ) (strides : List ℤ) (rank : ℕ) (u : Purpose) (p : Plannable sizes es strides rank u) where
@@ -17,6 +16,3 @@ module _ (sizes es : List ℕ) (strides : List ℤ) (rank : ℕ) (u : Purpose) (
   scores cs same i h =
       subst⁻¹ (λ (c : ℕ). (get_or es i 0 - 1) * c < 2 ^ 64) (same i h)
       (scores_fit es strides (length sizes) rank p.one p.small p.near i h)
-
-  pub within-reach : WithinReach sizes strides es rank
-  within-reach = record { axes = p.axes; few = p.few; places = p.places; table = p.table; near = p.near }

@@ -11,7 +11,7 @@ ghost use Rattle.strided.specs.Plan.{grows, fitted_for, cut_blocks};
 ghost use Rattle.strided.specs.Machine.{Allowed};
 ghost use Rattle.strided.specs.Region.{byte_table, region};
 ghost use Rattle.strided.specs.declared.Purpose.TheVariants.{Pointwise};
-ghost use Rattle.laws.specs.Cut.Image.{image, Images};
+ghost use Rattle.laws.specs.Cut.Image.{Images};
 ghost use Rattle.model.specs.Plannable.{Plannable};
 ghost use Rattle.model.specs.ByteRows.{byte_rows};
 ghost use Rattle.model.specs.Exits.{increasing, in_order, ruled};
@@ -20,80 +20,50 @@ use block::compute_blocks_at;
 use decline::declines_tiles;
 use fuse::compute_costs;
 use l1::L1Sets;
-use region::{AllowedMachine, Tail, memory_region};
+use region::{AllowedMachine, Axes, Operand, Tail, memory_region};
 use strided::{Machine, Purpose};
-use wide::Wide;
 
+mod image;
 mod ranks;
 
+use image::byte_image;
 use ranks::plan_ranks_into;
 
-// What the table holds for a byte stride: itself if it has 32 bits; else, counted from the first multiple of the way above the cache, what it
-// leaves by the way.
-fn byte_image(machine: AllowedMachine, stride: u64, size: u64) -> u32
-    ensures { result ≡ image machine.numbers (stride * size) }
+// An operand's byte strides, put into the table behind those of the operands before it: stride size times element size.
+fn put_bytes(machine: AllowedMachine, operand: Operand, table: &mut [u32; 512])
+    requires { let a = operand.axes in table.old ≡ byte_rows machine.numbers a.sizes.now a.strides.now a.rank operand.k }
+    ensures { let o = operand.entry in let a = o.axes in table.new ≡ byte_rows machine.numbers a.sizes.now a.strides.now a.rank (o.k + 1) }
 {
-    let bytes = Wide::product(stride, size);
-    let limit = Wide {
-        high: 0,
-        low: 4294967296,
-    };
-    if bytes.below(limit) {
-        return bytes.low as u32;
-    }
-    let beyond = (machine.numbers.cache / machine.numbers.way + 1) * machine.numbers.way;
-    (beyond + bytes.remainder(machine.numbers.way)) as u32
-}
-
-// Operand k's byte strides, put into the table behind those of the operands before it: stride size times element size.
-fn put_bytes<'a>(
-    machine: AllowedMachine,
-    table: &mut [u32; 512],
-    sizes: &'a [u64],
-    strides: &'a [i64; 512],
-    rank: usize,
-    k: usize,
-)
-    requires k_in_bounds { (k < length sizes.now) × ((k < 8) × (rank ≤ 64)) }
-    requires table_value { table.old ≡ byte_rows machine.numbers sizes.now strides.now rank k }
-    ensures { table.new ≡ byte_rows machine.numbers sizes.now strides.now rank (k + 1) }
-{
-    let size = sizes[k];
-    let from = k * 64;
-    for i in 0..rank {
-        let t = strides[from + i];
+    let size = operand.axes.sizes[operand.k];
+    let from = operand.k * 64;
+    for i in 0..operand.axes.rank {
+        let t = operand.axes.strides[from + i];
         table[from + i] = byte_image(machine, t.unsigned_abs(), size);
     }
 }
 
 // The byte strides of every operand, written into a table of zeros.
-fn byte_table_into<'a>(
-    machine: AllowedMachine,
-    sizes: &'a [u64],
-    strides: &'a [i64; 512],
-    rank: usize,
-    table: &mut [u32; 512],
-)
-    requires sizes_len_bound { (length sizes.now ≤ 8) × (rank ≤ 64) }
-    requires table_value { table.old ≡ replicate 512 0 }
-    ensures { table.new ≡ byte_rows machine.numbers sizes.now strides.now rank (length sizes.now) }
+fn byte_table_into(machine: AllowedMachine, axes: Axes, table: &mut [u32; 512])
+    requires { table.old ≡ replicate 512 0 }
+    ensures { let a = axes.entry in table.new ≡ byte_rows machine.numbers a.sizes.now a.strides.now a.rank (length a.sizes.now) }
 {
-    for k in 0..sizes.len() {
-        put_bytes(machine, table, sizes, strides, rank, k);
+    for k in 0..axes.sizes.len() {
+        put_bytes(machine, Operand { axes, k }, table);
     }
 }
 
-// Whether operand k's strides are nonzero and each is of larger size than the one before.
-fn strictly_increasing(strides: &[i64; 512], rank: usize, k: usize) -> bool
-    requires { (k < 8) × ((0 < rank) × (rank ≤ 64)) }
-    ensures { result ≡ increasing strides.now rank k }
+// Whether an operand's strides are nonzero and each is of larger size than the one before.
+fn strictly_increasing(operand: Operand) -> bool
+    requires { 0 < operand.axes.rank }
+    ensures { let o = operand.entry in result ≡ increasing o.axes.strides.now o.axes.rank o.k }
 {
-    let mut last = strides[k * 64].unsigned_abs();
+    let from = operand.k * 64;
+    let mut last = operand.axes.strides[from].unsigned_abs();
     if last == 0 {
         return false;
     }
-    for i in 1..rank {
-        let m = strides[k * 64 + i].unsigned_abs();
+    for i in 1..operand.axes.rank {
+        let m = operand.axes.strides[from + i].unsigned_abs();
         if m <= last {
             return false;
         }
@@ -103,12 +73,12 @@ fn strictly_increasing(strides: &[i64; 512], rank: usize, k: usize) -> bool
 }
 
 // Whether every operand has a size above 0 and strictly growing strides: then every axis is innermost in its turn, and none is cut.
-fn all_grow<'a>(sizes: &'a [u64], strides: &'a [i64; 512], rank: usize) -> bool
-    requires { (length sizes.now ≤ 8) × ((0 < rank) × (rank ≤ 64)) }
-    ensures { result ≡ every (grows sizes.now strides.now rank) 0 (length sizes.now) }
+fn all_grow(axes: Axes) -> bool
+    requires { 0 < axes.rank }
+    ensures { let a = axes.entry in result ≡ every (grows a.sizes.now a.strides.now a.rank) 0 (length a.sizes.now) }
 {
-    for k in 0..sizes.len() {
-        if sizes[k] == 0 || !strictly_increasing(strides, rank, k) {
+    for k in 0..axes.sizes.len() {
+        if axes.sizes[k] == 0 || !strictly_increasing(Operand { axes, k }) {
             return false;
         }
     }
@@ -116,111 +86,87 @@ fn all_grow<'a>(sizes: &'a [u64], strides: &'a [i64; 512], rank: usize) -> bool
 }
 
 // Whether no axis is cut whatever the extents: there is none, or every operand's strides grow. This takes no table.
-fn keeps_order<'a>(sizes: &'a [u64], strides: &'a [i64; 512], rank: usize) -> bool
-    requires { (length sizes.now ≤ 8) × (rank ≤ 64) }
-    ensures { result ≡ in_order sizes.now strides.now rank }
+fn keeps_order(axes: Axes) -> bool
+    ensures { let a = axes.entry in result ≡ in_order a.sizes.now a.strides.now a.rank }
 {
-    rank == 0 || all_grow(sizes, strides, rank)
+    axes.rank == 0 || all_grow(axes)
 }
 
 // Whether the whole fits the cache, so that no axis is cut either.
-fn fits_whole<'a>(
-    machine: AllowedMachine,
-    extents: &'a [u64; 64],
-    bytes: &'a [u32; 512],
-    operands: usize,
-    rank: usize,
-) -> bool
-    requires { (operands ≤ 8) × (rank ≤ 64) }
-    ensures { result ≡ leb (region machine.numbers bytes.now operands extents.now 0 rank) machine.numbers.cache }
+fn fits_whole(machine: AllowedMachine, bytes: &[u32; 512], axes: Axes) -> bool
+    ensures { let a = axes.entry in result ≡ leb (region machine.numbers bytes.now (length a.sizes.now) a.extents.now 0 a.rank) machine.numbers.cache }
 {
     let all = Tail {
-        operands,
+        machine,
+        bytes,
+        operands: axes.sizes.len(),
         offset: 0,
-        rank,
+        rank: axes.rank,
     };
-    memory_region(machine, all, extents, bytes) <= machine.numbers.cache
+    memory_region(all, axes.extents) <= machine.numbers.cache
 }
 
 // A copy into the chosen operand is fitted to the L1 sets. A fold keeps the model's blocks, which order its sum; walks with more operands
 // lose more by short runs than they gain.
-fn fit_for<'a>(
+fn fit_for(
     machine: AllowedMachine,
-    blocks: &mut [u64; 64],
-    bytes: &'a [u32; 512],
-    sizes: &'a [u64],
-    strides: &'a [i64; 512],
-    rank: usize,
+    bytes: &[u32; 512],
+    axes: Axes,
     purpose: Purpose,
+    blocks: &mut [u64; 64],
 )
-    requires { (rank ≤ 64) × (missing (length sizes.now) (chosen purpose) ≡ false) }
-    ensures { blocks.new ≡ fitted_for machine.numbers purpose bytes.now sizes.now strides.now rank blocks.old }
+    requires { missing (length axes.sizes.now) (chosen purpose) ≡ false }
+    ensures { let a = axes.entry in blocks.new ≡ fitted_for machine.numbers purpose bytes.now a.sizes.now a.strides.now a.rank blocks.old }
 {
     match purpose {
-        Purpose::Pointwise => (),
-        Purpose::Fold(c) => (),
+        Purpose::Pointwise | Purpose::Fold(_) => (),
         Purpose::PointwiseInto(c) => {
-            if sizes.len() == 2 {
-                L1Sets::fit(machine, blocks, bytes, sizes, strides, c as usize, rank);
+            if axes.sizes.len() == 2 {
+                L1Sets::fit(machine, bytes, axes, c as usize, blocks);
             }
         }
     }
 }
 
 // The cutting rule on all the plan's axes, which `blocks` holds whole. Costs and ranks are those of the plan's axes, worked out once.
-fn cut_axes<'a>(
-    machine: AllowedMachine,
-    sizes: &'a [u64],
-    strides: &'a [i64; 512],
-    bytes: &'a [u32; 512],
-    rank: usize,
-    blocks: &mut [u64; 64],
-)
-    requires plannable { Plannable sizes.now blocks.old strides.now rank Pointwise }
-    requires images { Images machine.numbers (length sizes.now) rank bytes.now (byte_table sizes.now strides.now) }
-    ensures { blocks.new ≡ ruled machine.numbers sizes.now blocks.old strides.now rank }
+fn cut_axes(machine: AllowedMachine, bytes: &[u32; 512], axes: Axes, blocks: &mut [u64; 64])
+    requires plannable { Plannable axes.sizes.now blocks.old axes.strides.now axes.rank Pointwise }
+    requires images { let a = axes in Images machine.numbers (length a.sizes.now) a.rank bytes.now (byte_table a.sizes.now a.strides.now) }
+    ensures { let a = axes.entry in blocks.new ≡ ruled machine.numbers a.sizes.now blocks.old a.strides.now a.rank }
 {
-    let costs = compute_costs(strides, sizes.len(), rank);
+    let costs = compute_costs(axes.strides, axes.sizes.len(), axes.rank);
     let mut ranks = [[0u8; 64]; 8];
-    plan_ranks_into(sizes, strides, rank, &mut ranks);
+    plan_ranks_into(axes, &mut ranks);
     let all = Tail {
-        operands: sizes.len(),
+        machine,
+        bytes,
+        operands: axes.sizes.len(),
         offset: 0,
-        rank,
+        rank: axes.rank,
     };
-    compute_blocks_at(machine, all, blocks, bytes, &costs, &ranks);
+    compute_blocks_at(all, &costs, &ranks, blocks);
 }
 
-// The blocks of a plan whose total is above 1,024, from its arrays. The tests that keep every axis whole come before what they can spare.
-pub fn block_sizes_into<'a>(
-    machine: Machine,
-    sizes: &'a [u64],
-    es: &'a [u64; 64],
-    table: &'a [i64; 512],
-    rank: usize,
-    purpose: Purpose,
-    blocks: &mut [u64; 64],
-)
+// The blocks of a plan whose total is above 1,024, from its axes. The tests that keep every axis whole come before what they can spare.
+pub fn block_sizes_into(machine: Machine, axes: Axes, purpose: Purpose, blocks: &mut [u64; 64])
     requires allowed { Allowed machine }
-    requires plannable { Plannable sizes.now es.now table.now rank purpose }
-    ensures { blocks.new ≡ cut_blocks machine sizes.now es.now table.now rank purpose }
+    requires plannable { Plannable axes.sizes.now axes.extents.now axes.strides.now axes.rank purpose }
+    ensures { let a = axes.entry in blocks.new ≡ cut_blocks machine a.sizes.now a.extents.now a.strides.now a.rank purpose }
 {
-    if keeps_order(sizes, table, rank) {
-        *blocks = *es;
+    *blocks = *axes.extents;
+    if keeps_order(axes) {
         return;
     }
     let machine = AllowedMachine { numbers: machine };
     let mut bytes = [0u32; 512];
-    byte_table_into(machine, sizes, table, rank, &mut bytes);
-    if fits_whole(machine, es, &bytes, sizes.len(), rank) {
-        *blocks = *es;
+    byte_table_into(machine, axes, &mut bytes);
+    if fits_whole(machine, &bytes, axes) {
         return;
     }
-    *blocks = *es;
-    cut_axes(machine, sizes, table, &bytes, rank, blocks);
-    if declines_tiles(machine, sizes, table, es, blocks, rank) {
-        *blocks = *es;
+    cut_axes(machine, &bytes, axes, blocks);
+    if declines_tiles(machine, axes, blocks) {
+        *blocks = *axes.extents;
         return;
     }
-    fit_for(machine, blocks, &bytes, sizes, table, rank, purpose);
+    fit_for(machine, &bytes, axes, purpose, blocks);
 }

@@ -5,6 +5,7 @@ ghost use Rattle.strided.specs.Ranks.{ranks};
 ghost use Rattle.strided.specs.Cut.{plan_ranks};
 
 use auxiliary::index_order_into;
+use region::Axes;
 
 // The ranks of an operand's strides, written into a row of zeros. At size 0 every byte stride is 0, so every rank is 1.
 fn ranks_into(size: u64, strides: &[i64], row: &mut [u8; 64])
@@ -19,15 +20,16 @@ fn ranks_into(size: u64, strides: &[i64], row: &mut [u8; 64])
     }
 }
 
-// The ranks of the plan's axes within each operand, written into a table of zeros. `strides` is the plan's table.
-pub fn plan_ranks_into(sizes: &[u64], strides: &[i64], rank: usize, table: &mut [[u8; 64]; 8])
-    requires sizes_len_bound { (length sizes.now ≤ 8) × ((length strides.now ≡ 512) × (rank ≤ 64)) }
+// The ranks of the plan's axes within each operand, written into a table of zeros.
+pub fn plan_ranks_into(axes: Axes, table: &mut [[u8; 64]; 8])
+    requires strides_len { length axes.strides.now ≡ 512 }
     requires table_value { table.old ≡ replicate 8 (replicate 64 0) }
-    ensures { table.new ≡ padded 8 (replicate 64 0) (map (padded 64 0) (plan_ranks sizes.now strides.now rank)) }
+    ensures { let a = axes.entry in table.new ≡ padded 8 (replicate 64 0) (map (padded 64 0) (plan_ranks a.sizes.now a.strides.now a.rank)) }
 {
-    for k in 0..sizes.len() {
+    let strides = axes.strides;
+    for k in 0..axes.sizes.len() {
         let start = k * 64;
-        let end = start + rank;
-        ranks_into(sizes[k], &strides[start..end], &mut table[k]);
+        let end = start + axes.rank;
+        ranks_into(axes.sizes[k], &strides[start..end], &mut table[k]);
     }
 }

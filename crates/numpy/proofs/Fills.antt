@@ -6,7 +6,7 @@ use Prim.Native.Nat.{ℕ, zero, suc, ◌+◌, ◌-◌, ◌*◌, ◌^◌, ◌≤�
 use native.Mathlib.Nat.{one-mul}
 use native.Mathlib.Omega.{arith}
 use lib.IntN.{ℤ, pos}
-use lib.ListN.{length, get_or, take, set, replicate, length-map}
+use lib.ListN.{length, get_or, take, set, length-map}
 use lib.Seq.{take_all, take-suc}
 use native.Mathlib.Numerals.{add-one}
 use Rattle.std.specs.List.{AllZip}
@@ -14,7 +14,6 @@ use Rattle.std.proofs.lemmas.List.{length-take-le}
 use Rattle.std.proofs.lemmas.List.Elements.{all_zip_more, length_all_zip}
 use Rattle.strided.specs.Base.{padded}
 use Rattle.strided.specs.Layout.{total}
-use Rattle.laws.specs.Base.Filling.{fill_none}
 use Rattle.laws.specs.Base.Stores.{fill_first, set_behind}
 use Rattle.numpy.specs.Numpy.{reversed}
 use Rattle.numpy.specs.Reversing.{length-reversed, get_d_reversed, reversed-map, total-append}
@@ -43,9 +42,6 @@ module _ {A : Type 0} (R : A → A → Type 0) (z : A) (xs : List A) where
     pub results : List A
     pub each : AllZip R (take i (reversed xs)) results
     pub laid : out ≡ padded 64 z results
-
-  pub turning_start : Turning 0 (replicate 64 z)
-  turning_start = record { results = []; each = tt; laid = fill_none 64 z }
 
   pub turning_turn : (i : ℕ) → length xs ≤ 64 → i < length xs → {out : List A} → Turning i out → {x r : A} → x ≡ get_or xs (length xs - 1 - i) x → R x r
       → Turning (i + 1) (set out i r)

@@ -6,8 +6,7 @@ use Rattle.std.specs.Prelude.{Option, None, Some}
 use Prim.Native.Nat.{ℕ, ◌≤◌, ◌<◌}
 use native.Mathlib.Omega.{arith}
 use lib.IntN.{ℤ}
-use lib.ListN.{length, drop, length-drop, drop_of_length-le}
-use lib.Seq.{sets}
+use lib.ListN.{length, drop, length-drop}
 use Rattle.strided.specs.Base.{over}
 use Rattle.strided.specs.Digits.{digits_of, signed_of}
 use Rattle.strided.specs.Text.{FitU, FitI, field, signed_field}
@@ -17,12 +16,11 @@ use Rattle.reading.specs.Counted.{counts_once}
 use Rattle.reading.specs.Heads.{CountsHere, ReadsCounts}
 use Rattle.reading.specs.Rows.{RowHere}
 use Rattle.reading.specs.declared.head.Counts.{Counts}
-use Rattle.numpy.specs.Descriptions.{Description, head_line, shape_line, strides_part, StridesFit, InForm, NotInForm}
+use Rattle.numpy.specs.Descriptions.{Description, head_line, shape_line, strides_part, StridesFit, InForm}
 use Rattle.numpy.specs.Once.{head_text, shape_text, head_once}
 use Rattle.numpy.specs.Readers.{saying, HeadHere, ReadsHead, LineAt, TakesLine, LinesHere, TakesLines, ReadsDescription}
 use Rattle.numpy.specs.declared.lines.Head.{Head}
 use Rattle.numpy.specs.declared.lines.Said.{Said}
-use Rattle.numpy.specs.declared.lines.Said.TheVariants.{Packed, Given}
 
 -- two variants are never one answer: `clash (cc)` where both are said
 pub clash : {A : Type 0} → ◌≡◌ {A = ℕ} 0 1 → A
@@ -34,15 +32,12 @@ head_parts : {t : List ℕ} (size rank : ℕ) {rest : List ℕ} → HeadHere t s
 head_parts size rank {rest} h = (
   field size ++ (field rank ++ (10 ∷ rest)),
   h.form ∙ head_text size rank rest,
-  record { rank_fits = h.size_fits_lem; operands_fit = h.rank_fits; form = refl; stops = refl },
+  record { first_fits = h.size_fits_lem; second_fits = h.rank_fits; form = refl; stops = refl },
 )
 
 module _ {s : List ℕ} where
   no_head : ((size rank : ℕ) (rest : List ℕ) → HeadHere s size rank rest → ⊥) → ReadsHead s None
   no_head never = record { told = λ h e. clash (cc); bad = λ e. never }
-
-  pub head_letter : ((rest : List ℕ) → s ≡ 78 ∷ rest → ⊥) → ReadsHead s None
-  head_letter never = no_head (λ size rank rest h. let p = head_parts size rank h in never p.0 p.1)
 
   module _ {from : ℕ} (q : s ≡ 78 ∷ drop from s) {r : Option Counts} (h : ReadsCounts s from r) where
     -- what stands behind the letter of any N line
@@ -51,60 +46,11 @@ module _ {s : List ℕ} where
         let p = head_parts size rank w in
         subst (λ (u : List ℕ). CountsHere u size rank (10 ∷ rest)) (ap tail (sym p.1 ∙ q)) p.2
 
-    pub head-counts : r ≡ None → ReadsHead s None
-    head-counts e = no_head (λ size rank rest w. h.bad e size rank (10 ∷ rest) (behind size rank rest w))
-
     module _ (n : Counts) (e : r ≡ Some n) where
       pub head_end : ((rest : List ℕ) → drop n.next s ≡ 10 ∷ rest → ⊥) → ReadsHead s None
       head_end never = no_head (λ size rank rest w. never rest (counts_once (h.told n e) (behind size rank rest w)).2)
 
-      pub head-told : (next : ℕ) → drop n.next s ≡ 10 ∷ drop next s → ReadsHead s (Some (record { size = n.rank; rank = n.operands; next = next }))
-      head-told next l =
-          let c = h.told n e in
-          let size = n.rank in
-          let rank = n.operands in
-          let f : s ≡ head_line size rank ++ drop next s =
-          q ∙ ap (λ (u : List ℕ). 78 ∷ u) (c.form ∙ ap (λ (u : List ℕ). field size ++ (field rank ++ u)) l) ∙ sym (head_text size rank (drop next s)) in
-          let here : HeadHere s size rank (drop next s) = record { size_fits_lem = c.rank_fits; rank_fits = c.operands_fit; form = f } in
-          record {
-            told = λ w g. (
-                let p : record { size = size; rank = rank; next = next } ≡ w = cc in
-                subst (λ (x : Head). HeadHere s x.size x.rank (drop x.next s)) p here);
-            bad = λ g. clash (cc);
-          }
-
--- ---- a line of numbers
-
-module _ {A : Type 0} (g : A → List ℕ) (Fits : A → Type 0) (letter : ℕ) {s : List ℕ} {at rank : ℕ} {old new : List A} where
-  no_line : ((vs : List A) (t rest : List ℕ) → length vs ≡ rank → drop at s ≡ letter ∷ t → RowHere g Fits t vs rest → ⊥) → TakesLine g Fits letter s at rank old new None
-  no_line never = record { there = λ from next e. clash (cc); bad = λ e. never }
-
-  pub line_letter : ((rest : List ℕ) → drop at s ≡ letter ∷ rest → ⊥) → TakesLine g Fits letter s at rank old new None
-  line_letter never = no_line (λ vs t rest l b r. never t b)
-
-  module _ (from : ℕ) (q : drop at s ≡ letter ∷ drop from s) where
-    pub line_row : ((vs : List A) (rest : List ℕ) → length vs ≡ rank → RowHere g Fits (drop from s) vs rest → ⊥) → TakesLine g Fits letter s at rank old new None
-    line_row never =
-        no_line (λ vs t rest l b r. never vs rest l (subst (λ (u : List ℕ). RowHere g Fits u vs rest) (ap tail (sym b ∙ q)) r))
-
-    pub line_there : (next : ℕ) → (vs : List A) × (length vs ≡ rank) × RowHere g Fits (drop from s) vs (drop next s) × (new ≡ sets old 0 vs)
-        → TakesLine g Fits letter s at rank old new (Some (from, next))
-    line_there next w =
-        let line : LineAt g Fits letter s at rank from next w.0 = record { count = w.1; begins = q; row = w.2 } in
-        record {
-          there = λ f n e. (
-              let p : (from, next) ≡ (f, n) = cc in
-              let p1 : from ≡ f = ap (λ (x : ℕ × ℕ). x.0) p in
-              let p2 : next ≡ n = ap (λ (x : ℕ × ℕ). x.1) p in
-              (w.0, subst (λ (i : ℕ). LineAt g Fits letter s at rank f i w.0) p2 (subst (λ (i : ℕ). LineAt g Fits letter s at rank i next w.0) p1 line), w.3));
-          bad = λ e. clash (cc);
-        }
-
 -- ---- the lines behind N
-
--- at the text's end nothing is behind, before it something is
-ended : (s : List ℕ) (p : ℕ) → length s ≤ p → drop p s ≡ []
-ended s p h = drop_of_length-le s h
 
 begun : (s : List ℕ) (p : ℕ) → p < length s → drop p s ≡ [] → ⊥
 begun s p h e = let l = length-drop p s in let z = ap length e in omega (arith, h, l, z)
@@ -115,18 +61,6 @@ same_shape : {s : List ℕ} {at rank from next : ℕ} (vs : List ℕ) → LineAt
 same_shape {s} {next = next} vs l es strides h =
     (row_once digits_of digits_once vs es (drop next s) (strides_part strides)
     (ap tail (ap (λ (u : List ℕ). 83 ∷ u) (sym l.row.form) ∙ sym l.begins ∙ h.form ∙ shape_text es (strides_part strides)))).1
-
--- with what is behind it
-with_part : {s : List ℕ} {at rank from next : ℕ} (vs : List ℕ) → LineAt digits_of FitU 83 s at rank from next vs → (strides : Option (List ℤ))
-    → StridesFit rank strides → drop next s ≡ strides_part strides → LinesHere rank (drop at s) vs strides
-with_part vs l strides f q =
-    record {
-      axes = l.count;
-      shape_fits = l.row.fits;
-      strides_fit = f;
-      form =
-          l.begins ∙ ap (λ (u : List ℕ). 83 ∷ u) (l.row.form ∙ ap (λ (u : List ℕ). over vs field ++ (10 ∷ u)) q) ∙ sym (shape_text vs (strides_part strides));
-    }
 
 module _ (s : List ℕ) (at size rank : ℕ) (shape shape' : List ℕ) (bytes bytes' : List ℤ) where
   abbrev Lines : Option Said → Type 0
@@ -142,21 +76,6 @@ module _ (s : List ℕ) (at size rank : ℕ) (shape shape' : List ℕ) (bytes by
 
   -- the S line is there
   module _ {r : Option (ℕ × ℕ)} (t : TakesLine digits_of FitU 83 s at rank shape shape' r) (from next : ℕ) (e : r ≡ Some (from, next)) where
-    pub lines_packed : length s ≤ next → Lines (Some (Packed size rank from))
-    lines_packed h =
-        let w = t.there from next e in
-        let here = with_part w.0 w.1 None tt (ended s next h) in
-        let row : RowHere digits_of FitU (drop from s) w.0 [] = subst (λ (u : List ℕ). RowHere digits_of FitU (drop from s) w.0 u) (ended s next h) w.1.row in
-        record {
-          packed = λ z n f g. (
-              let p1 : size ≡ z = cc in
-              let p2 : rank ≡ n = cc in
-              let p3 : from ≡ f = cc in
-              (w.0, p1, p2, here, subst (λ (i : ℕ). RowHere digits_of FitU (drop i s) w.0 []) p3 row, w.2));
-          given = λ z n f g. clash (cc);
-          unformed = λ g. clash (cc);
-        }
-
     -- nothing can be behind it but a T line
     only_strides : next < length s → ((ts : List ℤ) → length ts ≡ rank → drop next s ≡ 84 ∷ (over ts signed_field ++ (10 ∷ []))
         → RowHere signed_of FitI (over ts signed_field ++ (10 ∷ [])) ts [] → ⊥) → Lines None
@@ -178,23 +97,6 @@ module _ (s : List ℕ) (at size rank : ℕ) (shape shape' : List ℕ) (bytes by
             begun s end b
             (row_once signed_of signed_once v.0 ts (drop end s) []
             (ap tail (ap (λ (x : List ℕ). 84 ∷ x) (sym v.1.row.form) ∙ sym v.1.begins ∙ q))).1)
-
-        pub lines_given : length s ≤ end → Lines (Some (Given size rank row))
-        lines_given b =
-            let w = t.there from next e in
-            let v = u.there row end a in
-            let stand : RowHere signed_of FitI (drop row s) v.0 [] = subst (λ (x : List ℕ). RowHere signed_of FitI (drop row s) v.0 x) (ended s end b) v.1.row in
-            let part : drop next s ≡ strides_part (Some v.0) = v.1.begins ∙ ap (λ (x : List ℕ). 84 ∷ x) stand.form in
-            let here = with_part w.0 w.1 (Some v.0) (v.1.count, v.1.row.fits) part in
-            record {
-              packed = λ z n f g. clash (cc);
-              given = λ z n f g. (
-                  let p1 : size ≡ z = cc in
-                  let p2 : rank ≡ n = cc in
-                  let p3 : row ≡ f = cc in
-                  (w.0, v.0, p1, p2, here, subst (λ (i : ℕ). RowHere signed_of FitI (drop i s) v.0 []) p3 stand, w.2, v.2));
-              unformed = λ g. clash (cc);
-            }
 
 -- ---- the whole
 
@@ -226,15 +128,6 @@ module _ {s : List ℕ} {size rank : ℕ} (at : ℕ) (w : HeadHere s size rank (
       }
 
 module _ (s shape shape' : List ℕ) (bytes bytes' : List ℤ) where
-  no_text : NotInForm s → ReadsDescription s shape shape' bytes bytes' None
-  no_text never = record { packed = λ z n from e. clash (cc); given = λ z n from e. clash (cc); unformed = λ e. never }
-
-  pub text_long : 16384 < length s → ReadsDescription s shape shape' bytes bytes' None
-  text_long h = no_text (λ d f. let l = f.short in omega (arith, h, l))
-
-  pub text_head : {r : Option Head} → ReadsHead s r → r ≡ None → ReadsDescription s shape shape' bytes bytes' None
-  text_head h e = no_text (λ d f. h.bad e d.size d.rank _ (head_of d f))
-
   pub text_lines : (short : length s ≤ 16384) {c : Option Head} (h : ReadsHead s c) (n : Head) (e : c ≡ Some n) {r : Option Said}
       → TakesLines s n.next n.size n.rank shape shape' bytes bytes' r → ReadsDescription s shape shape' bytes bytes' r
   text_lines short h n e t =

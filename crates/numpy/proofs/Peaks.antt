@@ -11,7 +11,8 @@ use lib.Dec.{ltb}
 use borrow.Author.Tests.{ltb-true, ltb-false, lt-ltb, le-ltb}
 use Rattle.strided.specs.Layout.{total}
 use Rattle.laws.specs.Base.Ranges.{below_or}
-use Rattle.numpy.specs.Numpy.{any_of, packed, too_far}
+use Rattle.std.specs.List.{list_any}
+use Rattle.numpy.specs.Numpy.{packed, too_far}
 use Rattle.numpy.specs.Readers.{most_of, Peaked}
 use Rattle.numpy.specs.Reversing.{total-append}
 
@@ -53,12 +54,12 @@ peaked_more size g n m es e h p q =
     omega (arith, c, w, p, q)
 
 -- some stride is too far exactly if the greatest is
-pub far-most : (ns : List ℕ) → any_of too_far ns ≡ ltb 9223372036854775807 (most_of ns)
+pub far-most : (ns : List ℕ) → list_any too_far ns ≡ ltb 9223372036854775807 (most_of ns)
 far-most [] = refl
 far-most (n ∷ ns) = go (ltb n (2 ^ 63)) refl (far-most ns)
   where
-    go : (b : Bool) → ltb n (2 ^ 63) ≡ b → any_of too_far ns ≡ ltb 9223372036854775807 (most_of ns)
-        → (not b || any_of too_far ns) ≡ ltb 9223372036854775807 (max n (most_of ns))
+    go : (b : Bool) → ltb n (2 ^ 63) ≡ b → list_any too_far ns ≡ ltb 9223372036854775807 (most_of ns)
+        → (not b || list_any too_far ns) ≡ ltb 9223372036854775807 (max n (most_of ns))
     go false e i = sym (lt-ltb 9223372036854775807 (max n (most_of ns)) (omega (arith, ltb-false n (2 ^ 63) e)))
     go true e i = i ∙ within (ltb 9223372036854775807 (most_of ns)) refl (ltb-true n (2 ^ 63) e)
       where
@@ -67,7 +68,7 @@ far-most (n ∷ ns) = go (ltb n (2 ^ 63)) refl (far-most ns)
         within false f l = f ∙ sym (le-ltb 9223372036854775807 (max n (most_of ns)) (omega (arith, ltb-false 9223372036854775807 (most_of ns) f, l)))
 
 -- the test on what the loop has found
-pub peaked_test : (size g : ℕ) (es : List ℕ) → Peaked size g es → ltb 9223372036854775807 g ≡ any_of too_far (packed size es)
+pub peaked_test : (size g : ℕ) (es : List ℕ) → Peaked size g es → ltb 9223372036854775807 g ≡ list_any too_far (packed size es)
 peaked_test size g es h = go (ltb 9223372036854775807 g) refl ∙ sym (far-most (packed size es))
   where
     go : (b : Bool) → ltb 9223372036854775807 g ≡ b → b ≡ ltb 9223372036854775807 (most_of (packed size es))

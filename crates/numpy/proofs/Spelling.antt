@@ -2,15 +2,13 @@
 -- Assumes nothing.
 use mathlib.Core.Path.{◌≡◌, sym, ap, ap₂, ◌∙◌}
 use mathlib.Core.List.{List, [], ◌∷◌, ◌++◌, append-nil}
-use Prim.Native.Nat.{ℕ, ◌+◌, ◌≤◌, ◌<◌}
+use Prim.Native.Nat.{ℕ, ◌+◌}
 use native.Mathlib.Omega.{arith}
-use lib.IntN.{ℤ, pos}
+use lib.IntN.{ℤ}
 use lib.ListN.{length, length-append}
-use borrow.Author.Tests.{lt-ltb, le-ltb}
 use Rattle.strided.specs.Base.{over}
 use Rattle.strided.specs.Refusals.{refused_by}
-use Rattle.strided.specs.Text.{field, signed_field, line_of, Listing, refusing, filling, listing_or, row14}
-use Rattle.strided.specs.declared.Refusal.TheVariants.{Room}
+use Rattle.strided.specs.Text.{field, signed_field, line_of, Listing, listing_or, row14}
 use Rattle.writing.specs.Line.{fields_of}
 use Rattle.writing.proofs.Lines.{line_length, figures_fields}
 use Rattle.numpy.specs.Readers.{spelled}
@@ -50,13 +48,3 @@ spelled_measure size es ts =
 module _ (t room : List ℕ) where
   abbrev pub Listed : Listing
   Listed = listing_or (refused_by (row14 t (length room) ∷ [])) t room
-
-  pub listed_full : length room < length t → refusing Room room ≡ Listed
-  listed_full h = rw (lt-ltb (length room) (length t) h)
-
-  pub listed_filled : length t ≤ length room → {n : ℕ} {new : List ℕ} → n ≡ length t → new ≡ (filling t room).room → record { answer = pos n; room = new } ≡ Listed
-  listed_filled h e f = rw (le-ltb (length room) (length t) h) (λ i. record { answer = pos (e i); room = f i })
-
--- a listing by its answer
-pub answering : {z y : ℤ} {room : List ℕ} {l : Listing} → z ≡ y → record { answer = y; room = room } ≡ l → record { answer = z; room = room } ≡ l
-answering {room = room} e h = (λ i. record { answer = e i; room = room }) ∙ h

@@ -1,7 +1,7 @@
 -- The rows of both ways, taken apart as the code checks them, and the numbers that are told where none applies.
 -- Assumes nothing.
 use mathlib.Core.Path.{◌≡◌, refl, sym, ap, ◌∙◌}
-use mathlib.Core.Logic.{inl, inr}
+use mathlib.Core.Logic.{inl}
 use mathlib.Core.Bool.{Bool, true, false, ◌||◌}
 use mathlib.Core.List.{List, [], ◌∷◌, map}
 use Prim.Native.Nat.{ℕ, suc, ◌-◌, ◌*◌, ◌^◌, ◌≤◌, ◌<◌}
@@ -11,19 +11,22 @@ use lib.Dec.{ltb, eqb}
 use lib.IntN.{ℤ, pos}
 use lib.ListN.{length, get_or, take, replicate, length-map, length-replicate}
 use lib.Seq.{take_at, sets}
-use borrow.Author.Tests.{ltb-true, eqb-true, eqb-false, not-false}
+use borrow.Author.Tests.{ltb-true, ltb-false, eqb-true, eqb-false, not-false}
 use Rattle.strided.specs.Base.{padded}
 use Rattle.strided.specs.Layout.{total}
 use Rattle.strided.specs.Refusals.{row1, row3, refused_by}
 use Rattle.strided.specs.Text as T
 use Rattle.strided.specs.declared.Refusal.{Refusal}
 use Rattle.std.specs.Prelude.{Result, Ok, Err}
-use Rattle.strided.specs.declared.Refusal.TheVariants.{ByteStrides, Rank, StrideCount, Form}
+use Rattle.strided.specs.declared.Refusal.TheVariants.{ByteStrides, Rank, StrideCount}
 use Rattle.laws.specs.Base.Filling.{padded_is}
+use Rattle.laws.specs.Base.Refusals.{NoneApplies, none_applies}
 use Rattle.laws.specs.Base.Tests.{or_none}
+use Rattle.laws.specs.Text.Answers.{filled_within}
 use Rattle.reading.specs.Laid.{take-laid}
-use Rattle.numpy.specs.Descriptions.{Description, InForm, NotInForm}
-use Rattle.numpy.specs.Numpy.{reversed, any_of, afters, packed, byte_stride, extents_of, strides_of, too_far, row19, back_row19, telling, described, FromNumpy, to_numpy}
+use Rattle.numpy.specs.Descriptions.{Description, InForm}
+use Rattle.std.specs.List.{list_any}
+use Rattle.numpy.specs.Numpy.{reversed, afters, packed, byte_stride, extents_of, strides_of, too_far, row19, back_row19, telling, described, FromNumpy, text_of, to_rows, to_numpy}
 use Rattle.numpy.specs.Once.{in_form_once}
 use Rattle.numpy.specs.Readers.{spelled}
 use Rattle.numpy.specs.Reversing.{length-reversed, get_d_reversed, any_at}
@@ -72,7 +75,7 @@ length-afters [] = refl
 length-afters (e ∷ es) = ap suc (length-afters es)
 
 -- the products of a packed shape are within 64-bit signed
-module _ (size : ℕ) (es : List ℕ) (p : 0 < size) (h : any_of too_far (packed size es) ≡ false) where
+module _ (size : ℕ) (es : List ℕ) (p : 0 < size) (h : list_any too_far (packed size es) ≡ false) where
   pub packed-near : Near (reversed es)
   packed-near i l =
       let n : ℕ = length es in
@@ -111,6 +114,14 @@ module _ (size : ℕ) (es : List ℕ) (ss : List ℤ) (room : List ℕ) where
   unfolding to_numpy spelled
   back_text e f g = rw (e, f, g, length-reversed es)
 
+  -- what goes back is within the lent bytes
+  pub back_within : (n : ℕ) → (to_numpy size es ss room).answer ≡ Ok n → n ≤ length room
+  unfolding to_numpy NoneApplies
+  back_within =
+      let t : List ℕ = text_of size es ss in
+      filled_within (refused_by (to_rows size es ss (length room))) t room
+      (λ q. ltb-false (length room) (length t) (none_applies (to_rows size es ss (length room)) q).1.1.1.0)
+
   -- one stride for each axis
   pub stride_count : (row3 (length es) 1 ss).applies ≡ false → length ss ≡ length es
   stride_count g = let m = mul-one (length es) in eqb-true (length ss) (length es * 1) (not-false (eqb (length ss) (length es * 1)) g) ∙ m
@@ -124,6 +135,3 @@ said-from d f e =
       unformed = λ n. absurd (n d f);
       either = inl (d, f);
     }
-
-pub unsaid_from : {text : List ℕ} → NotInForm text → {r : Result Described Refusal} → r ≡ Err Form → FromNumpy text r
-unsaid_from n e = record { formed = λ d f. absurd (n d f); unformed = λ h. e; either = inr n }

@@ -18,7 +18,8 @@ use Rattle.laws.specs.Base.Tests.{or_none}
 use Rattle.laws.specs.Refusals.Rows.{none_refuses, rows_pass}
 use Rattle.laws.specs.Text.Lengths.{digits_most, signed-most}
 use Rattle.numpy.specs.Descriptions.{Description, written, InForm}
-use Rattle.numpy.specs.Numpy.{reversed, any_of, element_stride, byte_stride, extents_of, strides_of, no_multiple, stride_out, from_rows, described, FromNumpy, description_of, text_of, number_rows, to_numpy}
+use Rattle.std.specs.List.{list_any}
+use Rattle.numpy.specs.Numpy.{reversed, element_stride, byte_stride, extents_of, strides_of, no_multiple, stride_out, from_rows, described, FromNumpy, description_of, text_of, number_rows, to_numpy}
 use Rattle.numpy.specs.Readers.{saying}
 use Rattle.numpy.specs.Reversing.{length-reversed, reversed_twice, reversed-map, each_reversed, any_reversed}
 use Rattle.numpy.specs.Units.{bytes_again, elements_again, bytes_multiple}
@@ -27,10 +28,10 @@ use Rattle.numpy.specs.declared.Described.{Described}
 -- ---- rows of strides
 
 module _ (size : ℕ) where
-  bytes-rows : (ts : List ℤ) → any_of (no_multiple size) ts ≡ false → map (byte_stride size) (map (element_stride size) ts) ≡ ts
+  bytes-rows : (ts : List ℤ) → list_any (no_multiple size) ts ≡ false → map (byte_stride size) (map (element_stride size) ts) ≡ ts
   bytes-rows [] h = refl
   bytes-rows (t ∷ ts) h =
-      let p = or_none (no_multiple size t) (any_of (no_multiple size) ts) h in
+      let p = or_none (no_multiple size t) (list_any (no_multiple size) ts) h in
       ap₂ (λ (z : ℤ) (l : List ℤ). z ∷ l) (bytes_again size t p.0) (bytes-rows ts p.1)
 
   elements_rows : 0 < size → (ss : List ℤ) → map (element_stride size) (map (byte_stride size) ss) ≡ ss
@@ -38,22 +39,22 @@ module _ (size : ℕ) where
   elements_rows p (s ∷ ss) = ap₂ (λ (z : ℤ) (l : List ℤ). z ∷ l) (elements_again size s p) (elements_rows p ss)
 
   -- byte strides that stood in a text fit again
-  none_out : (ts : List ℤ) → Each FitI ts → any_of (no_multiple size) ts ≡ false → any_of (stride_out size) (map (element_stride size) ts) ≡ false
+  none_out : (ts : List ℤ) → Each FitI ts → list_any (no_multiple size) ts ≡ false → list_any (stride_out size) (map (element_stride size) ts) ≡ false
   none_out [] f h = refl
   none_out (t ∷ ts) f h =
-      let p = or_none (no_multiple size t) (any_of (no_multiple size) ts) h in
+      let p = or_none (no_multiple size t) (list_any (no_multiple size) ts) h in
       let a : stride_out size (element_stride size t) ≡ false = ap (λ (z : ℤ). not (in_i64 z)) (bytes_again size t p.0) ∙ ap not (lt-ltb (mag t) (2 ^ 63) f.0) in
       rw a (none_out ts f.1 p.1)
 
   -- computed byte strides are multiples, and within 64-bit signed where row 19 lets them through
-  none_odd : (ss : List ℤ) → any_of (no_multiple size) (map (byte_stride size) ss) ≡ false
+  none_odd : (ss : List ℤ) → list_any (no_multiple size) (map (byte_stride size) ss) ≡ false
   none_odd [] = refl
   none_odd (s ∷ ss) = rw (bytes_multiple size s) (none_odd ss)
 
-  bytes_fit : (ss : List ℤ) → any_of (stride_out size) ss ≡ false → Each FitI (map (byte_stride size) ss)
+  bytes_fit : (ss : List ℤ) → list_any (stride_out size) ss ≡ false → Each FitI (map (byte_stride size) ss)
   bytes_fit [] h = tt
   bytes_fit (s ∷ ss) h =
-      let p = or_none (stride_out size s) (any_of (stride_out size) ss) h in
+      let p = or_none (stride_out size s) (list_any (stride_out size) ss) h in
       (ltb-true (mag (byte_stride size s)) (2 ^ 63) (not-false (ltb (mag (byte_stride size s)) (2 ^ 63)) p.0), bytes_fit ss p.1)
 
 -- ---- the way back, where only 14 could refuse and does not
@@ -73,11 +74,11 @@ module _ (text : List ℕ) (size rank : ℕ) (es : List ℕ) (ts : List ℤ) (f 
   d = saying size rank es (Some ts)
 
   -- rows 19 and 1 do not apply
-  let_through : (eqb size 0 ≡ false) × (any_of (no_multiple size) ts ≡ false) × (rank ≤ 64)
+  let_through : (eqb size 0 ≡ false) × (list_any (no_multiple size) ts ≡ false) × (rank ≤ 64)
   unfolding NoneApplies
   let_through =
       let a = none_applies (from_rows d) n in
-      let p = or_none (eqb size 0) (any_of (no_multiple size) ts) a.0 in
+      let p = or_none (eqb size 0) (list_any (no_multiple size) ts) a.0 in
       (p.0, p.1, ltb-false 64 rank a.1.0)
 
   strides_back : reversed (map (byte_stride size) (strides_of d)) ≡ ts
@@ -94,7 +95,7 @@ module _ (text : List ℕ) (size rank : ℕ) (es : List ℕ) (ts : List ℤ) (f 
   unfolding NoneApplies
   not-refused =
       let p = let_through in
-      let out : any_of (stride_out size) (strides_of d) ≡ false = any_reversed (stride_out size) (map (element_stride size) ts) (none_out size ts f.strides_fit.1 p.1) in
+      let out : list_any (stride_out size) (strides_of d) ≡ false = any_reversed (stride_out size) (map (element_stride size) ts) (none_out size ts f.strides_fit.1 p.1) in
       let le : length (extents_of d) ≡ rank = length-reversed es ∙ f.axes in
       let ls : length (strides_of d) ≡ rank = length-reversed (map (element_stride size) ts) ∙ length-map ts (element_stride size) ∙ f.strides_fit.0 in
       let m = mul-one (length (extents_of d)) in
@@ -125,11 +126,11 @@ signed_fields_most (t ∷ ts) f =
     omega (arith, l, a, b)
 
 module _ (size : ℕ) (es : List ℕ) (ss : List ℤ) (fs : FitU size) (fe : Each FitU es) (n : refused_by (number_rows size es ss) ≡ None) where
-  let_back : (eqb size 0 ≡ false) × (any_of (stride_out size) ss ≡ false) × (length es ≤ 64) × (length ss ≡ length es)
+  let_back : (eqb size 0 ≡ false) × (list_any (stride_out size) ss ≡ false) × (length es ≤ 64) × (length ss ≡ length es)
   unfolding NoneApplies
   let_back =
       let a = none_applies (number_rows size es ss) n in
-      let p = or_none (eqb size 0) (any_of (stride_out size) ss) a.0 in
+      let p = or_none (eqb size 0) (list_any (stride_out size) ss) a.0 in
       let c = eqb-true (length ss) (length es * 1) (not-false (eqb (length ss) (length es * 1)) a.1.1.0) in
       (p.0, p.1, ltb-false 64 (length es) a.1.0, c ∙ mul-one (length es))
 
@@ -177,7 +178,7 @@ module _ (size : ℕ) (es : List ℕ) (ss : List ℤ) (fs : FitU size) (fe : Eac
   unfolding NoneApplies
   not-refused-back =
       let p = let_back in
-      let odd : any_of (no_multiple size) ts ≡ false = any_reversed (no_multiple size) (map (byte_stride size) ss) (none_odd size ss) in
+      let odd : list_any (no_multiple size) ts ≡ false = any_reversed (no_multiple size) (map (byte_stride size) ss) (none_odd size ss) in
       none_refuses (from_rows (description_of size es ss)) (rw p.0 odd, (le-ltb 64 (length es) p.2, tt))
 
   pub same_strides : strides_of (description_of size es ss) ≡ ss

@@ -20,9 +20,6 @@ abbrev pub reversed : {A : Type 0} → List A → List A
 reversed [] = []
 reversed (x ∷ xs) = reversed xs ++ (x ∷ [])
 
-abbrev pub any_of : {A : Type 0} → (A → Bool) → List A → Bool
-any_of t xs = list_any t xs
-
 -- ---- byte strides
 
 -- for each axis the product of "the extents after it"
@@ -61,8 +58,8 @@ abbrev pub too_far : ℕ → Bool
 too_far n = not (in_i64 (pos n))
 
 abbrev pub bytes_wrong : ℕ → List ℕ → Option (List ℤ) → Bool
-bytes_wrong size es None = any_of too_far (packed size es)
-bytes_wrong size es (Some ts) = any_of (no_multiple size) ts
+bytes_wrong size es None = list_any too_far (packed size es)
+bytes_wrong size es (Some ts) = list_any (no_multiple size) ts
 
 -- "19: size 0, .."
 abbrev pub row19 : Description → Row
@@ -105,7 +102,7 @@ abbrev pub stride_out : ℕ → ℤ → Bool
 stride_out size z = not (in_i64 (byte_stride size z))
 
 abbrev pub back_row19 : ℕ → List ℤ → Row
-back_row19 size ss = record { applies = eqb size 0 || any_of (stride_out size) ss; refusal = ByteStrides }
+back_row19 size ss = record { applies = eqb size 0 || list_any (stride_out size) ss; refusal = ByteStrides }
 
 -- then 1, and 3 of one operand
 abbrev pub number_rows : ℕ → List ℕ → List ℤ → List Row

@@ -8,7 +8,8 @@ use Rattle.strided.specs.Layout.{total, NoZero}
 use Rattle.strided.specs.Refusals.{refused_by}
 use Rattle.laws.specs.Base.Refusals.{NoneApplies, none_applies}
 use Rattle.laws.specs.Base.Tests.{or_none}
-use Rattle.numpy.specs.Numpy.{reversed, any_of, afters, packed, extents_of, strides_of, no_multiple, too_far, from_rows, described}
+use Rattle.std.specs.List.{list_any}
+use Rattle.numpy.specs.Numpy.{reversed, afters, packed, extents_of, strides_of, no_multiple, too_far, from_rows, described}
 use Rattle.numpy.specs.Readers.{saying}
 use Rattle.numpy.specs.Reversing.{reversed-map}
 use Rattle.numpy.specs.Units.{firsts, reversed-afters, packed_elements}
@@ -43,7 +44,7 @@ pub packed_strides : (size rank : ℕ) (es : List ℕ) → 0 < size → strides_
 packed_strides size rank es p = ap reversed (packed_elements size p (afters es)) ∙ reversed-map pos (afters es) ∙ ap (map pos) (reversed-afters es)
 
 -- ABSENT MEANS THOSE: a description without T says what it says with its packed strides
-none_odd : (size : ℕ) (ns : List ℕ) → any_of (no_multiple size) (map pos (map (λ (n : ℕ). size * n) ns)) ≡ false
+none_odd : (size : ℕ) (ns : List ℕ) → list_any (no_multiple size) (map pos (map (λ (n : ℕ). size * n) ns)) ≡ false
 none_odd size [] = refl
 none_odd size (n ∷ ns) = rw (ap not (eq-eqb (size * n % size) 0 (mul-mod_right size n))) (none_odd size ns)
 
@@ -52,5 +53,5 @@ pub packed-given : (size rank : ℕ) (es : List ℕ) → refused_by (from_rows (
 unfolding described NoneApplies
 packed-given size rank es h =
     let a = none_applies (from_rows (saying size rank es None)) h in
-    let p = or_none (eqb size 0) (any_of too_far (packed size es)) a.0 in
+    let p = or_none (eqb size 0) (list_any too_far (packed size es)) a.0 in
     rw (p.0, p.1, none_odd size (afters es), a.1.0)

@@ -2,14 +2,14 @@
 -- description in our numbers.
 -- Assumes nothing.
 use Rattle.std.specs.Prelude.{◌≡◌, Bool, ◌||◌, List, [], ◌∷◌, ◌++◌, ℕ, ◌^◌, ◌≤◌, min, max, eqb, ℤ, length, take, drop, Option, Some, None, Result}
-use Rattle.std.specs.List.{FoldsTo}
+use Rattle.std.specs.List.{list_any, FoldsTo}
 use Rattle.std.proofs.lemmas.List.Edits.{sets}
 use Rattle.strided.specs.Digits.{digits_of, signed_of}
 use Rattle.strided.specs.Text.{Each, FitU, FitI}
 use Rattle.strided.specs.declared.Refusal.{Refusal}
 use Rattle.reading.specs.Rows.{RowHere}
 use Rattle.numpy.specs.Descriptions.{Description, head_line, shape_line, strides_part, written, StridesFit, InForm, NotInForm}
-use Rattle.numpy.specs.Numpy.{any_of, packed, no_multiple, too_far, described}
+use Rattle.numpy.specs.Numpy.{packed, no_multiple, too_far, described}
 use Rattle.numpy.specs.declared.Described.{Described}
 use Rattle.numpy.specs.declared.lines.Head.{Head}
 use Rattle.numpy.specs.declared.lines.Said.{Said}
@@ -109,13 +109,13 @@ abbrev pub Peaks : List ℕ → ℕ → ℕ → ℕ → ℕ → Type 0
 Peaks s at count size r = OfShape s at count (Peaked size r)
 
 abbrev pub PackedWrong : List ℕ → ℕ → ℕ → ℕ → Bool → Type 0
-PackedWrong s at count size r = OfShape s at count (λ es. r ≡ (eqb size 0 || any_of too_far (packed size es)))
+PackedWrong s at count size r = OfShape s at count (λ es. r ≡ (eqb size 0 || list_any too_far (packed size es)))
 
 abbrev pub SomeNoMultiple : List ℕ → ℕ → ℕ → ℕ → Bool → Type 0
-SomeNoMultiple s at count size r = OfStrides s at count (λ ts. r ≡ any_of (no_multiple size) ts)
+SomeNoMultiple s at count size r = OfStrides s at count (λ ts. r ≡ list_any (no_multiple size) ts)
 
 abbrev pub GivenWrong : List ℕ → ℕ → ℕ → ℕ → Bool → Type 0
-GivenWrong s at count size r = OfStrides s at count (λ ts. r ≡ (eqb size 0 || any_of (no_multiple size) ts))
+GivenWrong s at count size r = OfStrides s at count (λ ts. r ≡ (eqb size 0 || list_any (no_multiple size) ts))
 
 -- ---- the two kinds of description, whose numbers are laid in arrays if they are at most 64
 

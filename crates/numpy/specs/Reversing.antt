@@ -7,7 +7,8 @@ use Rattle.std.proofs.lemmas.List.{get_or_at}
 use Rattle.strided.specs.Layout.{total}
 use Rattle.strided.specs.Text.{Each}
 use Rattle.laws.specs.Base.Tests.{or_none}
-use Rattle.numpy.specs.Numpy.{reversed, any_of}
+use Rattle.std.specs.List.{list_any}
+use Rattle.numpy.specs.Numpy.{reversed}
 
 module _ {A : Type 0} where
   pub length-reversed : (xs : List A) → length (reversed xs) ≡ length xs
@@ -47,25 +48,25 @@ module _ {A : Type 0} where
   each_reversed P (x ∷ xs) p = each_append P (reversed xs) (x ∷ []) (each_reversed P xs p.1) (p.0, tt)
 
   -- tests
-  pub any_append : (t : A → Bool) (xs ys : List A) → any_of t (xs ++ ys) ≡ (any_of t xs || any_of t ys)
+  pub any_append : (t : A → Bool) (xs ys : List A) → list_any t (xs ++ ys) ≡ (list_any t xs || list_any t ys)
   any_append t [] ys = refl
   any_append t (x ∷ xs) ys = go (t x) (any_append t xs ys)
     where
-      go : (b : Bool) → any_of t (xs ++ ys) ≡ (any_of t xs || any_of t ys) → (b || any_of t (xs ++ ys)) ≡ ((b || any_of t xs) || any_of t ys)
+      go : (b : Bool) → list_any t (xs ++ ys) ≡ (list_any t xs || list_any t ys) → (b || list_any t (xs ++ ys)) ≡ ((b || list_any t xs) || list_any t ys)
       go true e = refl
       go false e = e
 
-  pub any_reversed : (t : A → Bool) (xs : List A) → any_of t xs ≡ false → any_of t (reversed xs) ≡ false
+  pub any_reversed : (t : A → Bool) (xs : List A) → list_any t xs ≡ false → list_any t (reversed xs) ≡ false
   any_reversed t [] h = refl
   any_reversed t (x ∷ xs) h =
-      let p = or_none (t x) (any_of t xs) h in
+      let p = or_none (t x) (list_any t xs) h in
       any_append t (reversed xs) (x ∷ []) ∙ rw (any_reversed t xs p.1, p.0)
 
   -- none of them, so not this one
-  pub any_at : (t : A → Bool) (xs : List A) (d : A) (i : ℕ) → i < length xs → any_of t xs ≡ false → t (get_or xs i d) ≡ false
+  pub any_at : (t : A → Bool) (xs : List A) (d : A) (i : ℕ) → i < length xs → list_any t xs ≡ false → t (get_or xs i d) ≡ false
   any_at t [] d i l h = absurd (omega arith)
-  any_at t (x ∷ xs) d zero l h = (or_none (t x) (any_of t xs) h).0
-  any_at t (x ∷ xs) d (suc i) l h = any_at t xs d i (omega arith) (or_none (t x) (any_of t xs) h).1
+  any_at t (x ∷ xs) d zero l h = (or_none (t x) (list_any t xs) h).0
+  any_at t (x ∷ xs) d (suc i) l h = any_at t xs d i (omega arith) (or_none (t x) (list_any t xs) h).1
 
 module _ {A B : Type 0} (f : A → B) where
   map-append : (xs ys : List A) → map f (xs ++ ys) ≡ map f xs ++ map f ys

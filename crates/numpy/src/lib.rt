@@ -6,8 +6,8 @@ ghost use Rattle.std.specs.Prelude.{◌≡◌, length};
 ghost use Rattle.numpy.specs.Numpy.{FromNumpy, to_numpy};
 ghost use Rattle.numpy.specs.Readers.{ShapeAt, StridesAt, FromPacked, FromGiven};
 
-use back::{list, strides_out};
-use layout::{negated, rank_over, strides_wrong};
+use back::{Spelling, list, strides_out};
+use layout::{rank_over, strides_wrong};
 use lines::{Said, read_description};
 use rows::{given_wrong, packed_wrong};
 use strided::Refusal;
@@ -97,21 +97,32 @@ pub fn from_numpy(text: &[u8]) -> Result<Described, Refusal>
     }
 }
 
-// TO NUMPY: rows 19, 1, 3 and 14, then the text. It is measured before it is written, so a refusal leaves every lent byte.
-pub fn to_numpy<'a>(size: u64, extents: &'a [u64], strides: &'a [i64], room: &mut [u8]) -> i64
+// TO NUMPY: rows 19, 1, 3 and 14, then the text, of which it answers the length. It is measured before it is written, so a refusal leaves
+// every lent byte.
+pub fn to_numpy<'a>(
+    size: u64,
+    extents: &'a [u64],
+    strides: &'a [i64],
+    room: &mut [u8],
+) -> Result<usize, Refusal>
     ensures { record { answer = result; room = room.new } ≡ to_numpy size extents.now strides.now room.old }
 {
     let rank = extents.len();
     if strides_out(size, strides) {
-        return negated(Refusal::ByteStrides);
+        return Err(Refusal::ByteStrides);
     }
     if rank_over(rank) {
-        return negated(Refusal::Rank);
+        return Err(Refusal::Rank);
     }
     if strides_wrong(rank, 1, strides) {
-        return negated(Refusal::StrideCount);
+        return Err(Refusal::StrideCount);
     }
     let shape = reversed(extents);
     let bytes = byte_strides(size, strides);
-    list(size, &shape[..rank], &bytes[..rank], room)
+    let said = Spelling {
+        size,
+        shape: &shape[..rank],
+        bytes: &bytes[..rank],
+    };
+    list(said, room)
 }

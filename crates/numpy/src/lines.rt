@@ -30,8 +30,8 @@ fn read_head(s: &[u8]) -> Option<Head>
     let counts = read_counts(s, from)?;
     let next = behind(s, counts.next, b'\n')?;
     Some(Head {
-        size: counts.rank as u64,
-        rank: counts.operands,
+        size: counts.first as u64,
+        rank: counts.second,
         next,
     })
 }

@@ -1,8 +1,8 @@
 // Bytes and elements: a stride in one and in the other, and the arrays that are handed out, with the axes reversed.
 ghost use Rattle.std.specs.Prelude.{◌≡◌, false, map, ◌≤◌, ◌<◌, pos, length};
 ghost use Rattle.strided.specs.Base.{padded};
-ghost use Rattle.numpy.specs.Numpy.{reversed, any_of, no_multiple, element_stride, stride_out, byte_stride};
-ghost use Rattle.std.specs.List.{All};
+ghost use Rattle.numpy.specs.Numpy.{reversed, no_multiple, element_stride, stride_out, byte_stride};
+ghost use Rattle.std.specs.List.{All, list_any};
 ghost use Rattle.numpy.specs.Units.{firsts, Near, Turns};
 
 use layout::sizes::mul_cap;
@@ -52,6 +52,8 @@ fn byte_stride(size: u64, stride: i64) -> i64
 }
 
 // What f makes of the numbers, from the last to the first, with zeros behind.
+// Kept: that a slice has at most 64 places, here and below. Each of these is called at one place or two, with the rank that was let through
+// just before; a type for such a slice would be made and taken apart at each call.
 fn turned<T: Copy, F: Fn(T) -> T>(numbers: &[T], zero: T, f: F) -> [T; 64]
     requires len { length numbers.now ≤ 64 }
     requires callable { All (F.pre f) numbers.now }
@@ -76,7 +78,7 @@ pub fn reversed(numbers: &[u64]) -> [u64; 64]
 
 // Byte strides in elements, with the axes reversed.
 pub fn element_strides(size: u64, bytes: &[i64]) -> [i64; 64]
-    requires { (length bytes.now ≤ 64) × (0 < size) × (any_of (no_multiple size) bytes.now ≡ false) }
+    requires { (length bytes.now ≤ 64) × (0 < size) × (list_any (no_multiple size) bytes.now ≡ false) }
     ensures { result ≡ padded 64 (pos 0) (reversed (map (element_stride size) bytes.now)) }
 {
     turned(bytes, 0, |b| element_stride(size, b))
@@ -84,7 +86,7 @@ pub fn element_strides(size: u64, bytes: &[i64]) -> [i64; 64]
 
 // Element strides in bytes, with the axes reversed.
 pub fn byte_strides(size: u64, strides: &[i64]) -> [i64; 64]
-    requires { (length strides.now ≤ 64) × (0 < size) × (any_of (stride_out size) strides.now ≡ false) }
+    requires { (length strides.now ≤ 64) × (0 < size) × (list_any (stride_out size) strides.now ≡ false) }
     ensures { result ≡ padded 64 (pos 0) (reversed (map (byte_stride size) strides.now)) }
 {
     turned(strides, 0, |z| byte_stride(size, z))

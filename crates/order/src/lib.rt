@@ -7,11 +7,12 @@ ghost use Rattle.strided.specs.Layout.{lead as lead_of};
 ghost use Rattle.strided.specs.Order.{loop_order, fusing_order};
 ghost use Rattle.strided.specs.Step.{blank};
 ghost use Rattle.strided.specs.Weights.{weights as weighed};
-ghost use Rattle.auxiliary.specs.Fitting.{Fitting};
 
 use importance::{compute_importance_into, sort_by_importance_into};
-use layout::{lead, total_at_most};
+use layout::{Layout, lead, total_at_most};
 use strided::Purpose;
+
+// Kept: weights and axes are written into arrays that are lent as zeros: who lends one has cleared it already, and clearing it again costs time.
 
 // A layout with no more cells than this is walked as it is given: finding a better order would cost more than it gains.
 pub const SMALL_TENSOR_THRESHOLD: u64 = 1024;
@@ -19,23 +20,21 @@ pub const SMALL_TENSOR_THRESHOLD: u64 = 1024;
 // The axes of a layout by falling weight, where the lead is the chosen operand, or operand 0 if none is; on equal weight the longer first.
 // Weights and axes are written into arrays of zeros.
 pub fn compute_order_into(
-    extents: &[u64],
-    strides: &[i64],
-    operands: usize,
+    layout: Layout,
     purpose: Purpose,
     weights: &mut [u64; 64],
     out: &mut [usize; 64],
 )
-    requires layout { Fitting strides.now (length extents.now) operands }
     requires zeros { (weights.old ≡ replicate 64 0) × (out.old ≡ replicate 64 0) }
-    ensures weights { weights.new ≡ padded 64 0 (weighed extents.now operands strides.now (lead_of purpose)) }
-    ensures order { out.new ≡ padded 64 0 (loop_order extents.now operands strides.now purpose) }
+    ensures weights { weights.new ≡ padded 64 0 (weighed layout.entry.extents.now layout.entry.operands layout.entry.strides.now (lead_of purpose)) }
+    ensures order { out.new ≡ padded 64 0 (loop_order layout.entry.extents.now layout.entry.operands layout.entry.strides.now purpose) }
 {
-    compute_importance_into(extents, strides, operands, lead(purpose), &mut *weights);
-    sort_by_importance_into(weights, extents, out);
+    compute_importance_into(layout, lead(purpose), &mut *weights);
+    sort_by_importance_into(weights, layout.extents, out);
 }
 
 // The axes as they are given, written into an array of zeros.
+// Kept: `rank` beside an array: so many places are written.
 pub fn as_given_into(rank: usize, out: &mut [usize; 64])
     requires rank_bound { rank ≤ 64 }
     requires out_value { out.old ≡ replicate 64 0 }
@@ -49,21 +48,18 @@ pub fn as_given_into(rank: usize, out: &mut [usize; 64])
 // The order in which a plan's axes are fused, written into an array of zeros: as given if the layout is small, else the loop order. Its weights
 // are made in a second array of zeros, which is 0 behind the rank then: who has use for such an array need not clear another.
 pub fn fusing_order_into(
-    extents: &[u64],
-    strides: &[i64],
-    operands: usize,
+    layout: Layout,
     purpose: Purpose,
     weights: &mut [u64; 64],
     out: &mut [usize; 64],
 )
-    requires layout { Fitting strides.now (length extents.now) operands }
     requires zeros { (weights.old ≡ replicate 64 0) × (out.old ≡ replicate 64 0) }
-    ensures weights { (length weights.new ≡ 64) × (blank (drop (length extents.now) weights.new) ≡ true) }
-    ensures order { out.new ≡ padded 64 0 (fusing_order extents.now operands strides.now purpose) }
+    ensures weights { (length weights.new ≡ 64) × (blank (drop (length layout.entry.extents.now) weights.new) ≡ true) }
+    ensures order { out.new ≡ padded 64 0 (fusing_order layout.entry.extents.now layout.entry.operands layout.entry.strides.now purpose) }
 {
-    if total_at_most(extents, SMALL_TENSOR_THRESHOLD) {
-        as_given_into(extents.len(), out);
+    if total_at_most(layout.extents, SMALL_TENSOR_THRESHOLD) {
+        as_given_into(layout.extents.len(), out);
     } else {
-        compute_order_into(extents, strides, operands, purpose, weights, out);
+        compute_order_into(layout, purpose, weights, out);
     }
 }

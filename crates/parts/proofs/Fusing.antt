@@ -8,7 +8,7 @@ use lib.ListN.{length}
 use Rattle.strided.specs.Fuse.{plan_axes}
 use Rattle.strided.specs.declared.Purpose.{Purpose}
 use Rattle.laws.specs.Fuse.Maps.{plan_short}
-use Rattle.auxiliary.specs.Fitting.{Fitting}
+use Rattle.layout.specs.Fitting.{Fitting}
 
 module _ (es : List ℕ) (m : ℕ) (ss : List ℤ) (u : Purpose) (fits : Fitting ss (length es) m) {rank : ℕ} (number : rank ≡ length (plan_axes es m ss u)) where
   pub few-made : rank ≤ 64

@@ -1,7 +1,10 @@
 -- A step with the state that a lent one leaves, in place of the one it returns.
 -- Assumes nothing.
+use Rattle.std.specs.Prelude.{Result, Ok, Err}
 use Rattle.strided.specs.declared.Walk.{Walk}
 use Rattle.strided.specs.declared.Stepped.{Stepped}
+use Rattle.strided.specs.declared.Refusal.{Refusal}
 
-abbrev pub with_state : Stepped → Walk → Stepped
-with_state s w = record { answer = s.answer; counters = s.counters; length = s.length; offsets = s.offsets; strides = s.strides; walk = w }
+abbrev pub with_state : Result Stepped Refusal → Walk → Result Stepped Refusal
+with_state (Ok s) w = Ok (record { block = s.block; walk = w })
+with_state (Err r) w = Err r

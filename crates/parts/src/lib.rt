@@ -14,19 +14,18 @@ ghost use Rattle.strided.specs.Order.{loop_order};
 ghost use Rattle.strided.specs.Fuse.{plan_axes};
 ghost use Rattle.strided.specs.Plan.{stride_table};
 ghost use Rattle.strided.specs.Memory.{purpose_of};
-ghost use Rattle.auxiliary.specs.Fitting.{Fitting};
 ghost use Rattle.finding.specs.Mapped.{fused_extents};
 ghost use Rattle.parts.specs.Answers.{counts_refused, told, Part, plan_costs};
 
 use auxiliary::rank_table_into;
+use costs::costs_of;
 use finding::map_into;
-use fuse::compute_costs;
 use importance::compute_importance_into;
 use kernel::axes_into;
-use layout::{check_counts, check_layout, lead, number, purpose_of};
+use layout::{Layout, check_counts, check_layout, lead, number, purpose_of};
 use order::compute_order_into;
-use strided::Purpose;
 
+mod costs;
 pub mod plans;
 pub mod steps;
 
@@ -66,8 +65,14 @@ pub extern "C" fn parts_ranks<'a>(
     match checked {
         Err(refusal) => number(refusal),
         Ok(()) => {
+            let operands = sizes.len();
+            let layout = Layout {
+                extents,
+                strides,
+                operands,
+            };
             *ranks = [[0u8; 64]; 8];
-            rank_table_into(strides, extents.len(), sizes.len(), ranks);
+            rank_table_into(layout, ranks);
             0
         }
     }
@@ -92,8 +97,13 @@ pub extern "C" fn parts_weights<'a>(
     match checked {
         Err(refusal) => number(refusal),
         Ok(()) => {
+            let layout = Layout {
+                extents,
+                strides,
+                operands: sizes.len(),
+            };
             *importance = [0u64; 64];
-            compute_importance_into(extents, strides, sizes.len(), lead(purpose), importance);
+            compute_importance_into(layout, lead(purpose), importance);
             0
         }
     }
@@ -118,27 +128,20 @@ pub extern "C" fn parts_order<'a>(
     match checked {
         Err(refusal) => number(refusal),
         Ok(()) => {
+            let layout = Layout {
+                extents,
+                strides,
+                operands: sizes.len(),
+            };
             let mut weights = [0u64; 64];
             *order = [0usize; 64];
-            compute_order_into(extents, strides, sizes.len(), purpose, &mut weights, order);
+            compute_order_into(layout, purpose, &mut weights, order);
             0
         }
     }
 }
 
 // ---- fused axes
-
-// The costs of the plan's axes, 0 where an axis has none.
-fn costs_of(extents: &[u64], strides: &[i64], operands: usize, purpose: Purpose) -> [u64; 64]
-    requires layout { Fitting strides.now (length extents.now) operands }
-    requires operands { 0 < operands }
-    ensures { result ≡ padded 64 0 (plan_costs extents.now operands strides.now purpose) }
-{
-    let mut es = [0u64; 64];
-    let mut table = [0i64; 512];
-    let rank = axes_into(extents, strides, operands, purpose, &mut es, &mut table);
-    compute_costs(&table, operands, rank)
-}
 
 // The extents after fusing, one for each axis in the order of fusing: one that has joined the axis before it is 1.
 #[unsafe(no_mangle)]
@@ -159,9 +162,14 @@ pub extern "C" fn parts_fused<'a>(
     match checked {
         Err(refusal) => number(refusal),
         Ok(()) => {
+            let layout = Layout {
+                extents,
+                strides,
+                operands: sizes.len(),
+            };
             let mut order = [0usize; 64];
             *fused = [0u64; 64];
-            map_into(extents, strides, sizes.len(), purpose, &mut order, fused);
+            map_into(layout, purpose, &mut order, fused);
             0
         }
     }
@@ -194,9 +202,14 @@ pub extern "C" fn parts_axes<'a>(
     match checked {
         Err(refusal) => number(refusal),
         Ok(()) => {
+            let layout = Layout {
+                extents,
+                strides,
+                operands: sizes.len(),
+            };
             *kept = [0u64; 64];
             *table = [0i64; 512];
-            let rank = axes_into(extents, strides, sizes.len(), purpose, kept, table);
+            let rank = axes_into(layout, purpose, kept, table);
             *count = [rank];
             0
         }
@@ -222,7 +235,12 @@ pub extern "C" fn parts_costs<'a>(
     match checked {
         Err(refusal) => number(refusal),
         Ok(()) => {
-            *costs = costs_of(extents, strides, sizes.len(), purpose);
+            let layout = Layout {
+                extents,
+                strides,
+                operands: sizes.len(),
+            };
+            *costs = costs_of(layout, purpose);
             0
         }
     }

@@ -7,7 +7,7 @@ ghost use Rattle.strided.specs.Memory.{plan_of, walk_at, walk_in, step_at, Steps
 ghost use Rattle.parts.specs.States.{with_state};
 
 use layout::negated;
-use strided::{Outcome, Stepped, Walk};
+use strided::{Refusal, Stepped, Walk};
 use walk::memory::{flag, plan_of};
 use walk::{step, step_lent};
 
@@ -24,7 +24,7 @@ fn walk_of<'a>(ended: &'a [u64; 1], counters: &'a [u64; 64], offsets: &'a [i64; 
 
 // What a step answers, and its state and its block in the lent arrays, if it has one.
 fn hand_out(
-    stepped: Stepped,
+    answer: Result<Stepped, Refusal>,
     ended: &mut [u64; 1],
     counters: &mut [u64; 64],
     offsets: &mut [i64; 8],
@@ -37,27 +37,29 @@ fn hand_out(
         let w' = walk_at ended.new counters.new offsets.new in
         let old = step_at w block_counters.old length.old block_offsets.old block_strides.old in
         let new = step_at w' block_counters.new length.new block_offsets.new block_strides.new in
-        Steps stepped old new result }
+        Steps answer old new result }
 {
-    match stepped.answer {
-        Outcome::Rejected(refusal) => negated(refusal),
-        Outcome::Ended => 0,
-        Outcome::Block => {
-            let next = stepped.walk;
-            let nc = next.counters;
-            let no = next.offsets;
-            let bc = stepped.counters;
-            let bo = stepped.offsets;
-            let bs = stepped.strides;
-            *ended = [flag(next.ended)];
-            *counters = nc;
-            *offsets = no;
-            *block_counters = bc;
-            *length = [stepped.length];
-            *block_offsets = bo;
-            *block_strides = bs;
-            1
-        }
+    match answer {
+        Err(refusal) => negated(refusal),
+        Ok(stepped) => match stepped.block {
+            None => 0,
+            Some(block) => {
+                let next = stepped.walk;
+                let nc = next.counters;
+                let no = next.offsets;
+                let bc = block.counters;
+                let bo = block.offsets;
+                let bs = block.strides;
+                *ended = [flag(next.ended)];
+                *counters = nc;
+                *offsets = no;
+                *block_counters = bc;
+                *length = [block.length];
+                *block_offsets = bo;
+                *block_strides = bs;
+                1
+            }
+        },
     }
 }
 
@@ -99,10 +101,11 @@ pub extern "C" fn parts_step<'a>(
 }
 
 // What was returned, with the state that was left in place of its own.
-fn with_state(stepped: Stepped, walk: Walk) -> Stepped
-    ensures { result ≡ with_state stepped walk }
+fn with_state(answer: Result<Stepped, Refusal>, walk: Walk) -> Result<Stepped, Refusal>
+    ensures { result ≡ with_state answer walk }
 {
-    Stepped { walk, ..stepped }
+    let stepped = answer?;
+    Ok(Stepped { walk, ..stepped })
 }
 
 // A lent step.

@@ -1,7 +1,7 @@
 -- The two answers of a reader of numbers, and that it can give no other value; a byte in front of a number, such as the comma of a field.
 -- Assumes nothing.
 use mathlib.Core.Path.{◌≡◌, sym, ap, ◌∙◌, subst}
-use mathlib.Core.List.{List, ◌∷◌, ◌++◌}
+use mathlib.Core.List.{List, ◌∷◌}
 use Prim.Native.Nat.{ℕ}
 use native.Mathlib.Omega.{arith}
 use lib.ListN.{drop}
@@ -48,11 +48,5 @@ module _ {A : Type 0} (b : ℕ) (g : A → List ℕ) (Fits : A → Type 0) where
   front_nowhere : {t u : List ℕ} → t ≡ b ∷ u → Nowhere g Fits u → Nowhere fronted Fits t
   front_nowhere e none v rest h = none v rest (record { fits = h.fits; form = ap tail (sym e ∙ h.form); stops = h.stops })
 
-  front_other : {t : List ℕ} → ((rest : List ℕ) → t ≡ b ∷ rest → ⊥) → Nowhere fronted Fits t
-  front_other none v rest h = none (g v ++ rest) h.form
-
   pub front_finds : {s : List ℕ} {at from : ℕ} {r : Option (A × ℕ)} → drop at s ≡ b ∷ drop from s → Finds g Fits s from r → Finds fronted Fits s at r
   front_finds e h = record { value = λ v n q. front-here e (h.value v n q); bad = λ q. front_nowhere e (h.bad q) }
-
-  pub front_bad : {s : List ℕ} {at : ℕ} → ((rest : List ℕ) → drop at s ≡ b ∷ rest → ⊥) → Finds fronted Fits s at None
-  front_bad none = is_bad fronted Fits (front_other none)

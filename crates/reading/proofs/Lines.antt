@@ -13,7 +13,7 @@ use lib.Seq.{sets, length-sets}
 use borrow.Author.Tests.{leb-true, leb-false}
 use Rattle.strided.specs.Base.{over}
 use Rattle.strided.specs.Digits.{digits_of, signed_of}
-use Rattle.strided.specs.Text.{FitU, FitI, OperandLine, field, signed_field, extents_line, operand_line}
+use Rattle.strided.specs.Text.{FitU, FitI, OperandLine, signed_field, extents_line, operand_line}
 use Rattle.laws.specs.Text.Numbers.{tail, digits_once}
 use Rattle.laws.specs.Text.Once.{Once, row_stops, row_once, extents_text, operand_text, operand_once, operands_rest}
 use Rattle.reading.specs.Here.{Here, Nowhere}
@@ -36,13 +36,6 @@ module _ {s : List ℕ} {at rank : ℕ} {old new : List ℕ} where
             (w.0, record { count = w.1; fits = w.2.fits; form = e ∙ ap (λ (l : List ℕ). 69 ∷ l) w.2.form ∙ sym (extents_text w.0 (drop next s)) }, w.3));
         bad = λ q es rest h.
             t.bad q es rest h.count (record { fits = h.fits; form = ap tail (sym e ∙ h.form ∙ extents_text es rest) });
-      }
-
-  pub extents_none : ((rest : List ℕ) → drop at s ≡ 69 ∷ rest → ⊥) → TakesExtents s at rank old new None
-  extents_none none =
-      record {
-        to = λ next q. clash (cc);
-        bad = λ q es rest h. none (over es field ++ (10 ∷ rest)) (h.form ∙ extents_text es rest);
       }
 
 -- ---- the front of an O line
@@ -145,14 +138,6 @@ module _ {s : List ℕ} {at rank k from : ℕ} {sizes sizes' : List ℕ} {stride
       go [] rest g = omega arith
       go (w ∷ ws) rest g = none w (over ws operand_line ++ rest) (first_line g)
 
-lines_end : {s : List ℕ} {at rank k from n : ℕ} {sizes : List ℕ} {strides : List ℤ} → n ≡ 0
-    → TakesOperands s at rank n k from sizes sizes strides strides (Some at)
-lines_end {s} {at} q =
-    record {
-      to = λ next e. (let a : at ≡ next = cc in ([], record { count = sym q; fits = tt; form = ap (λ (x : ℕ). drop x s) a }, refl, refl));
-      bad = λ e. clash (cc);
-    }
-
 -- the loop: k lines are read, and what is left begins at p
 pub record Lining (s : List ℕ) (at rank count : ℕ) (sizes₀ sizes : List ℕ) (strides₀ strides : List ℤ) (p k from : ℕ) : Type 0 where
   pub within : k ≤ count
@@ -161,17 +146,6 @@ pub record Lining (s : List ℕ) (at rank count : ℕ) (sizes₀ sizes : List �
   pub same_strides : length strides ≡ length strides₀
   pub left : (sizes' : List ℕ) (strides' : List ℤ) (r : Option ℕ) → TakesOperands s p rank (count - k) k from sizes sizes' strides strides' r
       → TakesOperands s at rank count 0 0 sizes₀ sizes' strides₀ strides' r
-
-pub lining_start : (s : List ℕ) (at rank count : ℕ) (sizes : List ℕ) (strides : List ℤ) → Lining s at rank count sizes sizes strides strides at 0 0
-lining_start s at rank count sizes strides =
-    record {
-      within = omega arith;
-      short = omega (arith, length-drop at s);
-      same-sizes = refl;
-      same_strides = refl;
-      left = λ sizes' strides' r t.
-          let q : count - 0 ≡ count = omega arith in rw q at t;
-    }
 
 module _ {s : List ℕ} {at rank count : ℕ} {sizes₀ sizes : List ℕ} {strides₀ strides : List ℤ} {p k from : ℕ}
     (d : Lining s at rank count sizes₀ sizes strides₀ strides p k from) where
@@ -198,9 +172,6 @@ module _ {s : List ℕ} {at rank count : ℕ} {sizes₀ sizes : List ℕ} {strid
       → TakesOperands s at rank count 0 0 sizes₀ sizes strides₀ new None
   lining_bad {new} h none = let q : count - k ≡ suc (count - (k + 1)) = omega arith in d.left sizes new None (no_line q none)
 
-  pub lining_end : count ≤ k → TakesOperands s at rank count 0 0 sizes₀ sizes strides₀ strides (Some p)
-  lining_end h = let q : count - k ≡ 0 = omega arith in d.left sizes strides (Some p) (lines_end q)
-
 -- ---- all lines, and nothing behind them
 
 extents-rest : {rank : ℕ} {t : List ℕ} (a b : List ℕ) {x y : List ℕ} → ExtentsHere rank t a x → ExtentsHere rank t b y → x ≡ y
@@ -215,9 +186,6 @@ module _ {s : List ℕ} {at rank operands : ℕ} {old new : Arrays} where
   no_lines none = record { yes = λ e. absurd (false≢true e); no = λ e. none }
 
 module _ {s : List ℕ} {at rank : ℕ} {es es' : List ℕ} {a : Option ℕ} (f : TakesExtents s at rank es es' a) where
-  pub lines_none : {operands : ℕ} {old new : Arrays} → a ≡ None → TakesLines s at rank operands old new false
-  lines_none e = no_lines (λ xs ls h. f.bad e xs (over ls operand_line) (extents_of_lem h))
-
   -- the operands' lines stand behind the E line
   behind_extents : (p : ℕ) → a ≡ Some p → {operands : ℕ} (xs : List ℕ) (ls : List OperandLine) → LinesHere rank operands (drop at s) xs ls
       → drop p s ≡ over ls operand_line

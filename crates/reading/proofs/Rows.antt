@@ -4,7 +4,6 @@
 use mathlib.Core.Path.{◌≡◌, refl, sym, ap, ◌∙◌}
 use mathlib.Core.List.{List, [], ◌∷◌, ◌++◌}
 use Prim.Native.Nat.{ℕ, suc, ◌+◌, ◌-◌, ◌≤◌, ◌<◌}
-use native.Mathlib.Nat.{add-zero}
 use native.Mathlib.Numerals.{add-one}
 use native.Mathlib.Omega.{arith}
 use lib.ListN.{length, drop, set, length-append, length-set}
@@ -88,17 +87,6 @@ module _ {A : Type 0} (g : A → List ℕ) (Fits : A → Type 0) where
     pub same : length out ≡ length old
     pub short : i + length (drop p s) ≤ length (drop at s)
     pub left : (new : List A) (r : Option ℕ) → TakesRow g Fits s p (count - i) (from + i) out new r → TakesRow g Fits s at count from old new r
-
-  pub rowing_start : (s : List ℕ) (at count from : ℕ) (old : List A) → Rowing s at count from old old at 0
-  rowing_start s at count from old =
-      record {
-        within = omega arith;
-        same = refl;
-        short = omega arith;
-        left = λ new r t.
-            let q : count - 0 ≡ count = omega arith in
-            rw (q, add-zero from) at t;
-      }
 
   module _ {s : List ℕ} {at count from : ℕ} {old out : List A} {p i : ℕ} (d : Rowing s at count from old out p i) where
     pub rowing_turn : Once g → {v : A} {nx : ℕ} → i < count → Here (celled g) Fits (drop p s) v (drop nx s)

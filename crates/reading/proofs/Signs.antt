@@ -2,13 +2,10 @@
 -- Assumes nothing.
 use mathlib.Core.Path.{◌≡◌, sym, ap, ◌∙◌}
 use mathlib.Core.List.{List, ◌∷◌, ◌++◌}
-use Prim.Native.Nat.{ℕ, zero, suc, ◌^◌, ◌<◌}
+use Prim.Native.Nat.{ℕ, suc, ◌^◌, ◌<◌}
 use native.Mathlib.Omega.{arith}
-use lib.IntN.{ℤ, pos, negsuc, ◌-ℤ◌, +ℤ_idr}
+use lib.IntN.{ℤ, pos, negsuc}
 use lib.ListN.{drop}
-use mir.Syntax.{w64}
-use mir.Val.{SFits, to_z, of_z}
-use mir.Facts.{to_z_pos, to_z-of_z}
 use Rattle.strided.specs.Digits.{digits_of, signed_of}
 use Rattle.strided.specs.Text.{FitU, FitI}
 use Rattle.laws.specs.Text.Numbers.{tail, digits_no_sign, digits_once}
@@ -16,21 +13,6 @@ use Rattle.reading.specs.Here.{Here, Nowhere}
 use Rattle.reading.specs.Numbers.{ReadsSigned, Minus, Plus}
 use Rattle.reading.proofs.Answers.{is_value, is_bad, here_once}
 use Rattle.std.specs.Prelude.{Option, Some, None}
-
--- ---- -1 - m at 64 bits, as a local has it
-
-less_one : (m : ℕ) → negsuc 0 -ℤ pos m ≡ negsuc m
-less_one zero = +ℤ_idr (negsuc 0)
-less_one (suc k) = ap negsuc (omega arith)
-
-minus_is : (m : ℕ) → m < 2 ^ 63 → negsuc 0 -ℤ to_z w64 m ≡ negsuc m
-minus_is m h = ap (λ z. negsuc 0 -ℤ z) (to_z_pos w64 h) ∙ less_one m
-
-pub minus_fits : (m : ℕ) → m < 2 ^ 63 → SFits w64 (negsuc 0 -ℤ to_z w64 m)
-minus_fits m h = rw (minus_is m h) (record { sfits = h })
-
-pub minus_back : (m : ℕ) → m < 2 ^ 63 → to_z w64 (of_z w64 (negsuc 0 -ℤ to_z w64 m)) ≡ negsuc m
-minus_back m h = to_z-of_z (minus_fits m h) ∙ minus_is m h
 
 -- ---- `-` and a size
 

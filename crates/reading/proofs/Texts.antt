@@ -3,11 +3,9 @@
 use mathlib.Core.Path.{◌≡◌, sym, ap, ◌∙◌}
 use mathlib.Core.Bool.{Bool, true, false}
 use mathlib.Core.List.{List, ◌++◌}
-use Prim.Native.Nat.{ℕ, ◌≤◌, ◌<◌}
-use native.Mathlib.Omega.{arith}
+use Prim.Native.Nat.{ℕ, ◌≤◌}
 use lib.ListN.{length, drop}
-use Rattle.strided.specs.Base.{over}
-use Rattle.strided.specs.Text.{Parsed, head_line, extents_line, operand_line, InForm, NotInForm}
+use Rattle.strided.specs.Text.{Parsed, head_line, NotInForm}
 use Rattle.strided.specs.declared.Purpose.{Purpose}
 use Rattle.laws.specs.Text.Once.{head_once}
 use Rattle.reading.specs.Heads.{HeadHere}
@@ -18,19 +16,9 @@ use Rattle.std.specs.Prelude.{Ok, Err}
 use Rattle.reading.specs.declared.Said.{Said}
 use Rattle.reading.specs.declared.Unformed.{Unformed}
 
--- the L line that a text in the form begins with
-head_of : {text : List ℕ} (p : Parsed) → InForm text p → HeadHere text p.purpose p.rank p.operands (extents_line p.extents ++ over p.lines operand_line)
-head_of p f = record { rank_fits = f.rank_fits; operands_fit = f.operands_fit; chosen_fits = f.chosen_fits; form = f.form }
-
 module _ {text : List ℕ} {old new : Arrays} {x : Unformed} where
   not_formed : NotInForm text → ReadsText text old new (Err x)
   not_formed none = record { layout = λ l e. clash (cc); unformed = λ y e. none }
-
-  pub text_long : 16384 < length text → ReadsText text old new (Err x)
-  text_long h = not_formed (λ p f. omega arith)
-
-  pub text_none : ((u : Purpose) (r n : ℕ) (rest : List ℕ) → HeadHere text u r n rest → ⊥) → ReadsText text old new (Err x)
-  text_none none = not_formed (λ p f. none p.purpose p.rank p.operands _ (head_of p f))
 
   module _ (at : ℕ) {u : Purpose} {rank operands : ℕ} (h : HeadHere text u rank operands (drop at text)) {b : Bool} (t : TakesLines text at rank operands old new b) where
     pub text_open : b ≡ false → ReadsText text old new (Err x)

@@ -33,17 +33,17 @@ pub record ReadsChosen (letter : ℕ) (s : List ℕ) (at : ℕ) (r : Option (Pur
 abbrev pub letter_of : Bool → ℕ
 letter_of fold = cond fold 70 80
 
--- ---- the counts
+-- ---- two counts: the rank and how many operands, here
 
-pub record CountsHere (t : List ℕ) (rank operands : ℕ) (rest : List ℕ) : Type 0 where
-  pub rank_fits : FitU rank
-  pub operands_fit : FitU operands
-  pub form : t ≡ field rank ++ (field operands ++ rest)
+pub record CountsHere (t : List ℕ) (first second : ℕ) (rest : List ℕ) : Type 0 where
+  pub first_fits : FitU first
+  pub second_fits : FitU second
+  pub form : t ≡ field first ++ (field second ++ rest)
   pub stops : goes_on rest ≡ false
 
 pub record ReadsCounts (s : List ℕ) (at : ℕ) (r : Option Counts) : Type 0 where
-  pub told : (c : Counts) → r ≡ Some c → CountsHere (drop at s) c.rank c.operands (drop c.next s)
-  pub bad : r ≡ None → (rank operands : ℕ) (rest : List ℕ) → CountsHere (drop at s) rank operands rest → ⊥
+  pub told : (c : Counts) → r ≡ Some c → CountsHere (drop at s) c.first c.second (drop c.next s)
+  pub bad : r ≡ None → (first second : ℕ) (rest : List ℕ) → CountsHere (drop at s) first second rest → ⊥
 
 -- ---- all behind the letter, and the whole line
 

@@ -6,11 +6,11 @@ use super::byte::behind;
 use super::number::field;
 use strided::Purpose;
 
-// Rank, operand count, and the place behind them.
+// Two counts of a line, such as rank and operand count, and the place behind them.
 #[derive(Clone, Copy)]
 pub struct Counts {
-    pub rank: usize,
-    pub operands: usize,
+    pub first: usize,
+    pub second: usize,
     pub next: usize,
 }
 
@@ -75,11 +75,11 @@ fn read_chosen(s: &[u8], at: usize, fold: bool) -> Option<(Purpose, usize)>
 pub fn read_counts(s: &[u8], at: usize) -> Option<Counts>
     ensures { ReadsCounts s.now at result }
 {
-    let (rank, p) = field::<u64>(s, at)?;
-    let (operands, next) = field::<u64>(s, p)?;
+    let (first, p) = field::<u64>(s, at)?;
+    let (second, next) = field::<u64>(s, p)?;
     Some(Counts {
-        rank: rank as usize,
-        operands: operands as usize,
+        first: first as usize,
+        second: second as usize,
         next,
     })
 }
@@ -92,8 +92,8 @@ fn read_told(s: &[u8], at: usize, fold: bool) -> Option<Head>
     let (purpose, next) = read_chosen(s, counts.next, fold)?;
     Some(Head {
         purpose,
-        rank: counts.rank,
-        operands: counts.operands,
+        rank: counts.first,
+        operands: counts.second,
         next,
     })
 }

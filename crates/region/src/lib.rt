@@ -10,7 +10,7 @@ ghost use Rattle.region.specs.Tail.{axes};
 
 mod tail;
 
-pub use tail::{AllowedMachine, Tail};
+pub use tail::{AllowedMachine, Axes, Operand, Tail};
 
 // The bytes of the lines up to the one that holds byte c. A line is a power of two, so that shifts divide and multiply by it.
 fn whole_lines(machine: AllowedMachine, c: u64) -> u64
@@ -22,49 +22,39 @@ fn whole_lines(machine: AllowedMachine, c: u64) -> u64
 }
 
 // The region of operand k over a tail.
-fn region_of<'a>(
-    machine: AllowedMachine,
-    tail: Tail,
-    blocks: &'a [u64; 64],
-    bytes: &'a [u32; 512],
-    k: usize,
-) -> u64
-    requires { k < 8 }
-    ensures { result ≡ min (region_of machine.numbers bytes.now blocks.now tail.offset (axes tail) k) (cap machine.numbers) }
+fn region_of(tail: Tail, blocks: &[u64; 64], k: usize) -> u64
+    requires { k < tail.operands }
+    ensures { let t = tail.entry in result ≡ min (region_of t.machine.numbers t.bytes.now blocks.now t.offset (axes t) k) (cap t.machine.numbers) }
 {
-    let top = 2 * machine.numbers.cache + 1;
+    let top = 2 * tail.machine.numbers.cache + 1;
     let from = k * 64;
     let mut c: u64 = 0;
     let mut m: u64 = 1;
     for i in tail.offset..tail.rank {
-        let s = u64::from(bytes[from + i]);
+        let s = u64::from(tail.bytes[from + i]);
         let b = blocks[i];
-        if s < machine.numbers.line {
+        if s < tail.machine.numbers.line {
             // A block that is cut here is above every limit already; the sum of 64 such terms stays small.
             c += s * b.saturating_sub(1).min(top);
         } else {
             m = m.saturating_mul(b).min(top);
         }
     }
-    m.saturating_mul(whole_lines(machine, c.min(top))).min(top)
+    m.saturating_mul(whole_lines(tail.machine, c.min(top)))
+        .min(top)
 }
 
 // The region over a tail, summed over the operands. A sum at the limit stays there: the operands that are left are not looked at.
-pub fn memory_region<'a>(
-    machine: AllowedMachine,
-    tail: Tail,
-    blocks: &'a [u64; 64],
-    bytes: &'a [u32; 512],
-) -> u64
-    ensures { result ≡ min (region machine.numbers bytes.now tail.operands blocks.now tail.offset (axes tail)) (cap machine.numbers) }
+pub fn memory_region(tail: Tail, blocks: &[u64; 64]) -> u64
+    ensures { let t = tail.entry in result ≡ min (region t.machine.numbers t.bytes.now t.operands blocks.now t.offset (axes t)) (cap t.machine.numbers) }
 {
-    let limit = 2 * machine.numbers.cache + 1;
+    let limit = 2 * tail.machine.numbers.cache + 1;
     let mut r: u64 = 0;
     for k in 0..tail.operands {
         if r == limit {
             return r;
         }
-        r = (r + region_of(machine, tail, blocks, bytes, k)).min(limit);
+        r = (r + region_of(tail, blocks, k)).min(limit);
     }
     r
 }

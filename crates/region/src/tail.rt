@@ -1,7 +1,7 @@
-// A machine that is allowed, and a tail of axes that the plan's arrays hold.
-ghost use Rattle.std.specs.Prelude.{◌≤◌};
+// A machine that is allowed, the axes that blocks are cut for, and a tail of them.
+ghost use Rattle.std.specs.Prelude.{◌≤◌, ◌<◌, length};
 ghost use Rattle.strided.specs.Machine.{Allowed};
-ghost use Rattle.region.specs.Machine.{Allowed-prop};
+ghost use Rattle.laws.specs.Refusals.Allowed.{Allowed-prop};
 
 use strided::Machine;
 
@@ -11,9 +11,30 @@ pub struct AllowedMachine {
     pub ghost allowed: { Allowed numbers } by { Allowed-prop numbers },
 }
 
-// The tail of axes that cutting looks at, those from offset to rank, of so many operands.
+// The axes of a plan in its arrays, and the sizes of its operands: the stride of operand k on axis i stands at k * 64 + i.
 #[derive(Clone, Copy)]
-pub struct Tail {
+pub struct Axes<'a> {
+    pub sizes: &'a [u64],
+    pub extents: &'a [u64; 64],
+    pub strides: &'a [i64; 512],
+    pub rank: usize,
+    pub ghost few: { length sizes.now ≤ 8 },
+    pub ghost to: { rank ≤ 64 },
+}
+
+// One operand on these axes, by its number.
+#[derive(Clone, Copy)]
+pub struct Operand<'a> {
+    pub axes: Axes<'a>,
+    pub k: usize,
+    pub ghost there: { k < length axes.sizes.now },
+}
+
+// The tail of axes that cutting looks at, those from offset to rank, of so many operands with these byte strides.
+#[derive(Clone, Copy)]
+pub struct Tail<'a> {
+    pub machine: AllowedMachine,
+    pub bytes: &'a [u32; 512],
     pub operands: usize,
     pub offset: usize,
     pub rank: usize,

@@ -8,11 +8,10 @@ use native.Mathlib.Numerals.{add-one}
 use native.Mathlib.Omega.{arith}
 use lib.Bits.{bit_or, bit_xor, or_add_and, xor_add_and, and_le_l, and_le_r, xor_self}
 use lib.Dec.{eqb}
-use lib.IntN.{ℤ, pos, nat_abs}
+use lib.IntN.{ℤ, pos}
 use lib.ListN.{length, get_or, drop, drop_of_length-le}
 use lib.Seq.{drop-cons}
 use borrow.Author.Tests.{eqb-true, eqb-false, eq-eqb, ne_eqb}
-use Rattle.strided.specs.Step.{blank, blank_z}
 use Rattle.strided.specs.Fuse.{eq_z}
 use Rattle.session.specs.Session.{same_nats, same_ints}
 
@@ -50,17 +49,6 @@ turned : (seen x : ℕ) (rest : Bool) {t left b : Bool} → eqb x 0 ≡ t → le
 turned seen x rest {t} q e h =
     ap (λ (y : Bool). y && rest) (or_none seen x ∙ ap (λ (y : Bool). eqb seen 0 && y) q)
     ∙ and_assoc (eqb seen 0) t rest ∙ ap (λ (y : Bool). eqb seen 0 && y) (sym e) ∙ h
-
-module _ (ns : List ℕ) (i seen : ℕ) where
-  pub zero-next : i < length ns → (eqb seen 0 && blank (drop i ns)) ≡ blank ns → (eqb (bit_or seen (get_or ns i 0)) 0 && blank (drop (i + 1) ns)) ≡ blank ns
-  zero-next l h = turned seen (get_or ns i 0) (blank (drop (i + 1) ns)) refl (ap blank (drop-cons ns i 0 l) ∙ ap (λ (j : ℕ). eqb (get_or ns i 0) 0 && blank (drop j ns)) (sym (add-one i))) h
-
-module _ (ns : List ℤ) (i seen : ℕ) where
-  pub zero_z_next : (x : ℕ) → i < length ns → eqb x 0 ≡ eqb (nat_abs (get_or ns i (pos 0))) 0 → (eqb seen 0 && blank_z (drop i ns)) ≡ blank_z ns
-      → (eqb (bit_or seen x) 0 && blank_z (drop (i + 1) ns)) ≡ blank_z ns
-  zero_z_next x l e h =
-      turned seen x (blank_z (drop (i + 1) ns)) e
-      (ap blank_z (drop-cons ns i (pos 0) l) ∙ ap (λ (j : ℕ). eqb (nat_abs (get_or ns i (pos 0))) 0 && blank_z (drop j ns)) (sym (add-one i))) h
 
 module _ (xs bs : List ℕ) (i seen : ℕ) where
   pub same_next : i < length xs → i < length bs → (eqb seen 0 && same_nats (drop i xs) (drop i bs)) ≡ same_nats xs bs

@@ -8,7 +8,7 @@ use borrow.Author.Tests.{ne_eqb}
 use lib.Dec.{eqb}
 use lib.IntN.{ℤ, pos, negsuc, nat_abs}
 use lib.ListN.{length, get_or, take, drop, length-drop, take-append-drop}
-use lib.Seq.{take-add, length-take-le, get_or-take, get_or-drop}
+use lib.Seq.{take-add, length-take-le, get_or-drop}
 use Rattle.strided.specs.Base.{padded}
 use Rattle.strided.specs.Order.{pick}
 use Rattle.strided.specs.Fuse.{eq_z}
@@ -46,32 +46,31 @@ same-blank (suc n) [] e = absurd (omega (arith, e))
 same-blank (suc n) (x ∷ l) e = ap₂ (λ (a b : Bool). a && b) (zero_is x) (same-blank n l (omega (arith, e)))
 
 -- a row: the strides of the axes that are named, and zeros
-abbrev pub fresh : List ℤ → ℕ → List ℕ → ℕ → List ℤ
-fresh ss from A count = padded 64 (pos 0) (pick (pos 0) (drop from ss) (take count A))
+abbrev pub fresh : List ℤ → ℕ → List ℕ → List ℤ
+fresh ss from A = padded 64 (pos 0) (pick (pos 0) (drop from ss) A)
 
-module _ (ss : List ℤ) (from : ℕ) (A : List ℕ) (count : ℕ) (long : length A ≡ 64) (few : count ≤ 64) where
-  counted : length (pick (pos 0) (drop from ss) (take count A)) ≡ count
-  counted = length-pick (pos 0) (drop from ss) (take count A) ∙ length-take-le count A (omega (arith, long, few))
+module _ (ss : List ℤ) (from : ℕ) (A : List ℕ) (few : length A ≤ 64) where
+  counted : length (pick (pos 0) (drop from ss) A) ≡ length A
+  counted = length-pick (pos 0) (drop from ss) A
 
-  pub fresh_long : length (fresh ss from A count) ≡ 64
-  fresh_long = length-padded (pos 0) 64 (pick (pos 0) (drop from ss) (take count A))
+  pub fresh_long : length (fresh ss from A) ≡ 64
+  fresh_long = length-padded (pos 0) 64 (pick (pos 0) (drop from ss) A)
 
-  pub fresh_at : (i : ℕ) → i < count → get_or (fresh ss from A count) i (pos 0) ≡ get_or ss (from + get_or A i 0) (pos 0)
+  pub fresh_at : (i : ℕ) → i < length A → get_or (fresh ss from A) i (pos 0) ≡ get_or ss (from + get_or A i 0) (pos 0)
   fresh_at i h =
-      let taken : length (take count A) ≡ count = length-take-le count A (omega (arith, long, few)) in
-      get_d_padded (pos 0) 64 (pick (pos 0) (drop from ss) (take count A)) i (omega (arith, h, few))
-      ∙ get_d_pick (pos 0) (drop from ss) (take count A) i (omega (arith, h, taken))
-      ∙ ap (λ (a : ℕ). get_or (drop from ss) a (pos 0)) (get_or-take count A i 0 h)
+      get_d_padded (pos 0) 64 (pick (pos 0) (drop from ss) A) i (omega (arith, h, few))
+      ∙ get_d_pick (pos 0) (drop from ss) A i h
       ∙ get_or-drop from ss (get_or A i 0) (pos 0)
 
   -- what is left when all that are named have been compared
-  pub row-over : (row : List ℤ) → length row ≡ 64 → (seen rest : Bool) → rest ≡ blank_z (drop count row) → (seen && same_ints (drop count (fresh ss from A count)) (drop count row)) ≡ same_ints (fresh ss from A count) row
-      → (seen && rest) ≡ same_ints (fresh ss from A count) row
+  pub row-over : (row : List ℤ) → length row ≡ 64 → (seen rest : Bool) → rest ≡ blank_z (drop (length A) row)
+      → (seen && same_ints (drop (length A) (fresh ss from A)) (drop (length A) row)) ≡ same_ints (fresh ss from A) row
+      → (seen && rest) ≡ same_ints (fresh ss from A) row
   row-over row e seen rest q h =
-      let d = length-drop count row in
+      let d = length-drop (length A) row in
       ap (λ (b : Bool). seen && b)
-      (q ∙ sym (same-blank (64 - count) (drop count row) (omega (arith, d, e)))
-      ∙ ap (λ (l : List ℤ). same_ints l (drop count row)) (sym (drop_behind 64 count (pos 0) (pick (pos 0) (drop from ss) (take count A)) (omega (arith, counted)))))
+      (q ∙ sym (same-blank (64 - length A) (drop (length A) row) (omega (arith, d, e)))
+      ∙ ap (λ (l : List ℤ). same_ints l (drop (length A) row)) (sym (drop_behind 64 (length A) (pos 0) (pick (pos 0) (drop from ss) A) (omega (arith, counted)))))
       ∙ h
 
 -- all rows

@@ -18,7 +18,7 @@ use Rattle.laws.specs.Base.Lists.{All, get_d_run, over-map, over_last, run-appen
 use Rattle.laws.specs.Order.Ranks.{rank_le, ranks_places, table_rows}
 use Rattle.strided.specs.declared.Machine.{Machine}
 use Rattle.strided.specs.declared.Purpose.{Purpose}
-use Rattle.auxiliary.specs.Fitting.{Fitting}
+use Rattle.layout.specs.Fitting.{Fitting}
 use Rattle.session.specs.Tabled.{Tabled}
 use Rattle.session.specs.Session.{given, ranks_of, old_place, strides_without}
 use Rattle.session.specs.Afresh.{old-there, row_moves, few_strides}

@@ -14,11 +14,11 @@ use Rattle.strided.specs.declared.Purpose.{Purpose}
 use Rattle.strided.specs.declared.Plan.{Plan}
 use Rattle.strided.specs.declared.Refusal.{Refusal}
 use Rattle.laws.specs.Fuse.Arrays.{pick_rows}
-use Rattle.auxiliary.specs.Fitting.{Fitting}
+use Rattle.layout.specs.Fitting.{Fitting}
 use Rattle.model.specs.Plannable.{Plannable}
 use Rattle.session.specs.declared.Numbers.{Numbers}
 use Rattle.session.specs.declared.Session.{Session}
-use Rattle.session.specs.Session.{Given, given, refused_of, weights_of, costs_of, plan_of, kind_of, purpose_without}
+use Rattle.session.specs.Session.{Given, given, given_of, refused_of, weights_of, costs_of, plan_of, kind_of, purpose_without}
 
 -- ---- the table of ranks
 
@@ -224,6 +224,16 @@ numbers_of s =
       plan_rank = s.plan.rank;
       plan_operands = s.plan.operands;
     }
+
+-- a session's layout is right; the table is that of its ranks; and what it keeps beside them is what the layout gives
+abbrev pub LaidRight : Session → Type 0
+LaidRight s = LayoutRight (numbers_of s) s.extents s.sizes s.strides
+
+abbrev pub Tables : Session → List (List ℕ) → Type 0
+Tables s table = TableOf (take (s.rank * s.operands) s.strides) s.rank s.operands table
+
+abbrev pub KeepsRight : Session → Type 0
+KeepsRight s = Keeps (given_of s) (numbers_of s) s.weights s.costs s.plan.extents s.plan.blocks s.plan.strides
 
 -- the call answers, and a session lent that was `old` is `new`: the one handed out, or on a refusal the old one
 pub record Lent (t : Result Session Refusal) (old new : Session) (answer : Result (Unit {0}) Refusal) : Type 0 where

@@ -9,8 +9,8 @@ use Rattle.laws.specs.Base.Arrays.{length-padded}
 use Rattle.laws.specs.Base.Filling.{fill_at, length-rows}
 use Rattle.laws.specs.Base.Rows.{length_strides}
 use Rattle.laws.specs.Order.Ranks.{ranks_places, table_rows}
-use Rattle.auxiliary.specs.Fitting.{Fitting}
-use Rattle.importance.specs.Tried.{Ranked}
+use Rattle.layout.specs.Fitting.{Fitting}
+use Rattle.auxiliary.specs.Moving.{MovingTo}
 
 -- a layout within the limits, and a table with the ranks of its axes
 pub record Tabled (es : List ℕ) (ss : List ℤ) (table : List (List ℕ)) (operands : ℕ) : Type 0 where
@@ -30,23 +30,21 @@ rank-at : (row : List ℤ) → length row ≤ 64 → (i : ℕ) → i < length ro
 rank-at row few i h =
     ap (λ (r : List ℕ). get_or (padded 64 0 r) i 0) (ranks_places row) ∙ fill_at 64 0 0 (λ j. rank_of row (nat_abs (get_or row j (pos 0)))) (length row) i h few
 
-pub tabled_ranked : (es : List ℕ) (ss : List ℤ) (table : List (List ℕ)) (operands : ℕ) → Tabled es ss table operands → Ranked es ss table operands
+pub tabled_ranked : (es : List ℕ) (ss : List ℤ) (table : List (List ℕ)) (operands : ℕ) → Tabled es ss table operands → Fitting ss (length es) operands × MovingTo es ss operands table
 tabled_ranked es ss table operands t =
-    let f : Fitting ss (length es) operands = t.fits in
-    record {
-      fits = t.fits;
-      ranks =
-          record {
-            long = ap length t.ranks ∙ length-padded zeros 8 (map (padded 64 0) (rank_table ss (length es) operands));
-            done = λ j h i g m.
-                ap (λ (r : List (List ℕ)). get_or (get_or r j []) i 0) rows_are
-                ∙ ap (λ (r : List ℕ). get_or r i 0) (fill_at 8 zeros [] row operands j h f.operands_few)
-                ∙ rank-at (stride_row ss (length es) j) (omega (arith, length_strides ss (length es) operands j f.strides_all h, f.rank-few)) i g;
-            rest = λ j h few.
-                ap (λ (r : List (List ℕ)). get_or r j []) rows_are
-                ∙ behind 8 zeros (map row (run 0 operands)) j (omega (arith, length-rows row 0 operands)) few;
-          };
-    }
+    let f : Fitting ss (length es) operands = t.fits in (
+      t.fits,
+      record {
+        long = ap length t.ranks ∙ length-padded zeros 8 (map (padded 64 0) (rank_table ss (length es) operands));
+        done = λ j h i g m.
+            ap (λ (r : List (List ℕ)). get_or (get_or r j []) i 0) rows_are
+            ∙ ap (λ (r : List ℕ). get_or r i 0) (fill_at 8 zeros [] row operands j h f.operands_few)
+            ∙ rank-at (stride_row ss (length es) j) (omega (arith, length_strides ss (length es) operands j f.strides_all h, f.rank-few)) i g;
+        rest = λ j h few.
+            ap (λ (r : List (List ℕ)). get_or r j []) rows_are
+            ∙ behind 8 zeros (map row (run 0 operands)) j (omega (arith, length-rows row 0 operands)) few;
+      },
+    )
   where
     zeros : List ℕ
     zeros = replicate 64 0

@@ -10,14 +10,17 @@ ghost use Rattle.strided.specs.Refusals.{refused_by, answered};
 ghost use Rattle.laws.specs.Fuse.Arrays.{pick_rows};
 ghost use Rattle.session.specs.Session.{kind_of, same_nats, same_ints, Right, row21, new_rows};
 ghost use Rattle.session.specs.Same.{Decides};
-ghost use Rattle.session.specs.Made.{RankRow, Even, ranks_in, TableOf, Laid, weights_in, Weighed, AxesAt, Cuttable, BlocksAt, Keeps, LayoutRight, given_in, session_at};
+ghost use Rattle.session.specs.Made.{RankRow, Even, ranks_in, TableOf, Laid, weights_in, Weighed, AxesAt, Cuttable, BlocksAt, LayoutRight, LaidRight, Tables, KeepsRight};
 
-use super::Numbers;
-use super::compare::{all_zero, all_zero_signed, same};
+use super::compare::same;
 use super::kept::{blocks_kept_into, stays_by_into, weights_kept};
+use super::{LentSession, Numbers};
 use auxiliary::rank_table_into;
 use fuse::compute_costs;
-use layout::{check_planning, operands_wrong, purpose_of, rank_over, reach_over, strides_wrong};
+use layout::{
+    Layout, Rows, all_zero, check_planning, operands_wrong, purpose_of, rank_over, reach_over,
+    strides_wrong,
+};
 use strided::{MAX_OPERANDS, Refusal};
 
 // Whether two numbers are those of a purpose as it is handed out: 0, 1 or 2, and 0 where there is no chosen operand.
@@ -32,33 +35,32 @@ fn purpose_told(purpose: u64, chosen: u64) -> bool
 }
 
 // Whether the places behind the counts are 0.
+// Kept: rank and operands beside the arrays, here and in `ranks_right`: the arrays are whole, and looked at behind their counts.
 fn tidy<'a>(
     rank: usize,
     operands: usize,
-    extents: &'a [u64],
-    sizes: &'a [u64],
-    strides: &'a [i64],
+    extents: &'a [u64; 64],
+    sizes: &'a [u64; 8],
+    strides: &'a [i64; 512],
 ) -> bool
-    requires rank_bound { (rank ≤ 64) × (operands ≤ 8) }
-    requires extents_len { (length extents.now ≡ 64) × ((length sizes.now ≡ 8) × (length strides.now ≡ 512)) }
+    requires { (rank ≤ 64) × (operands ≤ 8) }
     ensures { result ≡ (blank (drop rank extents.now) && (blank (drop operands sizes.now)
         && blank_z (drop (rank * operands) strides.now))) }
 {
     let count = rank * operands;
     let e = all_zero(&extents[rank..]);
     let z = all_zero(&sizes[operands..]);
-    let s = all_zero_signed(&strides[count..]);
+    let s = all_zero(&strides[count..]);
     e & (z & s)
 }
 
 // Whether a session's layout is one that planning accepts, laid out as a session has it.
 fn layout_right<'a>(
     numbers: Numbers,
-    extents: &'a [u64],
-    sizes: &'a [u64],
-    strides: &'a [i64],
+    extents: &'a [u64; 64],
+    sizes: &'a [u64; 8],
+    strides: &'a [i64; 512],
 ) -> bool
-    requires { (length extents.now ≡ 64) × ((length sizes.now ≡ 8) × (length strides.now ≡ 512)) }
     ensures { Decides result (LayoutRight numbers extents.now sizes.now strides.now) }
 {
     let rank = numbers.rank;
@@ -81,15 +83,22 @@ fn layout_right<'a>(
 }
 
 // The table of the ranks of a layout in arrays, written into one of zeros.
-fn table_into(numbers: Numbers, strides: &[i64], table: &mut [[u8; 64]; 8])
-    requires rank_bound { (numbers.rank ≤ 64) × ((numbers.operands ≤ 8) × (length strides.now ≡ 512)) }
+fn table_into<'a>(
+    numbers: Numbers,
+    extents: &'a [u64; 64],
+    strides: &'a [i64; 512],
+    table: &mut [[u8; 64]; 8],
+)
+    requires few { (numbers.rank ≤ 64) × (numbers.operands ≤ 8) }
     requires table_value { table.old ≡ replicate 8 (replicate 64 0) }
     ensures { TableOf (take (numbers.rank * numbers.operands) strides.now) numbers.rank numbers.operands table.new }
 {
-    let rank = numbers.rank;
-    let operands = numbers.operands;
-    let count = rank * operands;
-    rank_table_into(&strides[..count], rank, operands, table);
+    let layout = Layout {
+        extents: &extents[..numbers.rank],
+        strides: &strides[..numbers.rank * numbers.operands],
+        operands: numbers.operands,
+    };
+    rank_table_into(layout, table);
 }
 
 // Whether a row of ranks is that of the table.
@@ -105,9 +114,8 @@ fn row_right<'a>(row: &'a [u8; 64], ranks: &'a [u64]) -> bool
 }
 
 // Whether the ranks are those of the table.
-fn ranks_right<'a>(table: &'a [[u8; 64]; 8], operands: usize, ranks: &'a [u64]) -> bool
+fn ranks_right<'a>(table: &'a [[u8; 64]; 8], operands: usize, ranks: &'a [u64; 512]) -> bool
     requires operands_bound { (operands ≤ 8) × Even table.now }
-    requires ranks_len { length ranks.now ≡ 512 }
     ensures { Decides result (ranks.now ≡ ranks_in table.now operands) }
 {
     let mut alike = true;
@@ -124,8 +132,8 @@ fn ranks_right<'a>(table: &'a [[u8; 64]; 8], operands: usize, ranks: &'a [u64]) 
 // Whether the weights are what the layout gives.
 fn weights_right<'a>(
     numbers: Numbers,
-    extents: &'a [u64],
-    strides: &'a [i64],
+    extents: &'a [u64; 64],
+    strides: &'a [i64; 512],
     table: &'a [[u8; 64]; 8],
     weights: &'a [u64; 64],
 ) -> bool
@@ -137,56 +145,48 @@ fn weights_right<'a>(
 }
 
 // Whether a row of a plan's strides has an operand's strides of these axes, and 0 behind them. The operand's strides start at `from`.
-fn row_picked<'a>(
-    strides: &'a [i64],
-    from: usize,
-    axes: &'a [u8; 64],
-    count: usize,
-    row: &'a [i64],
-) -> bool
-    requires axes_len { (length axes.now ≡ 64) × ((count ≤ 64) × (length row.now ≡ 64)) }
-    requires by_index { (j : ℕ) → j < count → from + get_or axes.now j 0 < length strides.now }
-    ensures { result ≡ same_ints (padded 64 (pos 0) (pick (pos 0) (drop from strides.now) (take count axes.now))) row.now }
+fn row_picked<'a>(strides: &'a [i64], from: usize, axes: &'a [u8], row: &'a [i64]) -> bool
+    requires few { (length axes.now ≤ 64) × (length row.now ≡ 64) }
+    requires by_index { (j : ℕ) → j < length axes.now → from + get_or axes.now j 0 < length strides.now }
+    ensures { result ≡ same_ints (padded 64 (pos 0) (pick (pos 0) (drop from strides.now) axes.now)) row.now }
 {
     let mut differing: i64 = 0;
-    for i in 0..count {
+    for i in 0..axes.len() {
         let axis = axes[i] as usize;
         differing |= strides[from + axis] ^ row[i];
     }
-    let rest = all_zero_signed(&row[count..]);
+    let rest = all_zero(&row[axes.len()..]);
     (differing == 0) & rest
 }
 
 // Whether a plan's strides are those of these axes.
-fn strides_right<'a>(
-    strides: &'a [i64],
-    pitch: usize,
-    operands: usize,
-    axes: &'a [u8; 64],
-    count: usize,
-    plan_strides: &'a [i64],
-) -> bool
-    requires operands_bound { (operands ≤ 8) × (operands * pitch ≤ length strides.now) }
-    requires axes_len { (length axes.now ≡ 64) × ((count ≤ 64) × (length plan_strides.now ≡ 512)) }
-    requires by_index { (j : ℕ) → j < count → get_or axes.now j 0 < pitch }
-    ensures { result ≡ same_ints (padded 512 (pos 0) (pick_rows strides.now pitch (take count axes.now) operands)) plan_strides.now }
+fn strides_right(rows: Rows, axes: &[u8], plan_strides: &[i64; 512]) -> bool
+    requires few { (rows.operands ≤ 8) × (length axes.now ≤ 64) }
+    requires by_index { (j : ℕ) → j < length axes.now → get_or axes.now j 0 < rows.pitch }
+    ensures { result ≡ same_ints (padded 512 (pos 0)
+        (pick_rows rows.entry.strides.now rows.entry.pitch axes.now rows.entry.operands)) plan_strides.now }
 {
     let mut alike = true;
-    for k in 0..operands {
+    for k in 0..rows.operands {
         let start = k * 64;
         let end = start + 64;
-        alike &= row_picked(strides, k * pitch, axes, count, &plan_strides[start..end]);
+        alike &= row_picked(
+            rows.strides,
+            k * rows.pitch,
+            axes,
+            &plan_strides[start..end],
+        );
     }
-    let behind = operands * 64;
-    let rest = all_zero_signed(&plan_strides[behind..]);
+    let behind = rows.operands * 64;
+    let rest = all_zero(&plan_strides[behind..]);
     alike & rest
 }
 
 // Whether the plan's axes are what the layout gives, where the weights are.
 fn axes_right<'a>(
     numbers: Numbers,
-    extents: &'a [u64],
-    strides: &'a [i64],
+    extents: &'a [u64; 64],
+    strides: &'a [i64; 512],
     weights: &'a [u64; 64],
     plan_extents: &'a [u64; 64],
     plan_strides: &'a [i64; 512],
@@ -195,32 +195,31 @@ fn axes_right<'a>(
     ensures { Decides result ((numbers.plan_operands ≡ numbers.operands) × AxesAt numbers extents.now strides.now
         numbers.plan_rank weights.now plan_extents.now plan_strides.now) }
 {
-    let rank = numbers.rank;
-    let operands = numbers.operands;
-    let count = rank * operands;
-    let own = &strides[..count];
+    let layout = Layout {
+        extents: &extents[..numbers.rank],
+        strides: &strides[..numbers.rank * numbers.operands],
+        operands: numbers.operands,
+    };
     let mut e = [0u64; 64];
     let mut axes = [0u8; 64];
     let found = stays_by_into(
-        &extents[..rank],
-        own,
-        operands,
+        layout,
         purpose_of(numbers.purpose, numbers.chosen),
         weights,
         &mut e,
         &mut axes,
     );
-    let counts = (numbers.plan_operands == operands) & (found == numbers.plan_rank);
+    let counts = (numbers.plan_operands == numbers.operands) & (found == numbers.plan_rank);
     let loops = same(&e, plan_extents);
-    let moves = strides_right(own, rank, operands, &axes, found, plan_strides);
+    let moves = strides_right(layout.rows(), &axes[..found], plan_strides);
     counts & (loops & moves)
 }
 
 // Whether costs and blocks are what the layout gives, where the plan's axes are.
 fn blocks_right<'a>(
     numbers: Numbers,
-    extents: &'a [u64],
-    sizes: &'a [u64],
+    extents: &'a [u64; 64],
+    sizes: &'a [u64; 8],
     plan_extents: &'a [u64; 64],
     plan_strides: &'a [i64; 512],
     costs: &'a [u64; 64],
@@ -237,115 +236,61 @@ fn blocks_right<'a>(
 }
 
 // Whether everything that is kept beside the ranks is what the layout gives.
-fn kept_right<'a>(
-    numbers: Numbers,
-    extents: &'a [u64; 64],
-    sizes: &'a [u64; 8],
-    strides: &'a [i64; 512],
-    table: &'a [[u8; 64]; 8],
-    weights: &'a [u64; 64],
-    costs: &'a [u64; 64],
-    plan_extents: &'a [u64; 64],
-    blocks: &'a [u64; 64],
-    plan_strides: &'a [i64; 512],
-) -> bool
-    requires layout_right { LayoutRight numbers extents.now sizes.now strides.now }
-    requires table_of { TableOf (take (numbers.rank * numbers.operands) strides.now) numbers.rank numbers.operands table.now }
-    ensures { let g = given_in numbers extents.now sizes.now strides.now in
-        Decides result (Keeps g numbers weights.now costs.now plan_extents.now blocks.now plan_strides.now) }
+fn kept_right(session: &LentSession, table: &[[u8; 64]; 8]) -> bool
+    requires layout_right { LaidRight session.now }
+    requires table_of { Tables session.now table.now }
+    ensures { Decides result (KeepsRight session.now) }
 {
-    weights_right(numbers, extents, strides, table, weights)
-        && (axes_right(
-            numbers,
-            extents,
-            strides,
-            weights,
-            plan_extents,
-            plan_strides,
-        ) && blocks_right(
-            numbers,
-            extents,
-            sizes,
-            plan_extents,
-            plan_strides,
-            costs,
-            blocks,
-        ))
+    weights_right(
+        session.numbers,
+        session.extents,
+        session.strides,
+        table,
+        session.weights,
+    ) && (axes_right(
+        session.numbers,
+        session.extents,
+        session.strides,
+        session.weights,
+        session.plan_extents,
+        session.plan_strides,
+    ) && blocks_right(
+        session.numbers,
+        session.extents,
+        session.sizes,
+        session.plan_extents,
+        session.plan_strides,
+        session.costs,
+        session.blocks,
+    ))
 }
 
 // Whether everything else in a session is what its layout gives, where that is right. The table of its ranks is left in `table`, which is lent
 // as zeros.
-fn parts_right<'a>(
-    numbers: Numbers,
-    extents: &'a [u64; 64],
-    sizes: &'a [u64; 8],
-    strides: &'a [i64; 512],
-    ranks: &'a [u64; 512],
-    weights: &'a [u64; 64],
-    costs: &'a [u64; 64],
-    plan_extents: &'a [u64; 64],
-    blocks: &'a [u64; 64],
-    plan_strides: &'a [i64; 512],
-    table: &mut [[u8; 64]; 8],
-) -> bool
+fn parts_right(session: &LentSession, table: &mut [[u8; 64]; 8]) -> bool
     requires table_value { table.old ≡ replicate 8 (replicate 64 0) }
-    requires layout_right { LayoutRight numbers extents.now sizes.now strides.now }
-    ensures told { Decides result (Right (session_at numbers extents.now sizes.now strides.now ranks.now
-        weights.now costs.now plan_extents.now blocks.now plan_strides.now)) }
-    ensures table { result ≡ true
-        → TableOf (take (numbers.rank * numbers.operands) strides.now) numbers.rank numbers.operands table.new }
+    requires layout_right { LaidRight session.now }
+    ensures told { Decides result (Right session.now) }
+    ensures table { result ≡ true → Tables session.now table.new }
 {
-    table_into(numbers, strides, &mut *table);
-    ranks_right(table, numbers.operands, ranks)
-        && kept_right(
-            numbers,
-            extents,
-            sizes,
-            strides,
-            table,
-            weights,
-            costs,
-            plan_extents,
-            blocks,
-            plan_strides,
-        )
+    let numbers = session.numbers;
+    table_into(numbers, session.extents, session.strides, &mut *table);
+    ranks_right(table, numbers.operands, session.ranks) && kept_right(session, table)
 }
 
 // Whether a session is one that beginnings and accepted calls lead to. If it is, the table of its ranks is left in `table`, which is lent as
 // zeros.
-pub fn holds<'a>(
-    numbers: Numbers,
-    extents: &'a [u64; 64],
-    sizes: &'a [u64; 8],
-    strides: &'a [i64; 512],
-    ranks: &'a [u64; 512],
-    weights: &'a [u64; 64],
-    costs: &'a [u64; 64],
-    plan_extents: &'a [u64; 64],
-    blocks: &'a [u64; 64],
-    plan_strides: &'a [i64; 512],
-    table: &mut [[u8; 64]; 8],
-) -> bool
+pub fn holds(session: &LentSession, table: &mut [[u8; 64]; 8]) -> bool
     requires { table.old ≡ replicate 8 (replicate 64 0) }
-    ensures told { Decides result (Right (session_at numbers extents.now sizes.now strides.now ranks.now
-        weights.now costs.now plan_extents.now blocks.now plan_strides.now)) }
-    ensures table { result ≡ true
-        → TableOf (take (numbers.rank * numbers.operands) strides.now) numbers.rank numbers.operands table.new }
+    ensures told { Decides result (Right session.now) }
+    ensures table { result ≡ true → Tables session.now table.new }
 {
-    layout_right(numbers, extents, sizes, strides)
-        && parts_right(
-            numbers,
-            extents,
-            sizes,
-            strides,
-            ranks,
-            weights,
-            costs,
-            plan_extents,
-            blocks,
-            plan_strides,
-            table,
-        )
+    layout_right(
+        session.numbers,
+        session.extents,
+        session.sizes,
+        session.strides,
+    ) && parts_right(session, table)
 }
 
 // Rows 20, 3 and 6 of an operand that is to join a layout of these extents.
@@ -373,10 +318,10 @@ fn check_new<'a>(
 // The same of the layout in a session's arrays.
 pub fn check_joining<'a>(
     numbers: Numbers,
-    extents: &'a [u64],
+    extents: &'a [u64; 64],
     joining: &'a [i64],
 ) -> Result<(), Refusal>
-    requires { (numbers.rank ≤ 64) × (length extents.now ≡ 64) }
+    requires { numbers.rank ≤ 64 }
     ensures { result ≡ answered (refused_by (new_rows numbers.rank numbers.operands (take numbers.rank extents.now) joining.now)) }
 {
     let rank = numbers.rank;

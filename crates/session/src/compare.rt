@@ -1,7 +1,6 @@
-// Whether arrays hold the same numbers, or 0 alone. The bits that differ are gathered over all places, and looked at once, behind the loop: so
+// Whether arrays hold the same numbers. The bits that differ are gathered over all places, and looked at once, behind the loop: so
 // the compiler takes several places in one step.
 ghost use Rattle.std.specs.Prelude.{◌≡◌, length};
-ghost use Rattle.strided.specs.Step.{blank, blank_z};
 ghost use Rattle.session.specs.Session.{same_nats};
 
 // Whether two slices of one length are the same.
@@ -15,27 +14,4 @@ pub fn same<'a>(a: &'a [u64], b: &'a [u64]) -> bool
         differing |= a[i] ^ b[i];
     }
     differing == 0
-}
-
-// Whether each number is 0.
-pub fn all_zero(numbers: &[u64]) -> bool
-    ensures { result ≡ blank numbers.now }
-{
-    let mut seen: u64 = 0;
-    for n in numbers {
-        seen |= *n;
-    }
-    seen == 0
-}
-
-// The same of signed numbers.
-// Kept: one function over both types needs a trait of their bits with its law, which is no plainer.
-pub fn all_zero_signed(numbers: &[i64]) -> bool
-    ensures { result ≡ blank_z numbers.now }
-{
-    let mut seen: i64 = 0;
-    for n in numbers {
-        seen |= *n;
-    }
-    seen == 0
 }

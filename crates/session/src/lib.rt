@@ -2,12 +2,13 @@
 // keeps the ranks and weights of the layout's axes, the costs of the plan's axes, and the plan.
 #![tactic(auto)]
 
-ghost use Rattle.std.specs.Prelude.{◌≡◌, ◌*◌, take, replicate, Ok};
+ghost use Rattle.std.specs.Prelude.{◌≡◌, replicate, Ok};
 ghost use Rattle.strided.specs.Refusals.{refused_by, answered};
 ghost use Rattle.session.specs.Session.{join_rows, leave_rows};
-ghost use Rattle.session.specs.Made.{TableOf, session_at};
+ghost use Rattle.session.specs.Made.{Tables};
 
 use check::{check_joining, check_leaving, holds};
+use std::marker::Model;
 use strided::{Machine, Plan, Refusal};
 
 pub mod check;
@@ -33,8 +34,7 @@ pub struct Session {
     pub plan: Plan,
 }
 
-// The numbers of a session. The rest of it are arrays, which its functions are lent one by one.
-// Kept: in a struct of the lent arrays each has to be copied into a variable before a slice of it is lent, which is no plainer.
+// The numbers of a session. The rest of it are arrays.
 #[derive(Clone, Copy)]
 pub struct Numbers {
     pub purpose: u64,
@@ -46,82 +46,60 @@ pub struct Numbers {
     pub plan_operands: usize,
 }
 
+// A session whose arrays are lent. A contract sees it as the session.
+// Kept: what a call changes is lent array by array, as C lends it: a struct of `&mut` fields says in each contract which of them stay.
+#[derive(Drop)]
+pub struct LentSession<'a> {
+    pub numbers: Numbers,
+    pub extents: &'a [u64; 64],
+    pub sizes: &'a [u64; 8],
+    pub strides: &'a [i64; 512],
+    pub ranks: &'a [u64; 512],
+    pub weights: &'a [u64; 64],
+    pub costs: &'a [u64; 64],
+    pub plan_extents: &'a [u64; 64],
+    pub blocks: &'a [u64; 64],
+    pub plan_strides: &'a [i64; 512],
+}
+
+impl<'a> Model for LentSession<'a> {
+    ghost use Rattle.session.specs.declared.Session.{Session};
+    ghost use Rattle.session.specs.Made.{session_at};
+
+    ghost Value = { Session };
+
+    ghost view = { λ l. session_at l.numbers l.extents.now l.sizes.now l.strides.now l.ranks.now
+        l.weights.now l.costs.now l.plan_extents.now l.blocks.now l.plan_strides.now };
+}
+
 // What joining is refused for: rows 10, 20, 3 and 6. The table of the session's ranks is left in `table`, which is lent as zeros.
 pub fn check_join<'a>(
-    numbers: Numbers,
-    extents: &'a [u64; 64],
-    sizes: &'a [u64; 8],
-    strides: &'a [i64; 512],
-    ranks: &'a [u64; 512],
-    weights: &'a [u64; 64],
-    costs: &'a [u64; 64],
-    plan_extents: &'a [u64; 64],
-    blocks: &'a [u64; 64],
-    plan_strides: &'a [i64; 512],
+    session: &LentSession,
     joining: &'a [i64],
     table: &mut [[u8; 64]; 8],
 ) -> Result<(), Refusal>
     requires { table.old ≡ replicate 8 (replicate 64 0) }
-    ensures told { let s = session_at numbers extents.now sizes.now strides.now ranks.now
-        weights.now costs.now plan_extents.now blocks.now plan_strides.now in
-        result ≡ answered (refused_by (join_rows s joining.now)) }
-    ensures table { result ≡ Ok tt
-        → TableOf (take (numbers.rank * numbers.operands) strides.now) numbers.rank numbers.operands table.new }
+    ensures told { result ≡ answered (refused_by (join_rows session.now joining.now)) }
+    ensures table { result ≡ Ok tt → Tables session.now table.new }
 {
-    if !holds(
-        numbers,
-        extents,
-        sizes,
-        strides,
-        ranks,
-        weights,
-        costs,
-        plan_extents,
-        blocks,
-        plan_strides,
-        table,
-    ) {
+    if !holds(session, table) {
         return Err(Refusal::State);
     }
-    check_joining(numbers, extents, joining)
+    check_joining(session.numbers, session.extents, joining)
 }
 
 // What leaving is refused for: rows 10 and 21. The table is left as in joining.
-pub fn check_leave<'a>(
-    numbers: Numbers,
-    extents: &'a [u64; 64],
-    sizes: &'a [u64; 8],
-    strides: &'a [i64; 512],
-    ranks: &'a [u64; 512],
-    weights: &'a [u64; 64],
-    costs: &'a [u64; 64],
-    plan_extents: &'a [u64; 64],
-    blocks: &'a [u64; 64],
-    plan_strides: &'a [i64; 512],
+pub fn check_leave(
+    session: &LentSession,
     operand: u64,
     table: &mut [[u8; 64]; 8],
 ) -> Result<(), Refusal>
     requires { table.old ≡ replicate 8 (replicate 64 0) }
-    ensures told { let s = session_at numbers extents.now sizes.now strides.now ranks.now
-        weights.now costs.now plan_extents.now blocks.now plan_strides.now in
-        result ≡ answered (refused_by (leave_rows s operand)) }
-    ensures table { result ≡ Ok tt
-        → TableOf (take (numbers.rank * numbers.operands) strides.now) numbers.rank numbers.operands table.new }
+    ensures told { result ≡ answered (refused_by (leave_rows session.now operand)) }
+    ensures table { result ≡ Ok tt → Tables session.now table.new }
 {
-    if !holds(
-        numbers,
-        extents,
-        sizes,
-        strides,
-        ranks,
-        weights,
-        costs,
-        plan_extents,
-        blocks,
-        plan_strides,
-        table,
-    ) {
+    if !holds(session, table) {
         return Err(Refusal::State);
     }
-    check_leaving(numbers.operands, operand)
+    check_leaving(session.numbers.operands, operand)
 }

@@ -11,22 +11,26 @@ ghost use Rattle.laws.specs.Cut.Picks.{top_of};
 ghost use Rattle.laws.specs.Cut.Jump.{clipped_over};
 ghost use Rattle.laws.specs.Cut.Level.{Least};
 
-use region::{AllowedMachine, Tail, memory_region};
+use region::{Tail, memory_region};
 
-// The greatest (block - 1) * cost over the blocks above 1 of the tail whose axis has a cost; the last wins ties. Any other score is 0, and the
-// score to reach is 1 at first.
-fn last_argmax_weighted<'a>(
-    tail: Tail,
-    blocks: &'a [u64; 64],
+// The blocks of a tail beside the costs of its axes. Their scores, (block - 1) * cost, fit 64 bits.
+#[derive(Clone, Copy)]
+struct Scores<'a> {
+    tail: Tail<'a>,
     costs: &'a [u64; 64],
-) -> Option<usize>
-    requires { ScoresFit tail.rank costs.now blocks.now }
-    ensures { result ≡ greatest_score blocks.now costs.now tail.offset (axes tail) }
+    blocks: &'a [u64; 64],
+    ghost fit: { ScoresFit tail.rank costs.now blocks.now },
+}
+
+// The greatest score over the blocks above 1 of the tail whose axis has a cost; the last wins ties. Any other score is 0, and the
+// score to reach is 1 at first.
+fn last_argmax_weighted(scores: Scores) -> Option<usize>
+    ensures { let s = scores.entry in result ≡ greatest_score s.blocks.now s.costs.now s.tail.offset (axes s.tail) }
 {
     let mut best = None;
     let mut top: u64 = 1;
-    for i in tail.offset..tail.rank {
-        let s = blocks[i].saturating_sub(1) * costs[i];
+    for i in scores.tail.offset..scores.tail.rank {
+        let s = scores.blocks[i].saturating_sub(1) * scores.costs[i];
         if s >= top {
             best = Some(i);
             top = s;
@@ -36,21 +40,18 @@ fn last_argmax_weighted<'a>(
 }
 
 // While the region is at least twice the cache, the picked block is halved, rounding up.
-fn halve<'a>(
-    machine: AllowedMachine,
-    tail: Tail,
-    blocks: &mut [u64; 64],
-    bytes: &'a [u32; 512],
-    costs: &'a [u64; 64],
-)
+// Kept: here, below and in block the clause on the scores. The blocks are lent to be changed, and a struct that held them as `&mut` would ask for
+// clauses on its references in each contract.
+fn halve<'a>(tail: Tail<'a>, costs: &'a [u64; 64], blocks: &mut [u64; 64])
     requires { ScoresFit tail.rank costs.now blocks.old }
-    ensures { blocks.new ≡ halved machine.numbers bytes.now tail.operands costs.now tail.offset (axes tail) blocks.old }
+    ensures { let t = tail.entry in blocks.new ≡ halved t.machine.numbers t.bytes.now t.operands costs.now t.offset (axes t) blocks.old }
 {
-    loop {
-        if memory_region(machine, tail, blocks, bytes) < 2 * machine.numbers.cache {
-            return;
-        }
-        let Some(i) = last_argmax_weighted(tail, blocks, costs) else {
+    while 2 * tail.machine.numbers.cache <= memory_region(tail, blocks) {
+        let Some(i) = last_argmax_weighted(Scores {
+            tail,
+            costs,
+            blocks,
+        }) else {
             return;
         };
         blocks[i] = blocks[i].div_ceil(2);
@@ -58,21 +59,16 @@ fn halve<'a>(
 }
 
 // While the region is above the cache, the picked block loses 1.
-fn lessen<'a>(
-    machine: AllowedMachine,
-    tail: Tail,
-    blocks: &mut [u64; 64],
-    bytes: &'a [u32; 512],
-    costs: &'a [u64; 64],
-)
+fn lessen<'a>(tail: Tail<'a>, costs: &'a [u64; 64], blocks: &mut [u64; 64])
     requires { ScoresFit tail.rank costs.now blocks.old }
-    ensures { blocks.new ≡ lessened machine.numbers bytes.now tail.operands costs.now tail.offset (axes tail) blocks.old }
+    ensures { let t = tail.entry in blocks.new ≡ lessened t.machine.numbers t.bytes.now t.operands costs.now t.offset (axes t) blocks.old }
 {
-    loop {
-        if memory_region(machine, tail, blocks, bytes) <= machine.numbers.cache {
-            return;
-        }
-        let Some(i) = last_argmax_weighted(tail, blocks, costs) else {
+    while tail.machine.numbers.cache < memory_region(tail, blocks) {
+        let Some(i) = last_argmax_weighted(Scores {
+            tail,
+            costs,
+            blocks,
+        }) else {
             return;
         };
         blocks[i] -= 1;
@@ -80,19 +76,13 @@ fn lessen<'a>(
 }
 
 // Every score above `level` in the tail is taken down to it or below, in one step. What becomes of each block is written into `out`.
-fn clip_into<'a>(
-    tail: Tail,
-    blocks: &'a [u64; 64],
-    costs: &'a [u64; 64],
-    level: u64,
-    out: &mut [u64; 64],
-)
-    requires { ScoresFit tail.rank costs.now blocks.now }
-    ensures { out.new ≡ clipped_over level costs.now tail.offset (axes tail) blocks.now out.old }
+fn clip_into(scores: Scores, level: u64, out: &mut [u64; 64])
+    ensures { let s = scores.entry in out.new ≡ clipped_over level s.costs.now s.tail.offset (axes s.tail) s.blocks.now out.old }
 {
+    let tail = scores.tail;
     for i in tail.offset..tail.rank {
-        let x = blocks[i];
-        let c = costs[i];
+        let x = scores.blocks[i];
+        let c = scores.costs[i];
         out[i] = if level < x.saturating_sub(1) * c {
             level / c + 1
         } else {
@@ -102,37 +92,31 @@ fn clip_into<'a>(
 }
 
 // The greatest score of the tail.
-fn top_score<'a>(tail: Tail, blocks: &'a [u64; 64], costs: &'a [u64; 64]) -> u64
-    requires { ScoresFit tail.rank costs.now blocks.now }
-    ensures { result ≡ top_of (score blocks.now costs.now)
-        (greatest_score blocks.now costs.now tail.offset (axes tail)) }
+fn top_score(scores: Scores) -> u64
+    ensures { let s = scores.entry in result
+        ≡ top_of (score s.blocks.now s.costs.now) (greatest_score s.blocks.now s.costs.now s.tail.offset (axes s.tail)) }
 {
-    let Some(i) = last_argmax_weighted(tail, blocks, costs) else {
+    let Some(i) = last_argmax_weighted(scores) else {
         return 0;
     };
-    blocks[i].saturating_sub(1) * costs[i]
+    scores.blocks[i].saturating_sub(1) * scores.costs[i]
 }
 
 // The score to jump to: the least at which the region of the clipped blocks is still above the cache. Halving the way to it takes 64 turns at
 // most.
-fn level<'a>(
-    machine: AllowedMachine,
-    tail: Tail,
-    blocks: &'a [u64; 64],
-    bytes: &'a [u32; 512],
-    costs: &'a [u64; 64],
-) -> u64
-    requires scores { ScoresFit tail.rank costs.now blocks.now }
-    requires cache_bound { machine.numbers.cache < region machine.numbers bytes.now tail.operands blocks.now tail.offset (axes tail) }
-    ensures { Least machine.numbers bytes.now tail.operands costs.now tail.offset (axes tail) blocks.now result }
+fn level(scores: Scores) -> u64
+    requires { let t = scores.tail in t.machine.numbers.cache
+        < region t.machine.numbers t.bytes.now t.operands scores.blocks.now t.offset (axes t) }
+    ensures { let s = scores.entry in let t = s.tail in
+        Least t.machine.numbers t.bytes.now t.operands s.costs.now t.offset (axes t) s.blocks.now result }
 {
-    let mut t = *blocks;
+    let mut t = *scores.blocks;
     let mut lo: u64 = 0;
-    let mut hi = top_score(tail, blocks, costs);
+    let mut hi = top_score(scores);
     while lo < hi {
         let mid = lo + (hi - lo) / 2;
-        clip_into(tail, blocks, costs, mid, &mut t);
-        if machine.numbers.cache < memory_region(machine, tail, &t, bytes) {
+        clip_into(scores, mid, &mut t);
+        if scores.tail.machine.numbers.cache < memory_region(scores.tail, &t) {
             hi = mid;
         } else {
             lo = mid + 1;
@@ -142,37 +126,34 @@ fn level<'a>(
 }
 
 // As `lessen`, with one jump in place of the many single steps before the last few: below the jump's score each axis has at most one more.
-fn lessen_far<'a>(
-    machine: AllowedMachine,
-    tail: Tail,
-    blocks: &mut [u64; 64],
-    bytes: &'a [u32; 512],
-    costs: &'a [u64; 64],
-)
+fn lessen_far<'a>(tail: Tail<'a>, costs: &'a [u64; 64], blocks: &mut [u64; 64])
     requires { ScoresFit tail.rank costs.now blocks.old }
-    ensures { blocks.new ≡ lessened machine.numbers bytes.now tail.operands costs.now tail.offset (axes tail) blocks.old }
+    ensures { let t = tail.entry in blocks.new ≡ lessened t.machine.numbers t.bytes.now t.operands costs.now t.offset (axes t) blocks.old }
 {
-    if memory_region(machine, tail, blocks, bytes) <= machine.numbers.cache {
+    if memory_region(tail, blocks) <= tail.machine.numbers.cache {
         return;
     }
-    let s = level(machine, tail, blocks, bytes, costs);
+    let s = level(Scores {
+        tail,
+        costs,
+        blocks,
+    });
     let mut t = *blocks;
-    clip_into(tail, blocks, costs, s, &mut t);
+    let whole = Scores {
+        tail,
+        costs,
+        blocks,
+    };
+    clip_into(whole, s, &mut t);
     *blocks = t;
-    lessen(machine, tail, blocks, bytes, costs);
+    lessen(tail, costs, blocks);
 }
 
 // The blocks of the tail, halved and then lessened.
-pub fn shrink<'a>(
-    machine: AllowedMachine,
-    tail: Tail,
-    blocks: &mut [u64; 64],
-    bytes: &'a [u32; 512],
-    costs: &'a [u64; 64],
-)
+pub fn shrink<'a>(tail: Tail<'a>, costs: &'a [u64; 64], blocks: &mut [u64; 64])
     requires { ScoresFit tail.rank costs.now blocks.old }
-    ensures { blocks.new ≡ shrunk machine.numbers bytes.now tail.operands costs.now tail.offset (axes tail) blocks.old }
+    ensures { let t = tail.entry in blocks.new ≡ shrunk t.machine.numbers t.bytes.now t.operands costs.now t.offset (axes t) blocks.old }
 {
-    halve(machine, tail, blocks, bytes, costs);
-    lessen_far(machine, tail, blocks, bytes, costs);
+    halve(tail, costs, blocks);
+    lessen_far(tail, costs, blocks);
 }

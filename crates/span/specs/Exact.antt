@@ -11,9 +11,8 @@ use Rattle.strided.specs.Layout.{Within, has_zero, NoZero, dot, reach, reach_dow
 use Rattle.laws.specs.Base.Tests.{and_both, both_and}
 use Rattle.laws.specs.Base.Layouts.{within-total, total_nozero}
 use Rattle.laws.specs.Refusals.Zeros.{no_zero_of, no_zero_test}
-use Rattle.laws.specs.Walk.Row9.{below_of, below-reach}
+use Rattle.laws.specs.Walk.Row9.{below_of, below-reach, offset_is, high_is, at_least, at-greatest}
 use Rattle.span.specs.Span.{in_cells, Outside, outside}
-use Rattle.span.specs.Ends.{offset_is, high_is, at_least, at-greatest}
 
 -- between two cells there are cells
 between : (z : ℤ) (n m k : ℕ) → in_cells n z ≡ true → in_cells n (z +ℤ pos m) ≡ true → k ≤ m → in_cells n (z +ℤ pos k) ≡ true

@@ -1,5 +1,4 @@
 -- Whether some cell of an operand lies outside the cells that are lent: the claim over indices, the test, and that the two are one.
 pub mod Span
 pub mod Ways
-pub mod Ends
 pub mod Exact

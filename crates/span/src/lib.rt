@@ -10,6 +10,7 @@ use layout::has_zero;
 use layout::sizes::reach_of;
 
 // The part of an axis's way that lies below the start.
+// Kept: the clause on the way. Its two numbers come out of two lists, and a struct of them would be made at each axis for this one call.
 fn down_along(extent: u64, stride: i64) -> u64
     requires { (0 < extent) × ((extent - 1) * nat_abs stride < 2 ^ 63) }
     ensures { result ≡ down_term extent stride }
@@ -45,9 +46,5 @@ pub fn cell_outside<'a>(extents: &'a [u64], strides: &'a [i64], start: i64, cell
     }
     let at = start as u64;
     let below = down_of(extents, strides);
-    if at < below {
-        return true;
-    }
-    let reach = reach_of(extents, strides);
-    cells <= at + (reach - below)
+    at < below || cells <= at + (reach_of(extents, strides) - below)
 }

@@ -4,7 +4,7 @@ use mathlib.Core.Path.{◌≡◌, refl, sym, ap, ap₂, ◌∙◌}
 use mathlib.Core.Bool.{Bool, true, false, cond, ◌&&◌, ◌||◌, not}
 use mathlib.Core.List.{List, [], ◌∷◌}
 use Rattle.std.specs.Prelude.{None, Some}
-use Prim.Native.Nat.{ℕ, zero, suc, ◌+◌, ◌-◌, ◌*◌, ◌<◌}
+use Prim.Native.Nat.{ℕ, zero, suc, ◌+◌, ◌-◌, ◌<◌}
 use native.Mathlib.Omega.{arith}
 use lib.Dec.{ltb, eqb}
 use lib.IntN.{ℤ, pos, ◌-ℤ◌}
@@ -15,9 +15,9 @@ use Rattle.strided.specs.Base.{some_of, run}
 use Rattle.strided.specs.Layout.{NoZero, Within, within, has_zero, dot}
 use Rattle.strided.specs.Refusals.{row5, row6, row9, leaves}
 use Rattle.strided.specs.Walk.{cut_axes}
-use Rattle.strided.specs.Begin.{plan_row, plan_rows, begin_refused}
-use Rattle.strided.specs.Step.{blank, blank_z, insideb, on_startb, zerosb, starts_from, is_none, may_begin, tidy}
-use Rattle.strided.specs.Memory.{plan_of, walk_of}
+use Rattle.strided.specs.Begin.{plan_extents, plan_row, plan_rows, begin_refused}
+use Rattle.strided.specs.Step.{blank, blank_z, insideb, on_startb, zerosb, starts_from, is_none, may_begin, tidy, plan_cut_axes}
+use Rattle.strided.specs.Memory.{walk_of}
 use Rattle.strided.specs.declared.Plan.{Plan}
 use Rattle.strided.specs.declared.Walk.{Walk}
 use Rattle.laws.specs.Base.Layouts.{true_within}
@@ -25,13 +25,13 @@ use Rattle.laws.specs.Base.Lists.{length_run, get_d_run}
 use Rattle.laws.specs.Base.Tests.{and_both}
 use Rattle.laws.specs.Refusals.Zeros.{no_zero_of}
 use Rattle.laws.specs.Walk.Machine.{length_starts}
-use Rattle.layout.specs.Laid.{row_at, Laid}
+use Rattle.layout.specs.Lent.{Whole, axes_long, row_long}
 use Rattle.states.specs.Starts.{leaves_at, some_leave, Begins}
 use Rattle.states.specs.Near.{Near}
-use Rattle.states.specs.Reaches.{standing, may_start, Arrays, reaches}
+use Rattle.states.specs.Reaches.{standing, may_start, reaches}
 use Rattle.states.proofs.Blanks.{within_inside, blank-zeros}
 use Rattle.states.proofs.Nearness.{near-row6, near-stays}
-use Rattle.states.proofs.Table.{laid, row6_is, cut-length}
+use Rattle.states.proofs.Table.{cut-length}
 
 -- tests that agree on the first n numbers
 some_same : (f g : ℕ → Bool) (n : ℕ) → ((k : ℕ) → k < n → f k ≡ g k) → some_of f 0 n ≡ some_of g 0 n
@@ -67,19 +67,22 @@ rest_none false false false r5 r6 r9 = refl
 
 -- where the counters may stand, by the tests that the code made
 
-module _ (es bs c : List ℕ) (l : length c ≡ length es) {ended : Bool} where
-  pub stands_ended : ended ≡ true → {t : Bool} → t ≡ blank c → t ≡ standing ended es bs c
+module _ (p : Plan) (c : List ℕ) where
+  abbrev at : List ℕ
+  at = take p.rank c
+
+  pub stands_ended : {ended : Bool} → length at ≡ length (plan_extents p) → ended ≡ true → {t : Bool} → t ≡ blank at → t ≡ standing ended p c
   unfolding standing
-  stands_ended h is = is ∙ blank-zeros es bs c l ∙ sym (rw h)
+  stands_ended {ended} l h is = is ∙ blank-zeros (plan_extents p) (take p.rank p.blocks) at l ∙ sym (rw h)
 
-  module _ (h : ended ≡ false) {t : Bool} (is : t ≡ within es c) where
-    pub stands_out : t ≡ false → false ≡ standing ended es bs c
+  module _ {ended : Bool} (h : ended ≡ false) {t : Bool} (is : t ≡ within (plan_extents p) at) where
+    pub stands_out : t ≡ false → false ≡ standing ended p c
     unfolding standing
-    stands_out g = sym (rw (h, sym (within_inside es bs c) ∙ sym is ∙ g))
+    stands_out g = sym (rw (h, sym (within_inside (plan_extents p) (take p.rank p.blocks) at) ∙ sym is ∙ g))
 
-    pub stands_on : t ≡ true → {d : Bool} → d ≡ on_startb (cut_axes es bs) c → d ≡ standing ended es bs c
+    pub stands_on : t ≡ true → {d : Bool} → d ≡ on_startb (plan_cut_axes p) at → d ≡ standing ended p c
     unfolding standing
-    stands_on g on = on ∙ sym (rw (h, sym (within_inside es bs c) ∙ sym is ∙ g))
+    stands_on g on = on ∙ sym (rw (h, sym (within_inside (plan_extents p) (take p.rank p.blocks) at) ∙ sym is ∙ g))
 
 -- what lies behind the count, as the code cuts it out
 rest_all : {A : Type 0} (n : ℕ) (l : List A) → take (length l - n) (drop n l) ≡ drop n l
@@ -92,88 +95,82 @@ module _ (c : List ℕ) (o : List ℤ) (n m : ℕ) {t : Bool} (is : t ≡ blank 
   pub tidy_last : t ≡ true → {d : Bool} → d ≡ blank_z (take (length o - m) (drop m o)) → d ≡ (blank (drop n c) && blank_z (drop m o))
   tidy_last h e = e ∙ ap blank_z (rest_all m o) ∙ sym (rw (sym (ap blank (rest_all n c)) ∙ sym is ∙ h))
 
-module _ (ended : Bool) (rank operands : ℕ) (e b : List ℕ) (s : List ℤ) (c : List ℕ) (o : List ℤ) (A : Arrays rank operands e b s c o) where
-  abbrev P : Plan
-  P = plan_of rank operands e b s
-
+module _ (ended : Bool) (p : Plan) (c : List ℕ) (o : List ℤ) (A : Whole p) (lc : length c ≡ 64) (lo : length o ≡ 8) where
   abbrev G : Walk
   G = walk_of ended c o
 
   abbrev es : List ℕ
-  es = take rank e
+  es = plan_extents p
 
   abbrev bs : List ℕ
-  bs = take rank b
+  bs = take p.rank p.blocks
 
   abbrev cs : List ℕ
-  cs = take rank c
+  cs = take p.rank c
 
   abbrev os : List ℤ
-  os = take operands o
+  os = take p.operands o
 
   abbrev zs : List ℤ
-  zs = starts_from (plan_rows P) os cs
+  zs = starts_from (plan_rows p) os cs
 
-  long : length es ≡ rank
-  long = sym (cut-length rank e (omega (arith, A.extents, A.axes)))
+  long : length es ≡ p.rank
+  long = axes_long A
 
   pub blocks_long : length bs ≡ length es
-  blocks_long = sym (cut-length rank b (omega (arith, A.blocks, A.axes))) ∙ sym long
+  blocks_long = sym (cut-length p.rank p.blocks (omega (arith, A.blocks_all, A.axes))) ∙ sym long
 
   pub counters_long : length cs ≡ length es
-  counters_long = sym (cut-length rank c (omega (arith, A.counters, A.axes))) ∙ sym long
+  counters_long = sym (cut-length p.rank c (omega (arith, lc, A.axes))) ∙ sym long
 
-  pub laid-here : Laid es s 64 operands
-  laid-here = laid rank operands e s [] A.extents A.strides A.axes A.few
+  pub rows_long : (k : ℕ) → k < p.operands → length (plan_row p k) ≡ length es
+  rows_long k h = row_long A k h ∙ sym long
 
-  rows-many : length (plan_rows P) ≡ operands
-  rows-many = length-map (run 0 operands) (plan_row P) ∙ length_run 0 operands
+  rows-many : length (plan_rows p) ≡ p.operands
+  rows-many = length-map (run 0 p.operands) (plan_row p) ∙ length_run 0 p.operands
 
-  offsets_long : length os ≡ operands
-  offsets_long = sym (cut-length operands o (omega (arith, A.offsets, A.few)))
+  offsets_long : length os ≡ p.operands
+  offsets_long = sym (cut-length p.operands o (omega (arith, lo, A.few)))
 
-  offsets_many : length os ≡ length (plan_rows P)
+  offsets_many : length os ≡ length (plan_rows p)
   offsets_many = offsets_long ∙ sym rows-many
 
-  row-at : (k : ℕ) → k < operands → get_or (plan_rows P) k [] ≡ row_at es s 64 k
-  row-at k h =
-      let y : 0 + k ≡ k = omega arith in
-      get_d_run (plan_row P) [] operands 0 k h ∙ ap (plan_row P) y ∙ ap (λ (n : ℕ). take n (drop (k * 64) s)) (sym long)
+  row-at : (k : ℕ) → k < p.operands → get_or (plan_rows p) k [] ≡ plan_row p k
+  row-at k h = let y : 0 + k ≡ k = omega arith in get_d_run (plan_row p) [] p.operands 0 k h ∙ ap (plan_row p) y
 
   -- row 9 of the starts that the offsets tell
-  row9-there : (row9 es operands (plan_row P) zs).applies ≡ some_leave es s cs o operands
+  row9-there : (row9 es p.operands (plan_row p) zs).applies ≡ some_leave p cs o
   unfolding some_leave leaves_at
-  row9-there = ap (λ (t : Bool). not (has_zero es) && t) (some_same _ _ operands same)
+  row9-there = ap (λ (t : Bool). not (has_zero es) && t) (some_same _ _ p.operands same)
     where
-      same : (k : ℕ) → k < operands → leaves es (plan_row P k) (get_or zs k (pos 0)) ≡ leaves es (row_at es s 64 k) (get_or o k (pos 0) -ℤ dot cs (row_at es s 64 k))
+      same : (k : ℕ) → k < p.operands → leaves es (plan_row p k) (get_or zs k (pos 0)) ≡ leaves es (plan_row p k) (get_or o k (pos 0) -ℤ dot cs (plan_row p k))
       same k h =
-          let z : get_or zs k (pos 0) ≡ get_or o k (pos 0) -ℤ dot cs (row_at es s 64 k) =
-          starts_at (plan_rows P) os cs k offsets_many (omega (arith, rows-many, h))
-          ∙ ap₂ (λ (x : ℤ) (ts : List ℤ). x -ℤ dot cs ts) (get_or-take operands o k (pos 0) h) (row-at k h) in
-          (λ i. leaves es (take (sym long i) (drop (k * 64) s)) (z i))
+          ap (leaves es (plan_row p k))
+          (starts_at (plan_rows p) os cs k offsets_many (omega (arith, rows-many, h))
+          ∙ ap₂ (λ (x : ℤ) (ts : List ℤ). x -ℤ dot cs ts) (get_or-take p.operands o k (pos 0) h) (row-at k h))
 
-  may_is : may_begin P zs ≡ (may_start es s operands && not (some_leave es s cs o operands))
+  may_is : may_begin p zs ≡ (may_start p && not (some_leave p cs o))
   unfolding begin_refused may_start
   may_is =
-      let n : operands ≡ 0 → ⊥ = λ q. absurd (omega (arith, A.one)) in
-      let one : ltb 64 rank ≡ false = le-ltb 64 rank A.axes in
-      let two : (eqb operands 0 || ltb 8 operands) ≡ false = rw (ne_eqb operands 0 n) (le-ltb 8 operands A.few) in
-      let eight : not (eqb (length zs) operands) ≡ false = ap not (eq-eqb (length zs) operands (length_starts (plan_rows P) os cs offsets_many ∙ rows-many)) in
+      let n : p.operands ≡ 0 → ⊥ = λ q. absurd (omega (arith, A.one)) in
+      let one : ltb 64 p.rank ≡ false = le-ltb 64 p.rank A.axes in
+      let two : (eqb p.operands 0 || ltb 8 p.operands) ≡ false = rw (ne_eqb p.operands 0 n) (le-ltb 8 p.operands A.few) in
+      let eight : not (eqb (length zs) p.operands) ≡ false = ap not (eq-eqb (length zs) p.operands (length_starts (plan_rows p) os cs offsets_many ∙ rows-many)) in
       rw (one, two, eight)
-      (rest_none (row5 es).applies (row6 es operands (plan_row P)).applies (row9 es operands (plan_row P) zs).applies _ _ _
-      ∙ ap₂ (λ (x y : Bool). (not (row5 es).applies && not x) && not y) (sym (row6_is rank operands e s [] A.extents A.strides A.axes A.few)) row9-there)
+      (rest_none (row5 es).applies (row6 es p.operands (plan_row p)).applies (row9 es p.operands (plan_row p) zs).applies _ _ _
+      ∙ ap (λ (y : Bool). (not (row5 es).applies && not (row6 es p.operands (plan_row p)).applies) && not y) row9-there)
 
   -- THE TEST, part by part
-  parts : reaches P G ≡ (tidy P G && (standing ended es bs cs && (may_start es s operands && not (some_leave es s cs o operands))))
+  parts : reaches p G ≡ (tidy p G && (standing ended p c && (may_start p && not (some_leave p cs o))))
   unfolding reaches standing
-  parts = rw (eq-eqb (length os) (length (plan_rows P)) offsets_many, may_is)
+  parts = rw (eq-eqb (length os) (length (plan_rows p)) offsets_many, may_is)
 
-  module _ {t : Bool} (t-is : t ≡ tidy P G) where
-    pub untidy : t ≡ false → false ≡ reaches P G
+  module _ {t : Bool} (t-is : t ≡ tidy p G) where
+    pub untidy : t ≡ false → false ≡ reaches p G
     untidy h = sym (parts ∙ rw (sym t-is ∙ h))
 
-    module _ (th : t ≡ true) {d : Bool} (d-is : d ≡ standing ended es bs cs) where
-      pub stands_not : d ≡ false → false ≡ reaches P G
+    module _ (th : t ≡ true) {d : Bool} (d-is : d ≡ standing ended p c) where
+      pub stands_not : d ≡ false → false ≡ reaches p G
       stands_not h = sym (parts ∙ rw (sym t-is ∙ th, sym d-is ∙ h))
 
       module _ (dh : d ≡ true) where
@@ -186,31 +183,30 @@ module _ (ended : Bool) (rank operands : ℕ) (e b : List ℕ) (s : List ℤ) (c
             go false q = true_within es cs (within_inside es bs cs ∙ (and_both (insideb (cut_axes es bs) cs) (on_startb (cut_axes es bs) cs) q).0)
 
         -- nothing is large: row 5 alone is left
-        pub near_last : Near es s o operands → {x : Bool} → x ≡ (row5 es).applies → not x ≡ reaches P G
+        pub near_last : Near p o → {x : Bool} → x ≡ (row5 es).applies → not x ≡ reaches p G
         unfolding may_start
         near_last n is =
-            let six : (row6 es operands (row_at es s 64)).applies ≡ false = near-row6 es s o operands (omega (arith, long, A.axes)) n in
-            let nine : some_leave es s cs o operands ≡ false = near-stays es s o operands (omega (arith, long, A.axes)) n cs laid-here (omega (arith, A.offsets, A.few)) within-here in
+            let six : (row6 es p.operands (plan_row p)).applies ≡ false = near-row6 p o (omega (arith, long, A.axes)) n in
+            let nine : some_leave p cs o ≡ false = near-stays p o (omega (arith, long, A.axes)) n cs rows_long (omega (arith, lo, A.few)) within-here in
             ap not is ∙ sym (parts ∙ rw (sym t-is ∙ th, sym d-is ∙ dh, six, nine) (alone (not (row5 es).applies)))
           where
             alone : (x : Bool) → ((x && true) && true) ≡ x
             alone true = refl
             alone false = refl
 
-        module _ {m : Bool} (m-is : m ≡ may_start es s operands) where
-          pub may-not : m ≡ false → false ≡ reaches P G
+        module _ {m : Bool} (m-is : m ≡ may_start p) where
+          pub may-not : m ≡ false → false ≡ reaches p G
           may-not h = sym (parts ∙ rw (sym t-is ∙ th, sym d-is ∙ dh, sym m-is ∙ h))
 
           module _ (mh : m ≡ true) where
-            pub leave_last : {l : Bool} → l ≡ some_leave es s cs o operands → not l ≡ reaches P G
+            pub leave_last : {l : Bool} → l ≡ some_leave p cs o → not l ≡ reaches p G
             leave_last is = ap not is ∙ sym (parts ∙ rw (sym t-is ∙ th, sym d-is ∙ dh, sym m-is ∙ mh))
 
-            pub begins_here : Begins es s cs o operands
+            pub begins_here : Begins p cs o
             unfolding may_start
             begins_here =
                 record {
-                  laid = laid-here;
-                  offsets = omega (arith, A.offsets, A.few);
+                  offsets = omega (arith, lo, A.few);
                   within = within-here;
-                  near = not-true _ (and_both (not (row5 es).applies) (not (row6 es operands (row_at es s 64)).applies) (sym m-is ∙ mh)).1;
+                  near = not-true _ (and_both (not (row5 es).applies) (not (row6 es p.operands (plan_row p)).applies) (sym m-is ∙ mh)).1;
                 }

@@ -3,12 +3,12 @@
 use mathlib.Core.Path.{◌≡◌, sym, ap, ◌∙◌, subst}
 use mathlib.Core.Bool.{Bool, true, false, cond, ◌&&◌, not}
 use mathlib.Core.List.{List}
-use Prim.Native.Nat.{ℕ, suc, ◌+◌, ◌-◌, ◌*◌, ◌^◌, ◌≤◌, ◌<◌}
+use Prim.Native.Nat.{ℕ, ◌+◌, ◌-◌, ◌*◌, ◌^◌, ◌≤◌, ◌<◌}
 use native.Mathlib.Nat.{mul-le-mul_right}
 use native.Mathlib.Numerals.{add-one}
 use native.Mathlib.Omega.{arith}
 use lib.IntN.{ℤ, pos, nat_abs, ◌+ℤ◌, ◌-ℤ◌}
-use lib.ListN.{length, get_or, take, drop, drop_of_length-le, length-take, length-drop}
+use lib.ListN.{length, get_or, drop, drop_of_length-le}
 use lib.Seq.{drop-cons}
 use lib.Signed.{lt_z}
 use mir.Syntax.{w64}
@@ -17,7 +17,8 @@ use Rattle.strided.specs.Layout.{in_i64, dot, reach}
 use Rattle.laws.specs.Base.Layouts.{within-at, within-length}
 use Rattle.laws.specs.Refusals.Reaches.{term_reach}
 use Rattle.laws.specs.Walk.Row9.{below_term, below_of, below-reach, leaves_at_lem}
-use Rattle.layout.specs.Laid.{row_at}
+use Rattle.strided.specs.Begin.{plan_extents, plan_row}
+use Rattle.strided.specs.declared.Plan.{Plan}
 use Rattle.states.specs.Starts.{leaves_at, Placed, StandsAt, Standing}
 use Rattle.states.proofs.Rooms.{sign_read}
 
@@ -104,53 +105,41 @@ module _ (es : List ℕ) (ts : List ℤ) (c : List ℕ) (p : Placed es ts c) whe
       let z : below_of (drop i es) (drop i ts) (drop i c) ≡ 0 = rw (drop_of_length-le es h) in
       omega (arith, z, l)
 
--- ---- one operand
+-- ---- one operand, whose strides are as many as the extents
 
-module _ (es : List ℕ) (ss : List ℤ) (c : List ℕ) (os : List ℤ) (k : ℕ) (p : StandsAt es ss c os k) where
+module _ (p : Plan) (c : List ℕ) (os : List ℤ) (k : ℕ) (h : StandsAt p c os k) (l : length (plan_row p k) ≡ length (plan_extents p)) where
+  abbrev es : List ℕ
+  es = plan_extents p
+
   abbrev ts : List ℤ
-  ts = row_at es ss 64 k
+  ts = plan_row p k
 
   pub placed : Placed es ts c
-  placed =
-      let a = length-take (length es) (drop (k * 64) ss) in
-      let b = length-drop (k * 64) ss in
-      record { long = omega (arith, a, b, p.laid); within = p.within; near = p.near }
+  placed = record { long = l; within = h.within; near = h.near }
 
-  -- as the code cuts the part out
-  pub placed_part : Placed es (take (k * 64 + length es - k * 64) (drop (k * 64) ss)) c
-  placed_part = subst (λ (n : ℕ). Placed es (take n (drop (k * 64) ss)) c) (let g : length es ≡ k * 64 + length es - k * 64 = omega arith in g) placed
-
-  module _ (u : ℕ) (u-part : u ≡ below_of es (take (k * 64 + length es - k * 64) (drop (k * 64) ss)) c) where
-    u_is : u ≡ below_of es ts c
-    u_is = u-part ∙ ap (λ (n : ℕ). below_of es (take n (drop (k * 64) ss)) c) (let g : k * 64 + length es - k * 64 ≡ length es = omega arith in g)
-
+  module _ (u : ℕ) (u_is : u ≡ below_of es ts c) where
     pub low_fits : u < 2 ^ 63
     low_fits = omega (arith, u_is, under_fits es ts c placed)
 
-    module _ (r : ℕ) (r-part : r ≡ reach es (take (k * 64 + length es - k * 64) (drop (k * 64) ss))) where
-      reach_is : r ≡ reach es ts
-      reach_is = r-part ∙ ap (λ (n : ℕ). reach es (take n (drop (k * 64) ss))) (let g : k * 64 + length es - k * 64 ≡ length es = omega arith in g)
-
+    module _ (r : ℕ) (reach_is : r ≡ reach es ts) where
       pub low_le : u ≤ r
-      low_le = omega (arith, u_is, reach_is, below-reach es ts c p.within)
+      low_le = omega (arith, u_is, reach_is, below-reach es ts c h.within)
 
       pub high_fits : r - u < 2 ^ 63
-      high_fits = omega (arith, reach_is, p.near)
+      high_fits = omega (arith, reach_is, h.near)
 
       module _ (o : ℤ) (o_is : o ≡ get_or os k (pos 0)) where
-        test : leaves_at es ss c os k ≡ not (in_i64 (o -ℤ pos u) && in_i64 (o +ℤ pos (r - u)))
+        test : leaves_at p c os k ≡ not (in_i64 (o -ℤ pos u) && in_i64 (o +ℤ pos (r - u)))
         unfolding leaves_at
         test =
-            leaves_at_lem es ts (get_or os k (pos 0) -ℤ dot c ts) placed.long c p.within o (ap (λ (z : ℤ). z -ℤ dot c ts) (sym o_is))
+            leaves_at_lem es ts (get_or os k (pos 0) -ℤ dot c ts) placed.long c h.within o (ap (λ (z : ℤ). z -ℤ dot c ts) (sym o_is))
             ∙ (λ i. not (in_i64 (o -ℤ pos (sym u_is i)) && in_i64 (o +ℤ pos (sym reach_is i - sym u_is i))))
 
-        pub too_low : {b : Bool} → b ≡ in_i64 (o -ℤ pos u) → b ≡ false → true ≡ leaves_at es ss c os k
-        too_low e h = sym (test ∙ rw (sym e ∙ h))
+        pub too_low : {b : Bool} → b ≡ in_i64 (o -ℤ pos u) → b ≡ false → true ≡ leaves_at p c os k
+        too_low e g = sym (test ∙ rw (sym e ∙ g))
 
-        pub high_test : {b : Bool} → b ≡ in_i64 (o -ℤ pos u) → b ≡ true → {d : Bool} → d ≡ in_i64 (o +ℤ pos (r - u)) → not d ≡ leaves_at es ss c os k
-        high_test e h g = ap not g ∙ sym (test ∙ rw (sym e ∙ h))
+        pub high_test : {b : Bool} → b ≡ in_i64 (o -ℤ pos u) → b ≡ true → {d : Bool} → d ≡ in_i64 (o +ℤ pos (r - u)) → not d ≡ leaves_at p c os k
+        high_test e g f = ap not f ∙ sym (test ∙ rw (sym e ∙ g))
 
-pub stands_at : (es : List ℕ) (ss : List ℤ) (c : List ℕ) (os : List ℤ) (operands k : ℕ) → Standing es ss c os operands → k < operands → StandsAt es ss c os k
-stands_at es ss c os operands k p h =
-    let a : suc k * 64 ≤ operands * 64 = mul-le-mul_right 64 h in
-    record { laid = omega (arith, p.laid.apart, p.laid.all, a); offsets = omega (arith, p.offsets); within = p.within; near = p.near k h }
+pub stands_at : (p : Plan) (c : List ℕ) (os : List ℤ) (k : ℕ) → Standing p c os → k < p.operands → StandsAt p c os k
+stands_at p c os k s h = record { here = h; offsets = omega (arith, s.offsets); within = s.within; near = s.near k h }

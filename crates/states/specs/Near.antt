@@ -1,23 +1,15 @@
 -- States of which no number is large: no offset of a walk leaves 64-bit signed. Assumes nothing.
-use Rattle.std.specs.Prelude.{◌≡◌, Bool, true, ◌&&◌, List, [], ◌∷◌, ℕ, ◌^◌, ◌<◌, ltb, ℤ, nat_abs}
-use Rattle.layout.specs.Laid.{row_at}
-
--- every number is below m
-abbrev pub all_below : ℕ → List ℕ → Bool
-all_below m [] = true
-all_below m (n ∷ ns) = ltb n m && all_below m ns
-
--- every number's size is
-abbrev pub sizes_below : ℕ → List ℤ → Bool
-sizes_below m [] = true
-sizes_below m (z ∷ zs) = ltb (nat_abs z) m && sizes_below m zs
+use Rattle.std.specs.Prelude.{◌≡◌, true, List, ℕ, ◌^◌, ◌<◌, ℤ, nat_abs}
+use Rattle.strided.specs.Begin.{plan_extents, plan_row}
+use Rattle.strided.specs.declared.Plan.{Plan}
+use Rattle.layout.specs.Near.{all_below}
 
 -- the strides of every operand
-abbrev pub RowsNear : List ℕ → List ℤ → ℕ → Type 0
-RowsNear es ss operands = (k : ℕ) → k < operands → sizes_below (2 ^ 40) (row_at es ss 64 k) ≡ true
+abbrev pub RowsNear : Plan → Type 0
+RowsNear p = (k : ℕ) → k < p.operands → all_below nat_abs (2 ^ 40) (plan_row p k) ≡ true
 
--- extents, strides and offsets
-pub record Near (es : List ℕ) (ss os : List ℤ) (operands : ℕ) : Type 0 where
-  pub extents : all_below (2 ^ 16) es ≡ true
-  pub strides : RowsNear es ss operands
-  pub offsets : sizes_below (2 ^ 62) os ≡ true
+-- a plan's extents and strides, and offsets
+pub record Near (p : Plan) (os : List ℤ) : Type 0 where
+  pub extents : all_below (λ n. n) (2 ^ 16) (plan_extents p) ≡ true
+  pub strides : RowsNear p
+  pub offsets : all_below nat_abs (2 ^ 62) os ≡ true

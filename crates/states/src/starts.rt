@@ -6,24 +6,21 @@ ghost use Rattle.strided.specs.Layout.{in_i64, reach};
 ghost use Rattle.laws.specs.Walk.Row9.{below_term, below_of};
 ghost use Rattle.states.specs.Starts.{leaves_at, some_leave, Placed, StandsAt, Standing, Begins};
 
-use layout::has_zero;
+use super::no_block;
+use layout::LentPlan;
 
 // Whether `below` places lie between the least i64 and `o`.
 fn room_below(o: i64, below: u64) -> bool
-    requires { below < 2 ^ 63 }
     ensures { result ≡ in_i64 (o -ℤ pos below) }
 {
-    let least = -9223372036854775808 + (below as i64);
-    least <= o
+    o.checked_sub_unsigned(below).is_some()
 }
 
 // Whether `above` places lie between `o` and the greatest i64.
 fn room_above(o: i64, above: u64) -> bool
-    requires { above < 2 ^ 63 }
     ensures { result ≡ in_i64 (o +ℤ pos above) }
 {
-    let greatest = 9223372036854775807 - (above as i64);
-    o <= greatest
+    o.checked_add_unsigned(above).is_some()
 }
 
 // The part of an axis's way that lies below the counter.
@@ -71,41 +68,22 @@ fn span_of<'a, 'b>(extents: &'a [u64], strides: &'a [i64], counters: &'b [u64]) 
 }
 
 // Whether some offset of operand k leaves 64-bit signed, told from its offset at the counters.
-fn leaves_at<'a, 'b, 'c>(
-    extents: &'a [u64],
-    strides: &'a [i64],
-    counters: &'b [u64],
-    offsets: &'c [i64],
-    k: usize,
-) -> bool
-    requires { StandsAt extents.now strides.now counters.now offsets.now k }
-    ensures { result ≡ leaves_at extents.now strides.now counters.now offsets.now k }
+fn leaves_at<'a>(plan: &LentPlan, counters: &'a [u64], offsets: &'a [i64], k: usize) -> bool
+    requires { StandsAt plan.now counters.now offsets.now k }
+    ensures { result ≡ leaves_at plan.now counters.now offsets.now k }
 {
-    let from = k * 64;
-    let to = from + extents.len();
-    let span = span_of(extents, &strides[from..to], counters);
-    let reach = span.reach;
-    let under = span.below;
+    let span = span_of(plan.axes(), plan.row(k), counters);
     let o = offsets[k];
-    if room_below(o, under) {
-        return !room_above(o, reach - under);
-    }
-    true
+    !room_below(o, span.below) || !room_above(o, span.reach - span.below)
 }
 
 // Whether some offset of an operand leaves 64-bit signed.
-fn some_leave<'a, 'b, 'c>(
-    extents: &'a [u64],
-    strides: &'a [i64],
-    counters: &'b [u64],
-    offsets: &'c [i64],
-    operands: usize,
-) -> bool
-    requires { Standing extents.now strides.now counters.now offsets.now operands }
-    ensures { result ≡ some_of (leaves_at extents.now strides.now counters.now offsets.now) 0 operands }
+fn some_leave<'a>(plan: &LentPlan, counters: &'a [u64], offsets: &'a [i64]) -> bool
+    requires { Standing plan.now counters.now offsets.now }
+    ensures { result ≡ some_of (leaves_at plan.now counters.now offsets.now) 0 plan.now.operands }
 {
-    for k in 0..operands {
-        if leaves_at(extents, strides, counters, offsets, k) {
+    for k in 0..plan.operands {
+        if leaves_at(plan, counters, offsets, k) {
             return true;
         }
     }
@@ -113,18 +91,9 @@ fn some_leave<'a, 'b, 'c>(
 }
 
 // Row 9, told from the offsets at the counters.
-pub fn starts_leave<'a, 'b, 'c>(
-    extents: &'a [u64],
-    strides: &'a [i64],
-    counters: &'b [u64],
-    offsets: &'c [i64],
-    operands: usize,
-) -> bool
-    requires { Begins extents.now strides.now counters.now offsets.now operands }
-    ensures { result ≡ some_leave extents.now strides.now counters.now offsets.now operands }
+pub fn starts_leave<'a>(plan: &LentPlan, counters: &'a [u64], offsets: &'a [i64]) -> bool
+    requires { Begins plan.now counters.now offsets.now }
+    ensures { result ≡ some_leave plan.now counters.now offsets.now }
 {
-    if has_zero(extents) {
-        return false;
-    }
-    some_leave(extents, strides, counters, offsets, operands)
+    !no_block(plan) && some_leave(plan, counters, offsets)
 }

@@ -1,6 +1,6 @@
 -- A walk's beginning: "a walk's beginning checks rows 1, 2, 5, 6, 8, 9".
 -- Assumes nothing.
-use Rattle.std.specs.Prelude.{false, List, [], ◌∷◌, map, ℕ, ◌*◌, take, drop, replicate, ℤ, pos, Option, Result}
+use Rattle.std.specs.Prelude.{List, [], ◌∷◌, map, ℕ, ◌*◌, take, drop, replicate, ℤ, pos, Option, Result}
 use Rattle.strided.specs.Base.{padded, run}
 use Rattle.strided.specs.Layout.{has_zero}
 use Rattle.strided.specs.Refusals.{Row, refused_by, row1, row2, row5, row6, row8, row9, served_unless}
@@ -29,10 +29,6 @@ begin_rows p starts =
 
 unfoldable pub begin_refused : Plan → List ℤ → Option Refusal
 begin_refused p starts = refused_by (begin_rows p starts)
-
--- "A refusal carries its number and nothing else."
-abbrev pub no_walk : Walk
-no_walk = record { ended = false; counters = replicate 64 0; offsets = replicate 8 (pos 0) }
 
 -- a walk at its beginning: all counters 0, each operand at its start. "Zero extent: no block.": then it has ended at once
 abbrev pub started : Plan → List ℤ → Walk

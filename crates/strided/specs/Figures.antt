@@ -1,7 +1,7 @@
 -- "Figures to check": the marked ones, and some that were found with the Rust where no marked one tells a fault apart, in one table with one
 -- theorem for all rows, by computation on the definitions.
 -- Assumes nothing.
-use Rattle.std.specs.Prelude.{◌≡◌, refl, Bool, true, false, ◌&&◌, List, [], ◌∷◌, ◌++◌, map, ℕ, zero, suc, ◌*◌, ◌^◌, eqb, ℤ, pos, negsuc, length, get_or, take, replicate, Ok, Err, Result}
+use Rattle.std.specs.Prelude.{◌≡◌, refl, Bool, true, false, ◌&&◌, List, [], ◌∷◌, ◌++◌, map, ℕ, zero, suc, ◌*◌, ◌^◌, eqb, ℤ, pos, negsuc, length, get_or, take, replicate, Option, None, Some, Ok, Err, Result}
 use Rattle.std.specs.Int.Count.{count_leading_zeros}
 use Rattle.strided.specs.declared.Machine.{Machine}
 use Rattle.strided.specs.declared.Purpose.{Purpose}
@@ -11,9 +11,9 @@ use Rattle.strided.specs.declared.Walk.{Walk}
 use Rattle.strided.specs.declared.Told.{Told}
 use Rattle.strided.specs.declared.Mark.{Mark}
 use Rattle.strided.specs.declared.Mark.TheVariants.{No, Yes, Undecided}
-use Rattle.strided.specs.declared.Outcome.{Outcome}
-use Rattle.strided.specs.declared.Outcome.TheVariants.{Block, Ended, Rejected}
+use Rattle.strided.specs.declared.Block.{Block}
 use Rattle.strided.specs.declared.Stepped.{Stepped}
+use Rattle.strided.specs.declared.Several.{Several}
 use Rattle.strided.specs.Base.{padded, unless, until, sum, product, least, every, some_of, seek, greatest}
 use Rattle.strided.specs.Refusals.{number, layout_refused, planning_refused}
 use Rattle.strided.specs.Machine.{allowed, machine_of, fixed_four}
@@ -29,8 +29,9 @@ use Rattle.strided.specs.Decline.{first_cut, insert_rising, rising, apart, width
 use Rattle.strided.specs.Fit.{reuse, counts, load_of, load, enters_of, enters, shortens, most_of, fit_from, fitted}
 use Rattle.strided.specs.Plan.{grows, cut_blocks, plan_from, planned, the_plan}
 use Rattle.strided.specs.Begin.{begin_refused, begun_at}
-use Rattle.strided.specs.Step.{stepped}
-use Rattle.strided.specs.Bulk.{SteppedMany, stepped_many}
+use Rattle.strided.specs.Step.{stepped, left}
+use Rattle.strided.specs.Bulk.{SteppedMany, left_many, stepped_many}
+use Rattle.strided.specs.Memory.{many_count}
 use Rattle.strided.specs.Mark.{some_index, shared, insert_up, upwards, exceeds, rises, mark_of, mark_refused, marked, mark_number}
 use Rattle.strided.specs.Digits.{digits_of}
 use Rattle.strided.specs.Text.{OperandLine, Parsed, written, printed_plan, printed, text_refused, listed, printed_by}
@@ -302,14 +303,17 @@ pub record Seen : Type 0 where
   pub lengths : List ℕ
   pub fault : ℕ
 
-abbrev pub shown : Outcome → ℤ → ℕ → Seen → Seen
-shown Block z n rest = record { offsets = z ∷ rest.offsets; lengths = n ∷ rest.lengths; fault = rest.fault }
-shown Ended z n rest = record { offsets = []; lengths = []; fault = 0 }
-shown (Rejected r) z n rest = record { offsets = []; lengths = []; fault = number r }
+abbrev pub shown_block : Option Block → Seen → Seen
+shown_block None rest = record { offsets = []; lengths = []; fault = 0 }
+shown_block (Some b) rest = record { offsets = get_or b.offsets 0 (pos 0) ∷ rest.offsets; lengths = b.length ∷ rest.lengths; fault = rest.fault }
+
+abbrev pub shown : Result Stepped Refusal → Seen → Seen
+shown (Ok s) rest = shown_block s.block rest
+shown (Err r) rest = record { offsets = []; lengths = []; fault = number r }
 
 unfoldable pub seen : ℕ → Plan → Walk → Seen
 seen zero p w = record { offsets = []; lengths = []; fault = 15 }
-seen (suc f) p w = let s : Stepped = stepped p w in shown s.answer (get_or s.offsets 0 (pos 0)) s.length (seen f p s.walk)
+seen (suc f) p w = let s : Result Stepped Refusal = stepped p w in shown s (seen f p (left s w))
 
 -- what calls with room for so many blocks each leave
 pub record Calls : Type 0 where
@@ -317,12 +321,17 @@ pub record Calls : Type 0 where
   pub lengths : List ℕ
   pub offsets : List ℤ
 
+-- a refused call has no count, so that its row is not right
+abbrev pub count_in : Result Several Refusal → List ℕ
+count_in (Ok s) = many_count s.blocks ∷ []
+count_in (Err r) = []
+
 unfoldable pub called : List ℕ → Plan → Walk → Calls
 called [] p w = record { counts = []; lengths = []; offsets = [] }
 called (n ∷ ns) p w =
     let a : SteppedMany = stepped_many p w (replicate n 9) (replicate (n * p.operands) (pos 9)) in
-    let later : Calls = called ns p a.several.walk in
-    record { counts = a.several.count ∷ later.counts; lengths = a.lengths ++ later.lengths; offsets = a.offsets ++ later.offsets }
+    let later : Calls = called ns p (left_many a.several w) in
+    record { counts = count_in a.several ++ later.counts; lengths = a.lengths ++ later.lengths; offsets = a.offsets ++ later.offsets }
 
 -- what planning answers: this plan, or this number
 abbrev pub plan_right : Result Plan Refusal → ℕ → List ℕ → List ℕ → List ℤ → Bool

@@ -1,7 +1,7 @@
 -- "A plan index follows from an original index", and "From layout, purpose and counters the original index is told, and the reverse":
 -- the two maps, and what index finding answers. `ravel` and `unravel` are NumPy's words for the two.
 -- Assumes nothing.
-use Rattle.std.specs.Prelude.{Bool, cond, List, [], ◌∷◌, ℕ, ◌+◌, ◌*◌, ◌/◌, ◌%◌, eqb, length, replicate, ℤ, Option, Result}
+use Rattle.std.specs.Prelude.{Bool, cond, List, [], ◌∷◌, ℕ, ◌+◌, ◌*◌, ◌/◌, ◌%◌, eqb, length, replicate, ℤ, Result}
 use Rattle.strided.specs.Base.{padded, first}
 use Rattle.strided.specs.Layout.{Axis, no_axis, axes_of, extents}
 use Rattle.strided.specs.Refusals.{refused_by, layout_refused, row11, served_unless}
@@ -84,16 +84,13 @@ index_in_plan es operands ss u is = index_by (fusing_order es operands ss u) (ax
 abbrev pub told : List ℕ → Told
 told x = record { count = length x; index = padded 64 0 x }
 
-abbrev pub told_or : Option Refusal → List ℕ → Result Told Refusal
-told_or o x = served_unless o (told x)
-
 -- INDEX FINDING: planning's rows, then 11 on the plan's extents
 unfoldable pub told_original : List ℕ → List ℕ → List ℤ → Purpose → List ℕ → Result Told Refusal
 told_original es sizes ss u counters =
-    told_or (first (layout_refused es sizes ss u) (refused_by (row11 (extents (plan_axes es (length sizes) ss u)) counters ∷ [])))
-    (original_index es (length sizes) ss u counters)
+    served_unless (first (layout_refused es sizes ss u) (refused_by (row11 (extents (plan_axes es (length sizes) ss u)) counters ∷ [])))
+    (told (original_index es (length sizes) ss u counters))
 
 -- and the reverse: 11 on the layout's extents
 unfoldable pub told_plan : List ℕ → List ℕ → List ℤ → Purpose → List ℕ → Result Told Refusal
 told_plan es sizes ss u index =
-    told_or (first (layout_refused es sizes ss u) (refused_by (row11 es index ∷ []))) (index_in_plan es (length sizes) ss u index)
+    served_unless (first (layout_refused es sizes ss u) (refused_by (row11 es index ∷ []))) (told (index_in_plan es (length sizes) ss u index))

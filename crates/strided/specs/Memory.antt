@@ -2,18 +2,19 @@
 -- and what lent memory holds afterwards. 0 or more is answered where the call is served; where it is refused, the refusal's number negated,
 -- and then every lent byte is as it was: "A refusal carries its number and nothing else." Document 01 leaves the rest of this form free.
 -- Assumes nothing.
-use Rattle.std.specs.Prelude.{◌≡◌, Bool, cond, not, List, [], ◌∷◌, ℕ, eqb, ℤ, pos, get_or, Ok, Err, Result}
+use Rattle.std.specs.Prelude.{◌≡◌, Bool, cond, not, List, [], ◌∷◌, ℕ, eqb, ℤ, pos, get_or, Option, None, Some, is_some, Ok, Err, Result}
 use Rattle.strided.specs.Refusals.{negated}
 use Rattle.strided.specs.Bulk.{SteppedMany}
 use Rattle.strided.specs.Mark.{mark_number}
+use Rattle.strided.specs.Text.{Listing, Lists}
 use Rattle.strided.specs.declared.Purpose.{Purpose}
 use Rattle.strided.specs.declared.Purpose.TheVariants.{Pointwise, PointwiseInto, Fold}
-use Rattle.strided.specs.declared.Outcome.{Outcome}
-use Rattle.strided.specs.declared.Outcome.TheVariants.{Block, Ended, Rejected}
 use Rattle.strided.specs.declared.Plan.{Plan}
 use Rattle.strided.specs.declared.Told.{Told}
 use Rattle.strided.specs.declared.Walk.{Walk}
+use Rattle.strided.specs.declared.Block.{Block}
 use Rattle.strided.specs.declared.Stepped.{Stepped}
+use Rattle.strided.specs.declared.Several.{Several}
 use Rattle.strided.specs.declared.Mark.{Mark}
 use Rattle.strided.specs.declared.Refusal.{Refusal}
 
@@ -92,9 +93,9 @@ abbrev pub step_at : WalkMemory → List ℕ → List ℕ → List ℤ → List 
 step_at walk counters length offsets strides =
     record { walk = walk; counters = counters; length = length; offsets = offsets; strides = strides }
 
-abbrev pub step_memory : Stepped → StepMemory
-step_memory s =
-    record { walk = walk_memory s.walk; counters = s.counters; length = s.length ∷ []; offsets = s.offsets; strides = s.strides }
+abbrev pub step_memory : Walk → Block → StepMemory
+step_memory w b =
+    record { walk = walk_memory w; counters = b.counters; length = b.length ∷ []; offsets = b.offsets; strides = b.strides }
 
 -- many steps: the state, and the two slices
 pub record ManyMemory : Type 0 where
@@ -105,8 +106,8 @@ pub record ManyMemory : Type 0 where
 abbrev pub many_at : WalkMemory → List ℕ → List ℤ → ManyMemory
 many_at walk lengths offsets = record { walk = walk; lengths = lengths; offsets = offsets }
 
-abbrev pub many_memory : SteppedMany → ManyMemory
-many_memory m = record { walk = walk_memory m.several.walk; lengths = m.lengths; offsets = m.offsets }
+abbrev pub many_memory : Walk → SteppedMany → ManyMemory
+many_memory w m = record { walk = walk_memory w; lengths = m.lengths; offsets = m.offsets }
 
 -- ---- an answer and its lent memory
 
@@ -146,28 +147,53 @@ mark_code m = code_of (λ mark. pos (mark_number mark)) m
 
 -- ---- a step, and many
 
+-- whether a step hands out a block
+abbrev pub some_block : Result Stepped Refusal → Result Bool Refusal
+some_block (Ok s) = Ok (is_some s.block)
+some_block (Err r) = Err r
+
 -- 1 for a block, 0 for the end
-abbrev pub step_code : Outcome → ℤ
-step_code Block = pos 1
-step_code Ended = pos 0
-step_code (Rejected r) = negated r
+abbrev pub step_code : Result Bool Refusal → ℤ
+step_code answer = code_of (λ block. pos (flag block)) answer
 
--- at the end, as on a refusal, memory stays as it was
-abbrev pub kept_step : {A : Type 0} → Outcome → A → A → A
-kept_step Block value old = value
-kept_step Ended value old = old
-kept_step (Rejected r) value old = old
+-- memory that held `old`: the value, as it lies there; at the end, where there is none, it stays as it was, as on a refusal
+abbrev pub kept_step : {A M : Type 0} → (A → M) → Option A → M → M
+kept_step laid None old = old
+kept_step laid (Some value) old = laid value
 
-pub record Steps (s : Stepped) (old new : StepMemory) (r : ℤ) : Type 0 where
-  pub code : r ≡ step_code s.answer
-  pub memory : new ≡ kept_step s.answer (step_memory s) old
+abbrev pub step_leaves : Result Stepped Refusal → StepMemory → StepMemory
+step_leaves (Ok s) old = kept_step (step_memory s.walk) s.block old
+step_leaves (Err r) old = old
+
+pub record Steps (s : Result Stepped Refusal) (old new : StepMemory) (r : ℤ) : Type 0 where
+  pub code : r ≡ step_code (some_block s)
+  pub memory : new ≡ step_leaves s old
 
 -- how many blocks were written, and 0 for the end
-abbrev pub many_code : Outcome → ℕ → ℤ
-many_code Block count = pos count
-many_code Ended count = pos 0
-many_code (Rejected r) count = negated r
+abbrev pub many_count : Option ℕ → ℕ
+many_count None = 0
+many_count (Some n) = n
+
+abbrev pub many_code : Result Several Refusal → ℤ
+many_code answer = code_of (λ s. pos (many_count s.blocks)) answer
+
+abbrev pub many_leaves : Result Several Refusal → SteppedMany → ManyMemory → ManyMemory
+many_leaves (Ok s) m old = kept_step (λ n. many_memory s.walk m) s.blocks old
+many_leaves (Err r) m old = old
 
 pub record StepsMany (m : SteppedMany) (old new : ManyMemory) (r : ℤ) : Type 0 where
-  pub code : r ≡ many_code m.several.answer m.several.count
-  pub memory : new ≡ kept_step m.several.answer (many_memory m) old
+  pub code : r ≡ many_code m.several
+  pub memory : new ≡ many_leaves m.several m old
+
+-- ---- a listing
+
+-- "gets a signed 64-bit number: the output's length, or the refusal's number negated", and the lent bytes are the listing's
+pub record Fills (l : Listing) (new : List ℕ) (r : ℤ) : Type 0 where
+  pub code : r ≡ code_of pos l.answer
+  pub memory : new ≡ l.room
+
+-- the text entry: there is a listing, which the text and the lent bytes fix
+pub record ListsMemory (text old new : List ℕ) (r : ℤ) : Type 0 where
+  pub listing : Listing
+  pub lists : Lists text old listing
+  pub fills : Fills listing new r

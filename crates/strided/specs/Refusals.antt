@@ -56,7 +56,12 @@ abbrev pub served_unless : {A : Type 0} → Option Refusal → A → Result A Re
 served_unless None value = Ok value
 served_unless (Some r) value = Err r
 
--- the same of an entry that hands out nothing
+-- the same of an entry that may refuse what no row speaks of
+abbrev pub answers_unless : {A : Type 0} → Option Refusal → Result A Refusal → Result A Refusal
+answers_unless None answer = answer
+answers_unless (Some r) answer = Err r
+
+-- of an entry that hands out nothing
 abbrev pub answered : Option Refusal → Result (Unit {0}) Refusal
 answered o = served_unless o tt
 

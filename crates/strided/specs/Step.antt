@@ -1,17 +1,16 @@
 -- "Added: a walk hands out its counters ..": one step of a walk by value, the states that a begun walk reaches, and row 10.
 -- Assumes nothing.
-use Rattle.std.specs.Prelude.{◌≡◌, Bool, true, false, cond, ◌&&◌, not, List, [], ◌∷◌, ℕ, zero, suc, ◌%◌, ltb, eqb, length, take, drop, replicate, ℤ, pos, nat_abs, ◌+ℤ◌, ◌-ℤ◌, Option, None, Some, Ok}
+use Rattle.std.specs.Prelude.{◌≡◌, Bool, true, false, cond, ◌&&◌, not, List, [], ◌∷◌, ℕ, zero, suc, ◌%◌, ltb, eqb, length, take, drop, ℤ, pos, nat_abs, ◌+ℤ◌, ◌-ℤ◌, Option, None, Some, Result, Ok, Err}
 use Rattle.strided.specs.Base.{padded}
 use Rattle.strided.specs.Layout.{dot}
-use Rattle.strided.specs.Refusals.{Row, refused_by, row1, row2}
+use Rattle.strided.specs.Refusals.{Row, refused_by, row1, row2, answers_unless}
 use Rattle.strided.specs.Walk.{CutAxis, ax, cut_axes, length_at, next, zeros, run_strides}
-use Rattle.strided.specs.Begin.{plan_extents, plan_blocks, plan_rows, begin_refused, begun_at, no_walk}
+use Rattle.strided.specs.Begin.{plan_extents, plan_blocks, plan_rows, begin_refused, begun_at}
 use Rattle.strided.specs.declared.Refusal.{Refusal}
 use Rattle.strided.specs.declared.Refusal.TheVariants.{State}
-use Rattle.strided.specs.declared.Outcome.{Outcome}
-use Rattle.strided.specs.declared.Outcome.TheVariants.{Block, Ended, Rejected}
 use Rattle.strided.specs.declared.Plan.{Plan}
 use Rattle.strided.specs.declared.Walk.{Walk}
+use Rattle.strided.specs.declared.Block.{Block}
 use Rattle.strided.specs.declared.Stepped.{Stepped}
 
 -- ---- the walk as a machine on lists
@@ -112,47 +111,41 @@ is_none (Some r) = false
 abbrev pub may_begin : Plan → List ℤ → Bool
 may_begin p zs = is_none (begin_refused p zs)
 
--- "A refusal carries its number and nothing else."
-abbrev pub not_stepped : Refusal → Stepped
-not_stepped r =
-    record { answer = Rejected r; counters = replicate 64 0; length = 0; offsets = replicate 8 (pos 0); strides = replicate 8 (pos 0); walk = no_walk }
+-- a block's value out of its lists
+abbrev pub packed_block : List ℕ → ℕ → List ℤ → List ℤ → Block
+packed_block c n os ts = record { counters = padded 64 0 c; length = n; offsets = padded 8 (pos 0) os; strides = padded 8 (pos 0) ts }
 
 -- a step's value out of what the machine gives
-abbrev pub handed_out : Step → Stepped
-handed_out refused = not_stepped State
-handed_out (over s) =
-    record { answer = Ended; counters = replicate 64 0; length = 0; offsets = replicate 8 (pos 0); strides = replicate 8 (pos 0); walk = packed s }
-handed_out (gave c n os ts s) =
-    record { answer = Block; counters = padded 64 0 c; length = n; offsets = padded 8 (pos 0) os; strides = padded 8 (pos 0) ts; walk = packed s }
+abbrev pub handed_out : Step → Result Stepped Refusal
+handed_out refused = Err State
+handed_out (over s) = Ok (record { block = None; walk = packed s })
+handed_out (gave c n os ts s) = Ok (record { block = Some (packed_block c n os ts); walk = packed s })
 
 abbrev pub step_rows : Plan → List Row
 step_rows p = row1 p.rank ∷ row2 p.operands ∷ []
 
-abbrev pub step_or : Option Refusal → Stepped → Stepped
-step_or None s = s
-step_or (Some r) s = not_stepped r
-
 -- ONE STEP: rows 1 and 2 of the plan, then 10, "step on a state no begun walk reaches"
-unfoldable pub stepped : Plan → Walk → Stepped
+unfoldable pub stepped : Plan → Walk → Result Stepped Refusal
 stepped p w =
-    let taken : Stepped = handed_out (step (plan_cut_axes p) (plan_rows p) (may_begin p) (unpacked p w)) in
-    step_or (refused_by (step_rows p)) (cond (tidy p w) taken (not_stepped State))
+    let taken : Result Stepped Refusal = handed_out (step (plan_cut_axes p) (plan_rows p) (may_begin p) (unpacked p w)) in
+    answers_unless (refused_by (step_rows p)) (cond (tidy p w) taken (Err State))
 
 -- "A lent step answers what one by value answers and leaves the state that one returns, or, if refused, the state it was lent."
-abbrev pub left_by : Outcome → Walk → Walk → Walk
-left_by Block returned lent = returned
-left_by Ended returned lent = returned
-left_by (Rejected r) returned lent = lent
+abbrev pub left : Result Stepped Refusal → Walk → Walk
+left (Ok s) lent = s.walk
+left (Err r) lent = lent
 
-abbrev pub left : Stepped → Walk → Walk
-left s lent = left_by s.answer s.walk lent
+-- the block that a step hands out, if it hands one out
+abbrev pub handed_block : Result Stepped Refusal → Option Block
+handed_block (Ok s) = s.block
+handed_block (Err r) = None
 
 -- ---- the states that a begun walk reaches
 
--- the state after n steps, each handed the state last returned
+-- the state after n steps, each handed the state that the last one left
 abbrev pub walk_after : Plan → ℕ → Walk → Walk
 walk_after p zero w = w
-walk_after p (suc n) w = walk_after p n (stepped p w).walk
+walk_after p (suc n) w = walk_after p n (left (stepped p w) w)
 
 -- some beginning that is not refused, and some number of steps, lead to w
 pub record Reached (p : Plan) (w : Walk) : Type 0 where

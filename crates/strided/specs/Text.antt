@@ -2,11 +2,11 @@
 -- LF 10, `,` 44, `-` 45, digits from 48, letters as in ASCII. The form is said by rendering: a text is in it if it is the rendering of
 -- what it says, byte for byte.
 -- Assumes nothing.
-use Rattle.std.specs.Prelude.{◌≡◌, ◌⊎◌, List, [], ◌∷◌, ◌++◌, map, ℕ, suc, ◌+◌, ◌^◌, ◌≤◌, ◌<◌, ltb, length, get_or, take, drop, replicate, ℤ, pos, negsuc, Option, None, Some}
+use Rattle.std.specs.Prelude.{◌≡◌, ◌⊎◌, List, [], ◌∷◌, ◌++◌, map, ℕ, suc, ◌+◌, ◌^◌, ◌≤◌, ◌<◌, ltb, length, get_or, take, drop, replicate, ℤ, pos, Option, None, Some, Ok, Err, Result}
 use Rattle.std.specs.Int.Signed.{mag}
 use Rattle.strided.specs.Base.{over, run, first}
 use Rattle.strided.specs.Layout.{stride_row, chosen, lead_of, total}
-use Rattle.strided.specs.Refusals.{Row, refused_by, negated, row1, row2, row4, row5, row6}
+use Rattle.strided.specs.Refusals.{Row, refused_by, number, row1, row2, row4, row5, row6}
 use Rattle.strided.specs.Machine.{fixed_four}
 use Rattle.strided.specs.Walk.{Block, block, blocks_of}
 use Rattle.strided.specs.Begin.{plan_extents, plan_blocks, plan_rows}
@@ -199,18 +199,18 @@ output_rows p room = row13 p.extents ∷ row14 (printed_of p) room ∷ []
 unfoldable pub text_refused : Parsed → ℕ → Option Refusal
 text_refused p room = first (refused_by (layout_rows_of p)) (refused_by (output_rows p room))
 
--- "gets a signed 64-bit number: the output's length, or the refusal's number negated", and the lent bytes afterwards
+-- the output's length, or what refuses, and the lent bytes afterwards. Memory has the one number that C gets
 pub record Listing : Type 0 where
-  pub answer : ℤ
+  pub answer : Result ℕ Refusal
   pub room : List ℕ
 
 -- "A refusal carries its number and nothing else": the lent bytes are as they were
 abbrev pub refusing : Refusal → List ℕ → Listing
-refusing r room = record { answer = negated r; room = room }
+refusing r room = record { answer = Err r; room = room }
 
 -- "bytes behind the output's length stay"
 abbrev pub filling : List ℕ → List ℕ → Listing
-filling out room = record { answer = pos (length out); room = out ++ drop (length out) room }
+filling out room = record { answer = Ok (length out); room = out ++ drop (length out) room }
 
 abbrev pub listing_or : Option Refusal → List ℕ → List ℕ → Listing
 listing_or None out room = filling out room
@@ -232,9 +232,9 @@ pub record Lists (text room : List ℕ) (l : Listing) : Type 0 where
 -- ---- the program walklist
 
 -- "A refusal prints only R,number."; else the output
-abbrev pub printed_for : ℤ → List ℕ → List ℕ
-printed_for (pos n) room = take n room
-printed_for (negsuc k) room = line_of 82 (field (suc k))
+abbrev pub printed_for : Result ℕ Refusal → List ℕ → List ℕ
+printed_for (Ok n) room = take n room
+printed_for (Err r) room = line_of 82 (field (number r))
 
 abbrev pub printed_by : Listing → List ℕ
 printed_by l = printed_for l.answer l.room

@@ -79,32 +79,27 @@ pub struct Walk {
     pub offsets: [i64; 8],
 }
 
-// What a step answers.
+// A block: the plan index of its first cell, its length, and for each operand the first offset and the stride of axis 0.
 #[derive(Clone, Copy)]
-pub enum Outcome {
-    Block,
-    Ended,
-    Rejected(Refusal),
-}
-
-// A block: the plan index of its first cell, its length, and for each operand the first offset and the stride of axis 0. `walk` is the
-// state to hand to the next step.
-#[derive(Clone, Copy)]
-pub struct Stepped {
-    pub answer: Outcome,
+pub struct Block {
     pub counters: [u64; 64],
     pub length: u64,
     pub offsets: [i64; 8],
     pub strides: [i64; 8],
+}
+
+// What a step hands out: a block, or none where the walk has ended, and the state to hand to the next step.
+#[derive(Clone, Copy)]
+pub struct Stepped {
+    pub block: Option<Block>,
     pub walk: Walk,
 }
 
-// What many steps in one call answer: what one step would, how many blocks were written to the lent slices, and the state to hand to the
-// next call.
+// What many steps in one call hand out: how many blocks were written to the lent slices, or none where the walk had ended, and the state to
+// hand to the next call.
 #[derive(Clone, Copy)]
 pub struct Several {
-    pub answer: Outcome,
-    pub count: usize,
+    pub blocks: Option<usize>,
     pub walk: Walk,
 }
 

@@ -2,7 +2,7 @@
 -- rows of runs. So the visits are what a loop over stretches goes through.
 -- Assumes nothing.
 use Rattle.std.specs.Prelude.{◌≡◌, refl, List, [], ◌∷◌, ◌++◌, map, ℕ, zero, suc, ◌+◌, ℤ, pos, ◌+ℤ◌, ◌*ℤ◌, length, get_or, take}
-use Rattle.std.proofs.Common.{sym, ap, ◌∙◌, add-zero, arith}
+use Rattle.std.proofs.Common.{sym, ap, ◌∙◌, subst, add-zero, arith}
 use Rattle.std.proofs.lemmas.Simd.{map-map}
 use Rattle.std.proofs.lemmas.List.{map-append}
 use Rattle.std.proofs.Math.IntN.{+ℤ_assoc, +ℤ_comm, +ℤ_idr, suc_ℤ-*ℤ}
@@ -11,6 +11,7 @@ use Rattle.strided.specs.Layout.{dot}
 use Rattle.strided.specs.Walk.{CutAxis, ax, Block, counters, length_at, block_at, cell_at}
 use Rattle.strided.specs.Begin.{plan_row}
 use Rattle.strided.specs.Memory.{plan_of}
+use Rattle.strided.specs.declared.Plan.{Plan}
 use Rattle.strided.specs.Step.{plan_cut_axes}
 use Rattle.laws.specs.Base.Lists.{over-map}
 use Rattle.laws.specs.Walk.Placed.{Placed, placed_from, placed_walk}
@@ -88,7 +89,7 @@ map-over f [] g = refl
 map-over {A} {B} {C} f (x ∷ l) g = map-append f (g x) (over l g) ∙ ap (λ (r : List C). map f (g x) ++ r) (map-over f l g)
 
 -- THE VISITS, block by block
-pub visits-placed : (rank : ℕ) (E B : List ℕ) (S : List ℤ) (z : ℤ)
+visits-placed : (rank : ℕ) (E B : List ℕ) (S : List ℤ) (z : ℤ)
     → visits_of (plan_of rank 1 E B S) z ≡ over (placed_walk (plan_of rank 1 E B S) (z ∷ [])) (run_in (get_or S 0 (pos 0)))
 visits-placed rank E B S z =
     let p = plan_of rank 1 E B S in
@@ -97,6 +98,13 @@ visits-placed rank E B S z =
     ∙ over-map (block_at (plan_cut_axes p)) cs (λ (b : Block). map (offset_at p z) (indices_in b))
     ∙ ap (λ (g : List ℕ → List ℤ). over cs g) (λ i c. block_run_lem rank E B S z c i)
     ∙ sym (over-map (placed_from p (z ∷ [])) cs (run_in (get_or S 0 (pos 0))))
+
+-- of a plan of one operand
+pub visits_walk : (p : Plan) → p.operands ≡ 1 → (z : ℤ) → visits_of p z ≡ over (placed_walk p (z ∷ [])) (run_in (get_or p.strides 0 (pos 0)))
+visits_walk p one z =
+    let e : 1 ≡ p.operands = sym one in
+    let is : plan_of p.rank 1 p.extents p.blocks p.strides ≡ p = λ i. record { rank = p.rank; operands = e i; extents = p.extents; blocks = p.blocks; strides = p.strides } in
+    subst (λ (q : Plan). visits_of q z ≡ over (placed_walk q (z ∷ [])) (run_in (get_or q.strides 0 (pos 0)))) is (visits-placed p.rank p.extents p.blocks p.strides z)
 
 -- ---- a stretch
 

@@ -135,6 +135,14 @@ module _ (mc : Machine) (es : List ℕ) (ss : List ℤ) where
     pub made_plan : (rank : ℕ) (E B : List ℕ) (S : List ℤ) → Made mc es cell_sizes ss ordering rank E B S → plan_of rank 1 E B S ≡ summary_plan mc es ss
     made_plan rank E B S m = m.is
 
+    rank_few : P.rank ≤ 64
+    unfolding plan_from
+    rank_few = plan_few es cell_sizes ss ordering a
+
+    -- so that it may be lent
+    pub made_few : {rank : ℕ} {E B : List ℕ} {S : List ℤ} → Made mc es cell_sizes ss ordering rank E B S → rank ≤ 64
+    made_few {rank} {E} {B} {S} m = subst (λ (p : Plan). p.rank ≤ 64) (sym (made_plan rank E B S m)) rank_few
+
     -- of the rows of a beginning only 9 can apply
     begin_is : (z : ℤ) → begin_refused (summary_plan mc es ss) (z ∷ []) ≡ cond (row9 (plan_extents P) P.operands (plan_row P) (z ∷ [])).applies (Some Offsets) None
     unfolding begin_refused NoneApplies

@@ -1,7 +1,7 @@
 -- A plan's walk while its cells are met, stretch by stretch: what is ahead, and what all cells make.
 -- Assumes nothing.
 use mathlib.Core.Path.{◌≡◌, refl, sym, ap, ◌∙◌, subst}
-use mathlib.Core.Bool.{Bool, true, false}
+use mathlib.Core.Bool.{Bool, true, false, not}
 use mathlib.Core.List.{List, [], ◌∷◌, ◌++◌}
 use Prim.Native.Nat.{ℕ, zero, suc, ◌+◌, ◌-◌, ◌*◌, ◌^◌, ◌≤◌, ◌<◌}
 use native.Mathlib.Nat.{zero-div, zero-mul}
@@ -9,13 +9,14 @@ use native.Mathlib.Omega.{arith}
 use lib.IntN.{ℤ, pos}
 use lib.Ieee.{Float}
 use lib.ListN.{length, get_or, drop, set, replicate, length-map, length-take}
-use borrow.Author.Tests.{ltb-false}
+use lib.Dec.{eqb}
+use borrow.Author.Tests.{ltb-false, eqb-true}
 use Rattle.strided.specs.Base.{over}
 use Rattle.strided.specs.Layout.{has_zero, total, max_u}
 use Rattle.strided.specs.Walk.{counters, block_at}
 use Rattle.strided.specs.Begin.{plan_extents, begin_rows, begin_refused, started}
 use Rattle.strided.specs.Step.{plan_cut_axes}
-use Rattle.strided.specs.Memory.{plan_of, walk_of}
+use Rattle.strided.specs.Memory.{walk_of}
 use Rattle.strided.specs.declared.Plan.{Plan}
 use Rattle.strided.specs.declared.Walk.{Walk}
 use Rattle.laws.specs.Base.Lists.{over-append}
@@ -25,7 +26,9 @@ use Rattle.laws.specs.Text.Totals.{walk_blocks}
 use Rattle.laws.specs.Walk.Placed.{Placed, placed_from, placed_walk, placed-over}
 use Rattle.laws.specs.Walk.Steps.{Ready, ready}
 use Rattle.advance.specs.Filled.{filled_to}
-use Rattle.advance.specs.Axis.{widths_to, start_of, starts_to}
+use Rattle.advance.specs.Axis.{widths, start_of, starts_to}
+use Rattle.advance.specs.Carry.{state_of}
+use Rattle.advance.specs.declared.State.{State}
 use Rattle.walk.specs.Lent.{Taken}
 use Rattle.walk.proofs.Stepping.{begun_taken}
 use Rattle.walker.specs.declared.Way.{Way}
@@ -39,7 +42,7 @@ use Rattle.summary.specs.Visits.{visits_of}
 use Rattle.summary.specs.Indices.{visits-many}
 use Rattle.summary.specs.Ahead.{rows_from, Ahead, met, RunsFit, Summable}
 use Rattle.summary.proofs.Meeting.{met-append, ahead-first, ahead-rest}
-use Rattle.summary.proofs.Blocks.{run_in, visits-placed, laid-rows}
+use Rattle.summary.proofs.Blocks.{run_in, visits_walk, laid-rows}
 
 -- the walk's first state
 abbrev pub first_of : ℤ → Bool → Walk
@@ -65,6 +68,10 @@ starts_none w (suc n) =
 
 -- ---- a walk that begins at z
 
+no_other : (b : Bool) → not b ≡ false → b ≡ true
+no_other true e = refl
+no_other false e = sym e
+
 module _ {p : Plan} {z : ℤ} {cells : List Float} (h : Summable p z cells) where
   pub summable_ready : Ready p (z ∷ [])
   unfolding begin_refused NoneApplies
@@ -81,6 +88,13 @@ module _ {p : Plan} {z : ℤ} {cells : List Float} (h : Summable p z cells) wher
       let a : NoneApplies (begin_rows p (z ∷ [])) = none_applies (begin_rows p (z ∷ [])) h.begins in
       let b = ltb-false max_u (total (plan_extents p)) (sym (row5-total (plan_extents p)) ∙ a.1.1.0) in
       omega arith
+
+  -- the walk has a start for each operand, so there is one
+  pub summable_one : p.operands ≡ 1
+  unfolding begin_refused NoneApplies
+  summable_one =
+      let a : NoneApplies (begin_rows p (z ∷ [])) = none_applies (begin_rows p (z ∷ [])) h.begins in
+      sym (eqb-true 1 p.operands (no_other (eqb 1 p.operands) a.1.1.1.1.0))
 
   -- all its cells may be met
   pub all-ahead : Ahead cells nothing_met (visits_of p z)
@@ -112,95 +126,96 @@ module _ {p : Plan} {z : ℤ} {cells : List Float} (h : Summable p z cells) wher
 -- ---- the walk before block n: what is ahead of the summary s
 
 -- the offsets of the cells from block n on
-abbrev cells_from : ℕ → List ℕ → List ℕ → List ℤ → ℤ → ℕ → List ℤ
-cells_from rank E B S z n = over (drop n (placed_walk (plan_of rank 1 E B S) (z ∷ []))) (run_in (get_or S 0 (pos 0)))
+abbrev cells_from : Plan → ℤ → ℕ → List ℤ
+cells_from p z n = over (drop n (placed_walk p (z ∷ []))) (run_in (get_or p.strides 0 (pos 0)))
 
-module _ (rank : ℕ) (E B : List ℕ) (S : List ℤ) (z : ℤ) (cells : List Float) where
-  pub record Summing (y : Way) (w : List ℕ) (n : ℕ) (more : Bool) (s : Summary) (t c : List ℕ) (o : List ℤ) : Type 0 where
-    pub summable : Summable (plan_of rank 1 E B S) z cells
-    pub some : false ≡ has_zero (plan_extents (plan_of rank 1 E B S))
-    pub walked : Walked (plan_of rank 1 E B S) (first_of z false) y w n more t c o
-    pub ahead : Ahead cells s (cells_from rank E B S z n)
-    pub goes : met cells s (cells_from rank E B S z n) ≡ met cells nothing_met (visits_of (plan_of rank 1 E B S) z)
+module _ (p : Plan) (z : ℤ) (cells : List Float) where
+  pub record Summing (y : Way) (w : List ℕ) (n : ℕ) (more : Bool) (s : Summary) (at : State) : Type 0 where
+    pub summable : Summable p z cells
+    pub some : false ≡ has_zero (plan_extents p)
+    pub walked : Walked p (first_of z false) y w n more at
+    pub ahead : Ahead cells s (cells_from p z n)
+    pub goes : met cells s (cells_from p z n) ≡ met cells nothing_met (visits_of p z)
 
 -- with no block there is nothing to meet
-pub no_cells : {rank : ℕ} {E B : List ℕ} {S : List ℤ} {z : ℤ} {cells : List Float} → Summable (plan_of rank 1 E B S) z cells → true ≡ has_zero (plan_extents (plan_of rank 1 E B S))
-    → nothing_met ≡ met cells nothing_met (visits_of (plan_of rank 1 E B S) z)
-no_cells {rank} {E} {B} {S} {z} {cells} h e =
-    sym (ap (met cells nothing_met) (visits-placed rank E B S z ∙ ap (λ (l : List Placed). over l (run_in (get_or S 0 (pos 0)))) (no_blocks h e)))
+pub no_cells : {p : Plan} {z : ℤ} {cells : List Float} → Summable p z cells → true ≡ has_zero (plan_extents p) → nothing_met ≡ met cells nothing_met (visits_of p z)
+no_cells {p} {z} {cells} h e =
+    sym (ap (met cells nothing_met) (visits_walk p (summable_one h) z ∙ ap (λ (l : List Placed). over l (run_in (get_or p.strides 0 (pos 0)))) (no_blocks h e)))
 
-module _ {rank : ℕ} {E B : List ℕ} {S : List ℤ} {z : ℤ} {cells : List Float} where
-  pub summing_start : (h : Summable (plan_of rank 1 E B S) z cells) (e : false ≡ has_zero (plan_extents (plan_of rank 1 E B S))) {w : List ℕ} → w ≡ widths_to rank E B rank → {y : Way} → Leads y rank 1 E w
-      → {s : Summary} → s ≡ nothing_met → Summing rank E B S z cells y w 0 true s (replicate 64 0) (replicate 64 0) (z ∷ replicate 7 (pos 0))
+module _ {p : Plan} {z : ℤ} {cells : List Float} where
+  pub summing_start : (h : Summable p z cells) (e : false ≡ has_zero (plan_extents p)) {w : List ℕ} → w ≡ widths p → {y : Way} → Leads y p w
+      → {s : Summary} → s ≡ nothing_met → Summing p z cells y w 0 true s (state_of (replicate 64 0) (replicate 64 0) (z ∷ replicate 7 (pos 0)))
   summing_start h e {w} is l n =
+      let all = visits_walk p (summable_one h) z in
       rw n
       (record {
         summable = h;
         some = e;
-        walked = walked_none is l (first_taken h e) (starts_none w rank);
-        ahead = subst (Ahead cells nothing_met) (visits-placed rank E B S z) (all-ahead h);
-        goes = ap (met cells nothing_met) (sym (visits-placed rank E B S z));
+        walked = walked_none is l (first_taken h e) (starts_none w p.rank);
+        ahead = subst (Ahead cells nothing_met) all (all-ahead h);
+        goes = ap (met cells nothing_met) (sym all);
       })
 
   -- once the loop's test is known
-  pub summing_while : {y : Way} {w : List ℕ} {n : ℕ} {more b : Bool} {s : Summary} {t c : List ℕ} {o : List ℤ} → Summing rank E B S z cells y w n more s t c o → more ≡ b → Summing rank E B S z cells y w n b s t c o
+  pub summing_while : {y : Way} {w : List ℕ} {n : ℕ} {more b : Bool} {s : Summary} {at : State} → Summing p z cells y w n more s at → more ≡ b → Summing p z cells y w n b s at
   summing_while k e = rw e at k
 
   -- while it runs
-  module _ {y : Way} {w : List ℕ} {n : ℕ} {s : Summary} {t c : List ℕ} {o : List ℤ} (k : Summing rank E B S z cells y w n true s t c o) where
-    pub summing_asks : Strides y E w S t c o
+  module _ {y : Way} {w : List ℕ} {n : ℕ} {s : Summary} {at : State} (k : Summing p z cells y w n true s at) where
+    pub summing_asks : Strides y p w at
     summing_asks = walked_asks k.walked
 
     -- a stretch of it
-    module _ {limit : ℕ} {r : Next} {first : List ℤ} {t' c' : List ℕ} {o' : List ℤ} (x : Strode y limit E w S c o r first t' c' o')
-        {d : List ℤ} (d-is : d ≡ moves_of y y.operands S) where
-      rows_fit : RowsFit r.count 1 d first
+    module _ {limit : ℕ} {r : Next} {first : List ℤ} {at' : State} (x : Strode y limit p w at r first at') {d : List ℤ} (d-is : d ≡ moves_of y p) where
+      rows_fit : RowsFit r.count p.operands d first
       rows_fit = walked_fit k.walked x d-is
 
+      one : p.operands ≡ 1
+      one = summable_one k.summable
+
       pub summing_fit : RunsFit (get_or first 0 (pos 0)) (get_or d 0 (pos 0)) r.count
-      summing_fit j b = rows_fit.fits j b 0 (omega arith)
+      summing_fit j b = rows_fit.fits j b 0 (omega (arith, one))
 
       abbrev rows : List ℤ
-      rows = rows_from (get_or first 0 (pos 0)) (get_or d 0 (pos 0)) r.count (get_or S 0 (pos 0)) r.length
+      rows = rows_from (get_or first 0 (pos 0)) (get_or d 0 (pos 0)) r.count (get_or p.strides 0 (pos 0)) r.length
 
       -- its cells come next
-      left : cells_from rank E B S z n ≡ rows ++ cells_from rank E B S z (n + r.count)
+      left : cells_from p z n ≡ rows ++ cells_from p z (n + r.count)
       left =
-          ap (λ (l : List Placed). over l (run_in (get_or S 0 (pos 0)))) (walked_part k.walked x d-is (summable_ready k.summable) (begun k.summable k.some))
-          ∙ over-append (laid (told 1 r first d)) (drop (n + r.count) (placed_walk (plan_of rank 1 E B S) (z ∷ []))) (run_in (get_or S 0 (pos 0)))
-          ∙ ap (λ (l : List ℤ). l ++ cells_from rank E B S z (n + r.count)) (laid-rows (get_or S 0 (pos 0)) r first d rows_fit.offered rows_fit.moves)
+          ap (λ (l : List Placed). over l (run_in (get_or p.strides 0 (pos 0)))) (walked_part k.walked x d-is (summable_ready k.summable) (begun k.summable k.some))
+          ∙ over-append (laid (told p.operands r first d)) (drop (n + r.count) (placed_walk p (z ∷ []))) (run_in (get_or p.strides 0 (pos 0)))
+          ∙ ap (λ (l : List ℤ). l ++ cells_from p z (n + r.count))
+          (ap (λ (m : ℕ). over (laid (told m r first d)) (run_in (get_or p.strides 0 (pos 0)))) one ∙ laid-rows (get_or p.strides 0 (pos 0)) r first d rows_fit.offered rows_fit.moves)
 
-      ahead-all : Ahead cells s (rows ++ cells_from rank E B S z (n + r.count))
+      ahead-all : Ahead cells s (rows ++ cells_from p z (n + r.count))
       ahead-all = subst (Ahead cells s) left k.ahead
 
-      pub summing_rows : Ahead cells s (rows_from (get_or first 0 (pos 0)) (get_or d 0 (pos 0)) r.count (get_or S 0 (pos 0)) r.length)
-      summing_rows = ahead-first rows (cells_from rank E B S z (n + r.count)) ahead-all
+      pub summing_rows : Ahead cells s (rows_from (get_or first 0 (pos 0)) (get_or d 0 (pos 0)) r.count (get_or p.strides 0 (pos 0)) r.length)
+      summing_rows = ahead-first rows (cells_from p z (n + r.count)) ahead-all
 
-      pub summing_next : {s' : Summary} → s' ≡ met cells s (rows_from (get_or first 0 (pos 0)) (get_or d 0 (pos 0)) r.count (get_or S 0 (pos 0)) r.length)
-          → Summing rank E B S z cells y w (n + r.count) r.more s' t' c' o'
+      pub summing_next : {s' : Summary} → s' ≡ met cells s (rows_from (get_or first 0 (pos 0)) (get_or d 0 (pos 0)) r.count (get_or p.strides 0 (pos 0)) r.length)
+          → Summing p z cells y w (n + r.count) r.more s' at'
       summing_next e =
           rw e
           (record {
             summable = k.summable;
             some = k.some;
             walked = walked_next k.walked x;
-            ahead = ahead-rest rows (cells_from rank E B S z (n + r.count)) ahead-all;
-            goes = sym (met-append cells s rows (cells_from rank E B S z (n + r.count))) ∙ ap (met cells s) (sym left) ∙ k.goes;
+            ahead = ahead-rest rows (cells_from p z (n + r.count)) ahead-all;
+            goes = sym (met-append cells s rows (cells_from p z (n + r.count))) ∙ ap (met cells s) (sym left) ∙ k.goes;
           })
 
-      within : n + r.count ≤ length (placed_walk (plan_of rank 1 E B S) (z ∷ []))
+      within : n + r.count ≤ length (placed_walk p (z ∷ []))
       within = walked_within (walked_next k.walked x) (summable_ready k.summable) (begun k.summable k.some)
 
       pub summing_number : n + r.count < 2 ^ 64
       summing_number = let a = within in let b = blocks_fit k.summable in omega (arith, a, b)
 
-      pub summing_less : 1 ≤ limit
-          → length (placed_walk (plan_of rank 1 E B S) (z ∷ [])) - (n + r.count) < length (placed_walk (plan_of rank 1 E B S) (z ∷ [])) - n
+      pub summing_less : 1 ≤ limit → length (placed_walk p (z ∷ [])) - (n + r.count) < length (placed_walk p (z ∷ [])) - n
       summing_less h = let a = within in let b = walked_some k.walked x h in omega (arith, a, b)
 
   -- at its end all cells are met
-  pub summing_end : {y : Way} {w : List ℕ} {n : ℕ} {s : Summary} {t c : List ℕ} {o : List ℤ} → Summing rank E B S z cells y w n false s t c o
-      → s ≡ met cells nothing_met (visits_of (plan_of rank 1 E B S) z)
+  pub summing_end : {y : Way} {w : List ℕ} {n : ℕ} {s : Summary} {at : State} → Summing p z cells y w n false s at → s ≡ met cells nothing_met (visits_of p z)
   summing_end {s = s} k =
       let e = walked_over k.walked (summable_ready k.summable) (begun k.summable k.some) in
-      ap (λ (l : List Placed). met cells s (over l (run_in (get_or S 0 (pos 0))))) (sym e) ∙ k.goes
+      ap (λ (l : List Placed). met cells s (over l (run_in (get_or p.strides 0 (pos 0))))) (sym e) ∙ k.goes

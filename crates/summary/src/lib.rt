@@ -8,7 +8,7 @@ ghost use Rattle.summary.specs.Visits.{cell_sizes, ordering};
 ghost use Rattle.summary.specs.Rows.{summarized};
 
 use kernel::{Aim, plan_into};
-use layout::check_planning;
+use layout::{LentPlan, check_planning};
 use span::cell_outside;
 use states::begin_on;
 use strided::{Machine, Purpose, Refusal};
@@ -25,12 +25,12 @@ pub const CELL_SIZE: u64 = 8;
 
 // A layout that planning does not refuse: rows 9 and 22, and the summary. Where every cell lies in the slice no offset leaves 64 bits, so row 9
 // is asked only where one does not. It is told by the plan, since its offsets are the layout's.
-fn summarize_served<'a, 'b>(
+fn summarize_served<'a>(
     extents: &'a [u64],
     strides: &'a [i64],
     machine: Machine,
     start: i64,
-    cells: &'b [f64],
+    cells: &[f64],
 ) -> Result<Summary, Refusal>
     requires { planning_refused machine extents.now cell_sizes strides.now ordering ≡ None }
     ensures { result ≡ summarized machine extents.now strides.now start cells.now }
@@ -52,20 +52,27 @@ fn summarize_served<'a, 'b>(
         &mut blocks,
         &mut table,
     );
+    let plan = LentPlan {
+        rank,
+        operands: 1,
+        extents: &es,
+        blocks: &blocks,
+        strides: &table,
+    };
     if cell_outside(extents, strides, start, cells.len() as u64) {
-        begin_on(rank, 1, &es, &blocks, &table, &[start])?;
+        begin_on(&plan, &[start])?;
         return Err(Refusal::Slice);
     }
-    Ok(summary_on(rank, &es, &blocks, &table, start, cells))
+    Ok(summary_on(&plan, start, cells))
 }
 
 // THE SUMMARY of an operand's cells, whatever the numbers.
-pub fn summarize<'a, 'b>(
+pub fn summarize<'a>(
     extents: &'a [u64],
     strides: &'a [i64],
     machine: Machine,
     start: i64,
-    cells: &'b [f64],
+    cells: &[f64],
 ) -> Result<Summary, Refusal>
     ensures { result ≡ summarized machine extents.now strides.now start cells.now }
 {

@@ -150,47 +150,41 @@ pub fn with_run(s: Summary, cells: &[f64], first: i64, stride: i64, n: u64) -> S
     t
 }
 
-// `count` runs of `n` cells, each `by` behind the one before.
-fn with_rows(
-    s: Summary,
-    cells: &[f64],
-    first: i64,
-    by: i64,
-    count: u64,
-    stride: i64,
-    n: u64,
-) -> Summary
-    requires runs_fit { RunsFit first by count }
-    requires ahead { Ahead cells.now s (rows_from first by count stride n) × (0 < n) }
-    ensures { result ≡ met cells.now s (rows_from first by count stride n) }
+// Rows of cells: `count` runs of `n` cells, which lie `stride` apart in a run, and each run is `by` behind the one before.
+#[derive(Clone, Copy)]
+pub struct Rows {
+    pub first: i64,
+    pub by: i64,
+    pub count: u64,
+    pub stride: i64,
+    pub n: u64,
+}
+
+// The cells of some rows, which have one each.
+fn with_rows(s: Summary, cells: &[f64], rows: Rows) -> Summary
+    requires runs_fit { RunsFit rows.first rows.by rows.count }
+    requires ahead { Ahead cells.now s (rows_from rows.first rows.by rows.count rows.stride rows.n) × (0 < rows.n) }
+    ensures { result ≡ met cells.now s (rows_from rows.first rows.by rows.count rows.stride rows.n) }
 {
     let mut t = s;
-    let mut o = first;
-    for j in 0..count {
-        t = with_run(t, cells, o, stride, n);
-        if j + 1 < count {
-            o = moved(o, by);
+    let mut o = rows.first;
+    for j in 0..rows.count {
+        t = with_run(t, cells, o, rows.stride, rows.n);
+        if j + 1 < rows.count {
+            o = moved(o, rows.by);
         }
     }
     t
 }
 
-// The same for runs of any length: the blocks of a stretch.
-pub fn with_blocks(
-    s: Summary,
-    cells: &[f64],
-    first: i64,
-    by: i64,
-    count: u64,
-    stride: i64,
-    n: u64,
-) -> Summary
-    requires runs_fit { RunsFit first by count }
-    requires ahead { Ahead cells.now s (rows_from first by count stride n) }
-    ensures { result ≡ met cells.now s (rows_from first by count stride n) }
+// The same for rows of any length: the blocks of a stretch.
+pub fn with_blocks(s: Summary, cells: &[f64], rows: Rows) -> Summary
+    requires runs_fit { RunsFit rows.first rows.by rows.count }
+    requires ahead { Ahead cells.now s (rows_from rows.first rows.by rows.count rows.stride rows.n) }
+    ensures { result ≡ met cells.now s (rows_from rows.first rows.by rows.count rows.stride rows.n) }
 {
-    if n == 0 {
+    if rows.n == 0 {
         return s;
     }
-    with_rows(s, cells, first, by, count, stride, n)
+    with_rows(s, cells, rows)
 }

@@ -16,30 +16,29 @@ use Rattle.strided.specs.Layout.{total}
 use Rattle.strided.specs.Refusals.{refused_by, row1, row2, layout_refused, planning_refused}
 use Rattle.strided.specs.Machine.{fixed_four}
 use Rattle.strided.specs.Fuse.{plan_axes}
+use Rattle.strided.specs.Plan.{the_plan, plan_from}
 use Rattle.strided.specs.Begin.{begin_refused}
-use Rattle.strided.specs.Text.{Parsed, InForm, Listing, sizes_of, strides_of, printed, printed_of, row13, row14, refusing, listing_or, text_refused, listed, zero_starts}
+use Rattle.strided.specs.Text.{Parsed, InForm, sizes_of, strides_of, printed, printed_of, row13, row14, refusing, listing_or, text_refused, listed, zero_starts}
 use Rattle.strided.specs.Memory.{plan_of}
 use Rattle.strided.specs.declared.Purpose.{Purpose}
 use Rattle.strided.specs.declared.Plan.{Plan}
 use Rattle.strided.specs.declared.Refusal.{Refusal}
 use Rattle.strided.specs.declared.Refusal.TheVariants.{Rank, Operands, TextTotal}
 use Rattle.laws.specs.Base.Tests.{or_none}
+use Rattle.laws.specs.Plan.Bounds.{plan_few}
 use Rattle.laws.specs.Plan.Places.{plan_extents_lem, plan_blocks_lem, plan_strides}
+use Rattle.laws.specs.Refusals.Accepted.{accepted}
 use Rattle.laws.specs.Refusals.Record.{planning_fixed}
 use Rattle.laws.specs.Text.Begins.{planned_begins}
 use Rattle.laws.specs.Text.Planning.{as_planning}
 use Rattle.advance.specs.Sized.{Sized}
 use Rattle.kernel.specs.Made.{Made}
+use Rattle.layout.specs.Lent.{Whole}
 use Rattle.reading.specs.Lines.{Arrays}
 use Rattle.reading.specs.Texts.{Says}
 use Rattle.reading.specs.Counted.{counted_extents, counted_sizes, counted_strides}
 use Rattle.writing.specs.Plan.{Printable, listed_in}
-use Rattle.text.specs.Listed.{Places, listed_served, listed_layout, listed_numbers}
-
--- ---- a listing by its answer
-
-pub answering : {z y : ℤ} {room : List ℕ} {l : Listing} → z ≡ y → record { answer = y; room = room } ≡ l → record { answer = z; room = room } ≡ l
-answering {room = room} e h = (λ i. record { answer = e i; room = room }) ∙ h
+use Rattle.text.specs.Listed.{Places, listed_layout, listed_numbers}
 
 -- ---- a layout that rows 1 to 6 let through
 
@@ -59,11 +58,20 @@ module _ (es sizes : List ℕ) (ss : List ℤ) (u : Purpose) (h : layout_refused
         begins = subst (λ (p : Plan). begin_refused p (zero_starts p) ≡ None) (sym m.is) (planned_begins fixed_four es sizes ss u passed);
       }
 
-  -- and its listing is the layout's
-  pub made-listed : (rank : ℕ) (E B : List ℕ) (S : List ℤ) → Made fixed_four es sizes ss u rank E B S → (room : List ℕ) {z : ℤ} {new : List ℕ}
-      → z ≡ (listed_in (plan_of rank (length sizes) E B S) room).answer → new ≡ (listed_in (plan_of rank (length sizes) E B S) room).room
-      → record { answer = z; room = new } ≡ listed_served es sizes ss u room
-  made-listed rank E B S m room e f = (λ i. record { answer = e i; room = f i }) ∙ ap (λ (p : Plan). listed_in p room) m.is
+  -- its rank and its operands are within their limits
+  pub made_whole : (rank : ℕ) (E B : List ℕ) (S : List ℤ) → Made fixed_four es sizes ss u rank E B S → Whole (plan_of rank (length sizes) E B S)
+  unfolding plan_from
+  made_whole rank E B S m =
+      let a = accepted es sizes ss u h in
+      let z = (made_printable rank E B S m).sized in
+      record {
+        axes = subst (λ (p : Plan). p.rank ≤ 64) (sym m.is) (plan_few es sizes ss u a);
+        one = a.one;
+        few = a.few;
+        extents-all = z.extents-all;
+        blocks_all = z.blocks_all;
+        strides_all = z.strides_all;
+      }
 
 -- ---- a layout
 
@@ -76,9 +84,15 @@ module _ (es sizes : List ℕ) (ss : List ℤ) (u : Purpose) (room : List ℕ) w
   unfolding listed_layout
   layout_total e t = rw (e, lt-ltb 1048576 (total es) (leb-false (total es) 1048576 t))
 
-  pub layout_served : layout_refused es sizes ss u ≡ None → leb (total es) 1048576 ≡ true → listed_served es sizes ss u room ≡ listed_layout es sizes ss u room
+  planned_listed : layout_refused es sizes ss u ≡ None → leb (total es) 1048576 ≡ true
+      → listed_in (the_plan fixed_four es sizes ss u) room ≡ listed_layout es sizes ss u room
   unfolding listed_layout printed
-  layout_served e t = rw (e, le-ltb 1048576 (total es) (leb-true (total es) 1048576 t))
+  planned_listed e t = rw (e, le-ltb 1048576 (total es) (leb-true (total es) 1048576 t))
+
+  -- the plan's listing is the layout's
+  pub layout_served : layout_refused es sizes ss u ≡ None → leb (total es) 1048576 ≡ true → {rank : ℕ} {E B : List ℕ} {S : List ℤ}
+      → Made fixed_four es sizes ss u rank E B S → listed_in (plan_of rank (length sizes) E B S) room ≡ listed_layout es sizes ss u room
+  layout_served e t m = ap (λ (p : Plan). listed_in p room) m.is ∙ planned_listed e t
 
 -- ---- numbers in arrays
 

@@ -3,16 +3,9 @@
 use Rattle.std.specs.Prelude.{◌≡◌, List, [], ◌∷◌, ℕ, ◌*◌, ℤ, length, take, Option, None, Some}
 use Rattle.strided.specs.Base.{first}
 use Rattle.strided.specs.Refusals.{refused_by, row1, row2, layout_refused}
-use Rattle.strided.specs.Machine.{fixed_four}
-use Rattle.strided.specs.Plan.{the_plan}
 use Rattle.strided.specs.Text.{Listing, printed, row13, row14, refusing, listing_or}
 use Rattle.strided.specs.declared.Purpose.{Purpose}
 use Rattle.strided.specs.declared.Refusal.{Refusal}
-use Rattle.writing.specs.Plan.{listed_in}
-
--- a layout that rows 1 to 6 and 13 let through: the output of its plan for the fixed four, if there is room
-abbrev pub listed_served : List ℕ → List ℕ → List ℤ → Purpose → List ℕ → Listing
-listed_served es sizes ss u room = listed_in (the_plan fixed_four es sizes ss u) room
 
 -- rows 1 to 6, then 13, then 14
 unfoldable pub listed_layout : List ℕ → List ℕ → List ℤ → Purpose → List ℕ → Listing

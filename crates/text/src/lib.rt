@@ -2,33 +2,35 @@
 // byte is written, and its output is measured first, so that a refusal leaves every lent byte as it was.
 #![tactic(auto)]
 
-ghost use Rattle.std.specs.Prelude.{◌≡◌, None};
-ghost use Rattle.strided.specs.Refusals.{layout_refused};
+ghost use Rattle.std.specs.Prelude.{◌≡◌};
 ghost use Rattle.strided.specs.Text.{Lists};
-ghost use Rattle.text.specs.Listed.{Places, listed_served, listed_layout, listed_numbers};
+ghost use Rattle.text.specs.Listed.{Places, listed_layout, listed_numbers};
 
 use kernel::{Aim, plan_into};
 use l1::L1Sets;
-use layout::{check_layout, negated, operands_wrong, rank_over, total_at_most};
-use reading::read_text;
+use layout::{LentPlan, check_layout, operands_wrong, rank_over, total_at_most};
+use reading::{Said, read_text};
 use strided::{Machine, Purpose, Refusal};
 use writing::list;
 
 // "total above 1,048,576 in text": so many cells at most.
 pub const MAX_TOTAL: u64 = 1048576;
 
-// Lists a layout that planning does not refuse, for the fixed four.
-fn list_served<'a>(
+// Lists a layout: rows 1 to 6, row 13, and the output of its plan for the fixed four.
+fn list_layout<'a>(
     extents: &'a [u64],
     sizes: &'a [u64],
     strides: &'a [i64],
     purpose: Purpose,
     room: &mut [u8],
-) -> i64
-    requires { layout_refused extents.now sizes.now strides.now purpose ≡ None }
+) -> Result<usize, Refusal>
     ensures { record { answer = result; room = room.new }
-        ≡ listed_served extents.now sizes.now strides.now purpose room.old }
+        ≡ listed_layout extents.now sizes.now strides.now purpose room.old }
 {
+    check_layout(extents, sizes, strides, purpose)?;
+    if !total_at_most(extents, MAX_TOTAL) {
+        return Err(Refusal::TextTotal);
+    }
     let mut es = [0u64; 64];
     let mut blocks = [0u64; 64];
     let mut table = [0i64; 512];
@@ -48,77 +50,54 @@ fn list_served<'a>(
         &mut blocks,
         &mut table,
     );
-    list(rank, sizes.len(), &es, &blocks, &table, room)
+    let plan = LentPlan {
+        rank,
+        operands: sizes.len(),
+        extents: &es,
+        blocks: &blocks,
+        strides: &table,
+    };
+    list(&plan, room)
 }
 
-// Lists a layout: rows 1 to 6, row 13, and what is behind them.
-fn list_layout<'a>(
-    extents: &'a [u64],
-    sizes: &'a [u64],
-    strides: &'a [i64],
-    purpose: Purpose,
-    room: &mut [u8],
-) -> i64
-    ensures { record { answer = result; room = room.new }
-        ≡ listed_layout extents.now sizes.now strides.now purpose room.old }
-{
-    if let Err(refusal) = check_layout(extents, sizes, strides, purpose) {
-        return negated(refusal);
-    }
-    if !total_at_most(extents, MAX_TOTAL) {
-        return negated(Refusal::TextTotal);
-    }
-    list_served(extents, sizes, strides, purpose, room)
-}
-
-// Lists the layout whose numbers stand in arrays of 64, 8 and 512 places. A rank or a count of operands that has no places there is above
-// the limits of rows 1 and 2.
+// Lists the layout that a text says, whose numbers stand in arrays of 64, 8 and 512 places. A rank or a count of operands that has no places
+// there is above the limits of rows 1 and 2.
 fn list_numbers<'a>(
-    rank: usize,
-    operands: usize,
+    said: Said,
     extents: &'a [u64],
     sizes: &'a [u64],
     strides: &'a [i64],
-    purpose: Purpose,
     room: &mut [u8],
-) -> i64
+) -> Result<usize, Refusal>
     requires { Places extents.now sizes.now strides.now }
     ensures { record { answer = result; room = room.new }
-        ≡ listed_numbers rank operands extents.now sizes.now strides.now purpose room.old }
+        ≡ listed_numbers said.rank said.operands extents.now sizes.now strides.now said.purpose room.old }
 {
-    if rank_over(rank) {
-        return negated(Refusal::Rank);
+    if rank_over(said.rank) {
+        return Err(Refusal::Rank);
     }
-    if operands_wrong(operands) {
-        return negated(Refusal::Operands);
+    if operands_wrong(said.operands) {
+        return Err(Refusal::Operands);
     }
-    let count = rank * operands;
+    let count = said.rank * said.operands;
     list_layout(
-        &extents[..rank],
-        &sizes[..operands],
+        &extents[..said.rank],
+        &sizes[..said.operands],
         &strides[..count],
-        purpose,
+        said.purpose,
         room,
     )
 }
 
-// WALKLIST: the output's length, or the refusal's number negated. Bytes of the room behind the output stay, and all of them on a refusal.
-pub fn walklist(text: &[u8], room: &mut [u8]) -> i64
+// WALKLIST: the output's length, or the refusal. Bytes of the room behind the output stay, and all of them on a refusal.
+pub fn walklist(text: &[u8], room: &mut [u8]) -> Result<usize, Refusal>
     ensures { Lists text.now room.old (record { answer = result; room = room.new }) }
 {
     let mut extents = [0u64; 64];
     let mut sizes = [0u64; 8];
     let mut strides = [0i64; 512];
     match read_text(text, &mut extents, &mut sizes, &mut strides) {
-        Ok(said) => list_numbers(
-            said.rank,
-            said.operands,
-            &extents,
-            &sizes,
-            &strides,
-            said.purpose,
-            room,
-        ),
-        Err(_) => negated(Refusal::Form),
+        Ok(said) => list_numbers(said, &extents, &sizes, &strides, room),
+        Err(_) => Err(Refusal::Form),
     }
 }

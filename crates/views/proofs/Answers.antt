@@ -1,32 +1,32 @@
 -- The answers of a visit, put together from what the parts of the code found.
 -- Assumes nothing.
-use mathlib.Core.Path.{◌≡◌, refl, sym, ap, ap₂, ◌∙◌, subst}
-use mathlib.Core.Bool.{Bool, true, false}
+use mathlib.Core.Path.{◌≡◌, refl, sym, ap, ◌∙◌, subst}
+use mathlib.Core.Bool.{Bool, true, false, cond}
 use mathlib.Core.List.{List, [], ◌∷◌}
-use Rattle.std.specs.Prelude.{None, Some, Ok, Err, Result}
-use Prim.Native.Nat.{ℕ, ◌^◌, ◌≤◌, ◌<◌}
+use Rattle.std.specs.Prelude.{None, Some, Ok, Err, Result, Option}
+use Prim.Native.Nat.{ℕ, ◌^◌, ◌<◌}
 use native.Mathlib.Omega.{arith}
 use lib.Dec.{ltb}
-use lib.IntN.{ℤ, pos}
-use lib.ListN.{length, get_or, take, replicate, length-take}
+use lib.IntN.{ℤ}
+use lib.ListN.{length, get_or, take, replicate}
 use borrow.Author.Tests.{ltb-false}
 use Rattle.strided.specs.Layout.{total, max_u}
-use Rattle.strided.specs.Refusals.{refused_by, row1, row2, layout_refused}
+use Rattle.strided.specs.Refusals.{refused_by, served_unless, row1, row2, layout_refused}
 use Rattle.strided.specs.Index.{told_original}
 use Rattle.strided.specs.Begin.{plan_extents, begin_rows, begin_refused}
-use Rattle.strided.specs.Step.{plan_cut_axes, not_stepped, step_rows, stepped}
-use Rattle.strided.specs.Memory.{index_at, index_memory, StepMemory, step_memory, kept_step, Steps}
+use Rattle.strided.specs.Step.{plan_cut_axes, step_rows, stepped, left, handed_block}
+use Rattle.strided.specs.Memory.{index_at, index_memory, StepMemory, step_memory}
 use Rattle.strided.specs.declared.Purpose.{Purpose}
 use Rattle.strided.specs.declared.Refusal.{Refusal}
 use Rattle.strided.specs.declared.Refusal.TheVariants.{State}
-use Rattle.strided.specs.declared.Outcome.{Outcome}
-use Rattle.strided.specs.declared.Outcome.TheVariants.{Block, Ended, Rejected}
 use Rattle.strided.specs.declared.Plan.{Plan}
 use Rattle.strided.specs.declared.Told.{Told}
 use Rattle.strided.specs.declared.Walk.{Walk}
+use Rattle.strided.specs.declared.Block.{Block}
 use Rattle.strided.specs.declared.Stepped.{Stepped}
 use Rattle.laws.specs.Base.Arrays.{take_counted}
 use Rattle.laws.specs.Base.Refusals.{NoneApplies, none_applies}
+use Rattle.laws.specs.Refusals.Rows.{refused_some}
 use Rattle.laws.specs.Refusals.Zeros.{row5-total}
 use Rattle.laws.specs.Walk.States.{Inside, OnStart}
 use Rattle.laws.specs.Walk.Reach.{reach}
@@ -35,24 +35,20 @@ use Rattle.laws.specs.Walk.Steps.{none_of, wide, counters-many}
 use Rattle.advance.specs.Sized as plans
 use Rattle.finding.specs.Memory.{Leaves}
 use Rattle.finding.specs.Mapped.{found_original}
-use Rattle.finding.proofs.Answers.{same-told, original_passed}
-use Rattle.walk.specs.Lent.{Taken, over_step}
-use Rattle.walk.proofs.Stepping.{zs, r, runs, ended_step, block_here, counters-here}
+use Rattle.finding.proofs.Answers.{original_passed}
+use Rattle.walk.specs.Lent.{Taken, Handed, over_step}
+use Rattle.walk.proofs.Stepping.{zs, r, runs, ended_step, here, block_here, counters-here}
 use Rattle.views.specs.declared.Visited.{Visited}
 use Rattle.views.specs.Number.{block_number}
-use Rattle.views.specs.Visits.{visit_rows, visit_refused, ended_visit, shown, found_visit, visit_by, seen, visited}
-use Rattle.views.specs.Memory.{VisitMemory, visit_at, VisitLeaves, record_of}
+use Rattle.views.specs.Visits.{visit_rows, visit_refused, ended_visit, shown, found_visit, visit_by, seen_by, seen, visited}
+use Rattle.views.specs.Memory.{VisitMemory, visit_at, VisitLeaves}
 use Rattle.views.specs.Tally.{Countable}
+use Rattle.views.proofs.Seeing.{seen_block, leaves_block}
 
 -- ---- index finding's answer
 
-pub taken_long : (n : ℕ) (l : List ℕ) → length l ≡ 64 → n ≤ 64 → n ≡ length (take n l)
-taken_long n l e h = omega (arith, length-take n l)
-
--- of a layout that is not refused
-pub told_as : (es sizes : List ℕ) (ss : List ℤ) (u : Purpose) → layout_refused es sizes ss u ≡ None → (y : List ℕ) {c x c' x' : List ℕ} {a b : Result (Unit {0}) Refusal} → a ≡ b
-    → Leaves (found_original es (length sizes) ss u y) c x c' x' a → Leaves (told_original es sizes ss u y) c x c' x' b
-told_as es sizes ss u h y {c} {x} {c'} {x'} e l = subst (Leaves (told_original es sizes ss u y) c x c' x') e (same-told (original_passed es sizes ss u y h) l)
+pub told_as : {s t : Result Told Refusal} {c x c' x' : List ℕ} {a b : Result (Unit {0}) Refusal} → s ≡ t → a ≡ b → Leaves s c x c' x' a → Leaves t c x c' x' b
+told_as {s} {t} {c} {x} {c'} {x'} {a} {b} e h l = subst (Leaves t c x c' x') h (subst (λ (v : Result Told Refusal). Leaves v c x c' x' a) e l)
 
 -- what memory holds is what was told, and a refusal is the teller's
 pub record Given (t : Result Told Refusal) (c x : List ℕ) : Type 0 where
@@ -89,6 +85,27 @@ module _ (es sizes : List ℕ) (ss : List ℤ) (u : Purpose) (rank operands : �
       let n : NoneApplies (visit_rows es sizes ss u rank operands) = none_applies (visit_rows es sizes ss u rank operands) h in
       rw (n.1.0, n.1.1.1.0)
 
+-- what the lending refuses the visit refuses too
+pub lend_refused : (es sizes : List ℕ) (ss : List ℤ) (u : Purpose) (p : Plan) {s : Refusal} → Err s ≡ served_unless (refused_by (row1 (length es) ∷ step_rows p)) p
+    → visit_refused es sizes ss u p.rank p.operands ≡ Some s
+unfolding visit_refused
+lend_refused es sizes ss u p {s} h =
+    go (row1 (length es)).applies (row1 p.rank).applies (row2 (length sizes)).applies (row2 p.operands).applies _
+    (refused_some (refused_by (row1 (length es) ∷ step_rows p)) p (sym h))
+  where
+    rank : Option Refusal
+    rank = Some (row1 p.rank).refusal
+
+    few : Option Refusal
+    few = Some (row2 p.operands).refusal
+
+    go : (a b c d : Bool) (rest : Option Refusal) → cond a rank (cond b rank (cond d few None)) ≡ Some s → cond a rank (cond b rank (cond c few (cond d few rest))) ≡ Some s
+    go true b c d rest q = q
+    go false true c d rest q = q
+    go false false true true rest q = q
+    go false false false true rest q = q
+    go false false c false rest q = let z : ◌≡◌ {A = ℕ} 0 1 = cc q in absurd (omega arith)
+
 -- ---- a state that is taken, and runs
 
 module _ (p : Plan) (w : Walk) (k : Taken p w) (h : w.ended ≡ false) where
@@ -100,7 +117,7 @@ module _ (p : Plan) (w : Walk) (k : Taken p w) (h : w.ended ≡ false) where
       omega (arith, ltb-false max_u (total (plan_extents p)) f)
 
   -- its counters are those of a block
-  pub countable : Countable p.rank p.extents p.blocks w.counters
+  pub countable : Countable p w.counters
   countable =
       let q = runs p w k h in
       let e : take p.rank w.counters ≡ q.c =
@@ -117,58 +134,10 @@ module _ (p : Plan) (w : Walk) (k : Taken p w) (h : w.ended ≡ false) where
         fits = total_fits;
       }
 
-  -- ---- its visit, out of what index finding told
-
-  module _ (es sizes : List ℕ) (ss : List ℤ) (u : Purpose) where
-    abbrev T : Result Told Refusal
-    T = told_original es sizes ss u (take p.rank w.counters)
-
-    seen_here : seen es sizes ss u p (stepped p w) ≡ found_visit T p (stepped p w)
-    unfolding seen
-    seen_here =
-        ap₂ (λ (o : Outcome) (c : List ℕ). visit_by o p (stepped p w) (told_original es sizes ss u (take p.rank c))) (block_here p w k h) (counters-here p w k h)
-
-    module _ {c x c' x' : List ℕ} where
-      pub visit_refused_lem : {s : Refusal} → Leaves T c x c' x' (Err s) → (m : StepMemory) (n : List ℕ)
-          → VisitLeaves (seen es sizes ss u p (stepped p w)) (visit_at m n (index_at c x)) (visit_at m n (index_at c' x')) (Rejected s)
-      visit_refused_lem l m n =
-          let q = refused_is T l in
-          rw (seen_here, q.0) (record { answer = refl; memory = ap (visit_at m n) q.1 })
-
-      pub visit_block : Leaves T c x c' x' (Ok tt) → {n : ℕ} → n ≡ block_number (plan_cut_axes p) (take p.rank w.counters)
-          → {old new : StepMemory} {N : List ℕ} → Steps (stepped p w) old new (pos 1)
-          → VisitLeaves (seen es sizes ss u p (stepped p w)) (visit_at old N (index_at c x)) (visit_at new (n ∷ []) (index_at c' x')) Block
-      visit_block l {n} e {old} {new} s =
-          let q = given T l in
-          let f : new ≡ step_memory (stepped p w) = s.memory ∙ ap (λ (o : Outcome). kept_step o (step_memory (stepped p w)) old) (block_here p w k h) in
-          let g : n ≡ block_number (plan_cut_axes p) (take p.rank (stepped p w).counters) =
-          e ∙ ap (λ (v : List ℕ). block_number (plan_cut_axes p) (take p.rank v)) (sym (counters-here p w k h)) in
-          rw (seen_here, q.is) (record { answer = refl; memory = λ i. visit_at (f i) (g i ∷ []) (q.memory i) })
-
--- ---- by value: index finding told into zeros
-
-module _ (es sizes : List ℕ) (ss : List ℤ) (u : Purpose) (p : Plan) (s : Stepped) (h : s.answer ≡ Block) where
-  abbrev told : Result Told Refusal
-  told = told_original es sizes ss u (take p.rank s.counters)
-
-  seen_block : seen es sizes ss u p s ≡ found_visit told p s
-  unfolding seen
-  seen_block = ap (λ (o : Outcome). visit_by o p s told) h
-
-  module _ {c x : List ℕ} where
-    pub value-refused : {r : Refusal} → Leaves told (0 ∷ []) (replicate 64 0) c x (Err r) → Err r ≡ seen es sizes ss u p s
-    value-refused l = rw (seen_block, (refused_is told l).0)
-
-    pub value_block : Leaves told (0 ∷ []) (replicate 64 0) c x (Ok tt) → {n : ℕ} → n ≡ block_number (plan_cut_axes p) (take p.rank s.counters)
-        → shown (record_of n s.counters s.length s.offsets s.strides (get_or c 0 0) x) s.walk ≡ seen es sizes ss u p s
-    value_block l {n} e =
-        let q = given told l in
-        rw (seen_block, q.is) (λ i. shown (record_of (e i) s.counters s.length s.offsets s.strides (get_or (q.memory i).count 0 0) (q.memory i).index) s.walk)
-
 -- ---- a step that hands out a block was made on a state that is taken
 
 module _ (p : Plan) (w : Walk) (z : plans.Sized p) (hc : length w.counters ≡ 64) (ho : length w.offsets ≡ 8)
-    (rows : refused_by (step_rows p) ≡ None) (h : (stepped p w).answer ≡ Block) where
+    (rows : refused_by (step_rows p) ≡ None) (b : Block) (h : handed_block (stepped p w) ≡ Some b) where
   block_taken : Taken p w
   block_taken =
       record {
@@ -180,7 +149,7 @@ module _ (p : Plan) (w : Walk) (z : plans.Sized p) (hc : length w.counters ≡ 6
         rows = rows;
         reached =
             (row10_exact p w (record { extents-all = z.extents-all; counters-all = hc; offsets_all = ho }) rows).0
-            (λ (q : (stepped p w).answer ≡ Rejected State). let z : ◌≡◌ {A = ℕ} 0 1 = cc (q, h) in omega arith);
+            (λ (q : stepped p w ≡ Err State). let e : None ≡ Some b = sym (ap handed_block q) ∙ h in let z : ◌≡◌ {A = ℕ} 0 1 = cc e in omega arith);
       }
 
   block_runs : w.ended ≡ false
@@ -189,20 +158,65 @@ module _ (p : Plan) (w : Walk) (z : plans.Sized p) (hc : length w.counters ≡ 6
       go : (b : Bool) → w.ended ≡ b → b ≡ false
       go false e = refl
       go true e =
-          let q : Ended ≡ (stepped p w).answer = ap (λ (s : Stepped). s.answer) (ended_step p w block_taken e {s = over_step w} refl) in
-          let z : ◌≡◌ {A = ℕ} 0 1 = cc (q, h) in
+          let q : None ≡ Some b = ap handed_block (ended_step p w block_taken e) ∙ h in
+          let z : ◌≡◌ {A = ℕ} 0 1 = cc q in
           absurd (omega arith)
 
-  pub block_countable : Countable p.rank p.extents p.blocks (stepped p w).counters
+  pub block_countable : Countable p b.counters
   block_countable =
-      subst (Countable p.rank p.extents p.blocks) (sym (counters-here p w block_taken block_runs)) (countable p w block_taken block_runs)
+      let q : Some (here p w block_taken block_runs) ≡ Some b = sym (block_here p w block_taken block_runs) ∙ h in
+      let e : here p w block_taken block_runs ≡ b = cc q in
+      subst (Countable p) (sym (counters-here p w block_taken block_runs) ∙ ap (λ (d : Block). d.counters) e) (countable p w block_taken block_runs)
+
+-- ---- the record of a block, out of what index finding told; `tell` is what it tells of counters
+
+module _ (tell : List ℕ → Result Told Refusal) (p : Plan) where
+  -- by value, into zeros
+  module _ (b : Block) (w : Walk) {c x : List ℕ} where
+    pub value-refused : {s : Refusal} → Leaves (tell (take p.rank b.counters)) (0 ∷ []) (replicate 64 0) c x (Err s) → Err s ≡ visit_by tell p (Some b) w
+    value-refused l = sym (ap (found_visit p b w) (refused_is (tell (take p.rank b.counters)) l).0)
+
+    pub value_block : Leaves (tell (take p.rank b.counters)) (0 ∷ []) (replicate 64 0) c x (Ok tt) → {n : ℕ}
+        → n ≡ block_number (plan_cut_axes p) (take p.rank b.counters)
+        → shown (record { number = n; block = b; first = record { count = get_or c 0 0; index = x } }) w ≡ visit_by tell p (Some b) w
+    value_block l {n} e =
+        let q = given (tell (take p.rank b.counters)) l in
+        (λ i. shown (record { number = e i; block = b; first = record { count = get_or (q.memory i).count 0 0; index = (q.memory i).index } }) w)
+        ∙ sym (ap (found_visit p b w) q.is)
+
+  -- in lent memory
+  module _ (w : Walk) (k : Taken p w) (h : w.ended ≡ false) where
+    abbrev told : Result Told Refusal
+    told = tell (take p.rank w.counters)
+
+    seen_here : seen_by tell p (stepped p w) ≡ found_visit p (here p w k h) (left (stepped p w) w) told
+    seen_here =
+        seen_block (stepped p w) (here p w k h) (block_here p w k h) w tell p
+        ∙ ap (λ (v : List ℕ). found_visit p (here p w k h) (left (stepped p w) w) (tell (take p.rank v))) (counters-here p w k h)
+
+    module _ {c x c' x' : List ℕ} where
+      pub visit_refused_lem : {s : Refusal} → Leaves told c x c' x' (Err s) → (m : StepMemory) (n : List ℕ)
+          → VisitLeaves (seen_by tell p (stepped p w)) (visit_at m n (index_at c x)) (visit_at m n (index_at c' x')) (Err s)
+      visit_refused_lem l m n =
+          let q = refused_is told l in
+          rw (seen_here, q.0) (record { answer = refl; memory = ap (visit_at m n) q.1 })
+
+      pub visit_block : Leaves told c x c' x' (Ok tt) → {n : ℕ} → n ≡ block_number (plan_cut_axes p) (take p.rank w.counters)
+          → {old new : StepMemory} {N : List ℕ} → Handed (stepped p w) old new (Ok true)
+          → VisitLeaves (seen_by tell p (stepped p w)) (visit_at old N (index_at c x)) (visit_at new (n ∷ []) (index_at c' x')) (Ok true)
+      visit_block l {n} e {old} {new} s =
+          let q = given told l in
+          let f : new ≡ step_memory (left (stepped p w) w) (here p w k h) = s.memory ∙ leaves_block (stepped p w) (here p w k h) (block_here p w k h) w old in
+          let g : n ≡ block_number (plan_cut_axes p) (take p.rank (here p w k h).counters) =
+          e ∙ ap (λ (v : List ℕ). block_number (plan_cut_axes p) (take p.rank v)) (sym (counters-here p w k h)) in
+          rw (seen_here, q.is) (record { answer = refl; memory = λ i. visit_at (f i) (g i ∷ []) (q.memory i) })
 
 -- ---- the entry
 
 module _ (es sizes : List ℕ) (ss : List ℤ) (u : Purpose) (p : Plan) (w : Walk) where
   -- a row of the counts or of the layout
   pub entry_refused : {s : Refusal} → visit_refused es sizes ss u p.rank p.operands ≡ Some s → {old : VisitMemory}
-      → VisitLeaves (visited es sizes ss u p w) old old (Rejected s)
+      → VisitLeaves (visited es sizes ss u p w) old old (Err s)
   unfolding visited
   entry_refused h = rw h (record { answer = refl; memory = refl })
 
@@ -211,28 +225,41 @@ module _ (es sizes : List ℕ) (ss : List ℤ) (u : Purpose) (p : Plan) (w : Wal
   value-first h = rw h
 
   module _ (h : visit_refused es sizes ss u p.rank p.operands ≡ None) where
-    pub visited_is : {s : Stepped} → s ≡ stepped p w → seen es sizes ss u p s ≡ visited es sizes ss u p w
+    -- what index finding tells of a layout that is not refused
+    abbrev found : List ℕ → Result Told Refusal
+    found = found_original es (length sizes) ss u
+
+    finds : found ≡ told_original es sizes ss u
+    finds = λ i y. original_passed es sizes ss u y (visit_layout es sizes ss u p.rank p.operands h) i
+
+    -- the step decides
+    visited_is : {s : Result Stepped Refusal} → stepped p w ≡ s → seen es sizes ss u p s ≡ visited es sizes ss u p w
     unfolding visited
-    visited_is e = rw h (ap (seen es sizes ss u p) e)
+    visited_is e = rw h (ap (seen es sizes ss u p) (sym e))
 
-    -- the step's answer decides
-    pub value-state : {s : Stepped} → s ≡ stepped p w → {a : Refusal} → s.answer ≡ Rejected a → Err a ≡ visited es sizes ss u p w
-    unfolding seen
-    value-state {s} e {a} q = sym (ap (λ (o : Outcome). visit_by o p s (told_original es sizes ss u (take p.rank s.counters))) q) ∙ visited_is e
+    pub value-state : {a : Refusal} → stepped p w ≡ Err a → Err a ≡ visited es sizes ss u p w
+    value-state e = visited_is e
 
-    pub value_ended : {s : Stepped} → s ≡ stepped p w → s.answer ≡ Ended → ended_visit s.walk ≡ visited es sizes ss u p w
-    unfolding seen
-    value_ended {s} e q = sym (ap (λ (o : Outcome). visit_by o p s (told_original es sizes ss u (take p.rank s.counters))) q) ∙ visited_is e
+    module _ {s : Stepped} (e : stepped p w ≡ Ok s) where
+      pub value_ended : s.block ≡ None → ended_visit s.walk ≡ visited es sizes ss u p w
+      value_ended q = sym (ap (λ (o : Option Block). visit_by (told_original es sizes ss u) p o s.walk) q) ∙ visited_is e
+
+      pub value_seen : {b : Block} → s.block ≡ Some b → visit_by (found_original es (length sizes) ss u) p (Some b) s.walk ≡ visited es sizes ss u p w
+      value_seen {b} q =
+          ap (λ (tell : List ℕ → Result Told Refusal). visit_by tell p (Some b) s.walk) finds
+          ∙ sym (ap (λ (o : Option Block). visit_by (told_original es sizes ss u) p o s.walk) q)
+          ∙ visited_is e
 
     -- row 10
-    pub entry_state : {s : Refusal} {old : VisitMemory} → not_stepped s ≡ stepped p w → VisitLeaves (visited es sizes ss u p w) old old (Rejected s)
-    unfolding seen
-    entry_state {s} {old} e = subst (λ (v : Result Visited Refusal). VisitLeaves v old old (Rejected s)) (visited_is e) (record { answer = refl; memory = refl })
+    pub entry_state : {s : Refusal} {old : VisitMemory} → Err s ≡ stepped p w → VisitLeaves (visited es sizes ss u p w) old old (Err s)
+    entry_state {s} {old} e = subst (λ (v : Result Visited Refusal). VisitLeaves v old old (Err s)) (visited_is (sym e)) (record { answer = refl; memory = refl })
 
-    pub entry_ended : {old : VisitMemory} → over_step w ≡ stepped p w → VisitLeaves (visited es sizes ss u p w) old old Ended
-    unfolding seen
-    entry_ended {old} e = subst (λ (v : Result Visited Refusal). VisitLeaves v old old Ended) (visited_is e) (record { answer = refl; memory = refl })
+    pub entry_ended : {old : VisitMemory} → over_step w ≡ stepped p w → VisitLeaves (visited es sizes ss u p w) old old (Ok false)
+    entry_ended {old} e = subst (λ (v : Result Visited Refusal). VisitLeaves v old old (Ok false)) (visited_is (sym e)) (record { answer = refl; memory = refl })
 
-    pub entry_block : {s : Stepped} → s ≡ stepped p w → {old new : VisitMemory} {a : Outcome} → VisitLeaves (seen es sizes ss u p s) old new a
+    pub entry_block : {s : Result Stepped Refusal} → s ≡ stepped p w → {old new : VisitMemory} {a : Result Bool Refusal}
+        → VisitLeaves (seen_by (found_original es (length sizes) ss u) p s) old new a
         → VisitLeaves (visited es sizes ss u p w) old new a
-    entry_block e {old} {new} {a} l = subst (λ (v : Result Visited Refusal). VisitLeaves v old new a) (visited_is e) l
+    entry_block {s} e {old} {new} {a} l =
+        subst (λ (v : Result Visited Refusal). VisitLeaves v old new a)
+        (ap (λ (tell : List ℕ → Result Told Refusal). seen_by tell p s) finds ∙ visited_is (sym e)) l

@@ -13,7 +13,9 @@ use Rattle.laws.specs.Walk.Cuts.{axes_wide}
 use Rattle.laws.specs.Walk.Totals.{cell_count, block_count, cut-total}
 use Rattle.laws.specs.Walk.Number.{tile_size, tiles_before, place_in_tile, number_of, tiles-count, before-most, place-most, number-below, blocks_most}
 use Rattle.advance.specs.Filled.{filled_at}
-use Rattle.advance.specs.Axis.{width_at, widths_to}
+use Rattle.strided.specs.declared.Plan.{Plan}
+use Rattle.strided.specs.Step.{plan_cut_axes}
+use Rattle.advance.specs.Axis.{width_at, widths}
 use Rattle.advance.proofs.Bridge.{from, from-take, axes_at}
 use Rattle.advance.proofs.Plans.{axes_are}
 use Rattle.views.specs.declared.number.Tally.{Tally}
@@ -80,83 +82,86 @@ module _ (n : ℕ) (e w c : List ℕ) (g : Good e w c 0 (suc n)) where
 -- ---- a plan's arrays
 
 -- the figures of the axes from i on
-unfoldable pub tally_from : ℕ → List ℕ → List ℕ → List ℕ → ℕ → Tally
-tally_from rank e b c i = tally_of (axes_at e (widths_to rank e b rank) i (rank - i)) (from c i (rank - i))
+unfoldable pub tally_from : Plan → List ℕ → ℕ → Tally
+tally_from p c i = tally_of (axes_at p.extents (widths p) i (p.rank - i)) (from c i (p.rank - i))
 
 -- none is left
-pub tally_none : (rank : ℕ) (e b c : List ℕ) → tally_from rank e b c rank ≡ record { before = 0; size = 1; place = 0 }
+pub tally_none : (p : Plan) (c : List ℕ) → tally_from p c p.rank ≡ record { before = 0; size = 1; place = 0 }
 unfolding tally_from
-tally_none rank e b c = let z : rank - rank ≡ 0 = omega arith in ap (λ n. tally_of (axes_at e (widths_to rank e b rank) rank n) (from c rank n)) z
+tally_none p c = let z : p.rank - p.rank ≡ 0 = omega arith in ap (λ n. tally_of (axes_at p.extents (widths p) p.rank n) (from c p.rank n)) z
 
-module _ (rank : ℕ) (e b c : List ℕ) (k : Countable rank e b c) where
+module _ (p : Plan) (c : List ℕ) (k : Countable p c) where
+  abbrev rank : ℕ
+  rank = p.rank
+
+  abbrev e : List ℕ
+  e = p.extents
+
   -- the block sizes in force
   abbrev W : List ℕ
-  W = widths_to rank e b rank
+  W = widths p
 
-  abbrev axs : List CutAxis
-  axs = cut_axes (take rank e) (take rank b)
-
-  width_at_lem : (j : ℕ) → j < rank → get_or W j 0 ≡ width_at rank e b j
+  width_at_lem : (j : ℕ) → j < rank → get_or W j 0 ≡ width_at p j
   width_at_lem j h =
       let a : rank ≤ 64 = k.few in
-      filled_at (replicate 64 0) (width_at rank e b) 0 rank j h (subst (λ (n : ℕ). rank ≤ n) (sym (length-replicate {A = ℕ} 64 0)) a)
+      filled_at (replicate 64 0) (width_at p) 0 rank j h (subst (λ (n : ℕ). rank ≤ n) (sym (length-replicate {A = ℕ} 64 0)) a)
 
-  axes : axes_at e (widths_to rank e b rank) 0 rank ≡ cut_axes (take rank e) (take rank b)
+  axes : axes_at e W 0 rank ≡ plan_cut_axes p
   axes =
       let a : rank ≤ 64 = k.few in
-      axes_are rank e b (widths_to rank e b rank) (omega (arith, k.extents-all, a)) (omega (arith, k.blocks_all, a)) width_at_lem
+      axes_are rank e p.blocks W (omega (arith, k.extents-all, a)) (omega (arith, k.blocks_all, a)) width_at_lem
 
   counters : from c 0 rank ≡ take rank c
   counters = let a : rank ≤ 64 = k.few in from-take c rank (omega (arith, k.counters-all, a))
 
-  good : Good e (widths_to rank e b rank) c 0 rank
+  good : Good e W c 0 rank
   good =
       record {
-        wide = subst Wide (sym axes) (axes_wide (take rank e) (take rank b));
-        inside = subst (λ (l : List CutAxis). Inside l (from c 0 rank)) (sym axes) (subst (Inside (cut_axes (take rank e) (take rank b))) (sym counters) k.inside);
+        wide = subst Wide (sym axes) (axes_wide (take rank e) (take rank p.blocks));
+        inside = subst (λ (l : List CutAxis). Inside l (from c 0 rank)) (sym axes) (subst (Inside (plan_cut_axes p)) (sym counters) k.inside);
         fits = subst (λ (l : List CutAxis). cell_count l < 2 ^ 64) (sym axes) (subst (λ (n : ℕ). n < 2 ^ 64) (sym (cut-total (take rank e) _)) k.fits);
       }
 
-  module _ (j : ℕ) (h : j < rank) {w : ℕ} (is : w ≡ width_at rank e b j) where
-    pub tally_step : tallied (get_or e j 0) w (get_or c j 0) (tally_from rank e b c (j + 1)) ≡ tally_from rank e b c j
+  module _ (j : ℕ) (h : j < rank) {w : ℕ} (is : w ≡ width_at p j) where
+    pub tally_step : tallied (get_or p.extents j 0) w (get_or c j 0) (tally_from p c (j + 1)) ≡ tally_from p c j
     unfolding tally_from tallied
     tally_step =
         let s : j + 1 ≡ suc j = omega arith in
         let q : rank - j ≡ suc (rank - suc j) = omega arith in
-        ap (λ v. tallied (get_or e j 0) v (get_or c j 0) (tally_from rank e b c (j + 1))) (is ∙ sym (width_at_lem j h))
+        ap (λ v. tallied (get_or e j 0) v (get_or c j 0) (tally_from p c (j + 1))) (is ∙ sym (width_at_lem j h))
         ∙ ap (λ i. tallied (get_or e j 0) (get_or W j 0) (get_or c j 0) (tally_of (axes_at e W i (rank - i)) (from c i (rank - i)))) s
         ∙ sym (ap (λ n. tally_of (axes_at e W j n) (from c j n)) q)
 
-    pub tally_room : Room (get_or e j 0) w (get_or c j 0) (tally_from rank e b c (j + 1))
+    pub tally_room : Room (get_or p.extents j 0) w (get_or c j 0) (tally_from p c (j + 1))
     unfolding tally_from
     tally_room =
         let s : suc j ≡ j + 1 = omega arith in
         let q : rank ≡ j + suc (rank - suc j) = omega arith in
-        subst (λ (v : ℕ). Room (get_or e j 0) v (get_or c j 0) (tally_from rank e b c (j + 1))) (sym (is ∙ sym (width_at_lem j h)))
+        subst (λ (v : ℕ). Room (get_or e j 0) v (get_or c j 0) (tally_from p c (j + 1))) (sym (is ∙ sym (width_at_lem j h)))
         (subst (λ (i : ℕ). Room (get_or e j 0) (get_or W j 0) (get_or c j 0) (tally_of (axes_at e W i (rank - i)) (from c i (rank - i)))) s
         (room_at e W c j (rank - suc j) (good_at e W c j (suc (rank - suc j)) (subst (Good e W c 0) q good))))
 
-  module _ (h : 0 < rank) {w : ℕ} (is : w ≡ width_at rank e b 0) where
-    whole : Good e (widths_to rank e b rank) c 0 (suc (rank - 1))
+  module _ (h : 0 < p.rank) {w : ℕ} (is : w ≡ width_at p 0) where
+    whole : Good e W c 0 (suc (rank - 1))
     whole = let q : rank ≡ suc (rank - 1) = omega arith in subst (Good e W c 0) q good
 
-    pub tally_first : First (get_or e 0 0) w (get_or c 0 0) (tally_from rank e b c 1)
+    pub tally_first : First (get_or p.extents 0 0) w (get_or c 0 0) (tally_from p c 1)
     unfolding tally_from
     tally_first =
-        subst (λ (v : ℕ). First (get_or e 0 0) v (get_or c 0 0) (tally_from rank e b c 1)) (sym (is ∙ sym (width_at_lem 0 h)))
+        subst (λ (v : ℕ). First (get_or e 0 0) v (get_or c 0 0) (tally_from p c 1)) (sym (is ∙ sym (width_at_lem 0 h)))
         (first-room (rank - 1) e W c whole)
 
     -- the number told is the block's place
-    pub tally_number : numbered (get_or e 0 0) w (get_or c 0 0) (tally_from rank e b c 1) ≡ block_number (cut_axes (take rank e) (take rank b)) (take rank c)
+    pub tally_number : numbered (get_or p.extents 0 0) w (get_or c 0 0) (tally_from p c 1) ≡ block_number (plan_cut_axes p) (take p.rank c)
     unfolding tally_from
     tally_number =
         let q : rank ≡ suc (rank - 1) = omega arith in
-        ap (λ v. numbered (get_or e 0 0) v (get_or c 0 0) (tally_from rank e b c 1)) (is ∙ sym (width_at_lem 0 h))
+        ap (λ v. numbered (get_or e 0 0) v (get_or c 0 0) (tally_from p c 1)) (is ∙ sym (width_at_lem 0 h))
         ∙ number_is (rank - 1) e W c whole ∙ ap (λ r. number_of (axes_at e W 0 r) (from c 0 r)) (sym q)
         ∙ ap₂ number_of axes counters
-        ∙ number-place (cut_axes (take rank e) (take rank b)) (take rank c) (axes_wide (take rank e) (take rank b)) k.inside k.starts
+        ∙ number-place (plan_cut_axes p) (take rank c) (axes_wide (take rank e) (take rank p.blocks)) k.inside k.starts
 
 -- rank 0: one block, number 0
-pub number_none : (rank : ℕ) (e b c : List ℕ) → rank ≡ 0 → 0 ≡ block_number (cut_axes (take rank e) (take rank b)) (take rank c)
+pub number_none : (p : Plan) (c : List ℕ) → p.rank ≡ 0 → 0 ≡ block_number (plan_cut_axes p) (take p.rank c)
 unfolding block_number
-number_none rank e b c z = sym (ap (λ n. block_number (cut_axes (take n e) (take n b)) (take n c)) z)
+number_none p c z = sym (ap (λ n. block_number (cut_axes (take n p.extents) (take n p.blocks)) (take n c)) z)

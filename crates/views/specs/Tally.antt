@@ -3,7 +3,10 @@
 -- Assumes nothing.
 use Rattle.std.specs.Prelude.{◌≡◌, List, ℕ, ◌+◌, ◌-◌, ◌*◌, ◌/◌, ◌^◌, ◌≤◌, ◌<◌, length, take}
 use Rattle.strided.specs.Layout.{total}
-use Rattle.strided.specs.Walk.{cut_axes, len_at}
+use Rattle.strided.specs.Walk.{len_at}
+use Rattle.strided.specs.Begin.{plan_extents}
+use Rattle.strided.specs.Step.{plan_cut_axes}
+use Rattle.strided.specs.declared.Plan.{Plan}
 use Rattle.laws.specs.Walk.States.{Inside, OnStart}
 use Rattle.views.specs.declared.number.Tally.{Tally}
 
@@ -32,12 +35,12 @@ pub record First (e w k : ℕ) (t : Tally) : Type 0 where
   pub below : k < e
   pub number : ((e - 1) / w + 1) * t.before + k / w * t.size + t.place < 2 ^ 64
 
--- the counters are those of a block, and the total fits 64 bits
-pub record Countable (rank : ℕ) (e b c : List ℕ) : Type 0 where
-  pub few : rank ≤ 64
-  pub extents-all : length e ≡ 64
-  pub blocks_all : length b ≡ 64
+-- the counters are those of a block of the plan, and the total fits 64 bits
+pub record Countable (p : Plan) (c : List ℕ) : Type 0 where
+  pub few : p.rank ≤ 64
+  pub extents-all : length p.extents ≡ 64
+  pub blocks_all : length p.blocks ≡ 64
   pub counters-all : length c ≡ 64
-  pub inside : Inside (cut_axes (take rank e) (take rank b)) (take rank c)
-  pub starts : OnStart (cut_axes (take rank e) (take rank b)) (take rank c)
-  pub fits : total (take rank e) < 2 ^ 64
+  pub inside : Inside (plan_cut_axes p) (take p.rank c)
+  pub starts : OnStart (plan_cut_axes p) (take p.rank c)
+  pub fits : total (plan_extents p) < 2 ^ 64

@@ -2,16 +2,15 @@
 -- the layout and its purpose beside the plan and the state.
 -- Assumes nothing.
 use Rattle.std.specs.Prelude.{List, [], ◌∷◌, ℕ, zero, suc, ℤ, length, take, Option, None, Some, Result, Ok, Err}
-use Rattle.strided.specs.Refusals.{Row, refused_by, row1, row2, row3, row4, span_rows}
+use Rattle.strided.specs.Refusals.{Row, refused_by, answers_unless, row1, row2, row3, row4, span_rows}
 use Rattle.strided.specs.Index.{told_original}
 use Rattle.strided.specs.Step.{plan_cut_axes, stepped}
 use Rattle.strided.specs.declared.Purpose.{Purpose}
 use Rattle.strided.specs.declared.Refusal.{Refusal}
-use Rattle.strided.specs.declared.Outcome.{Outcome}
-use Rattle.strided.specs.declared.Outcome.TheVariants.{Block, Ended, Rejected}
 use Rattle.strided.specs.declared.Plan.{Plan}
 use Rattle.strided.specs.declared.Told.{Told}
 use Rattle.strided.specs.declared.Walk.{Walk}
+use Rattle.strided.specs.declared.Block.{Block}
 use Rattle.strided.specs.declared.Stepped.{Stepped}
 use Rattle.views.specs.Number.{block_number}
 use Rattle.views.specs.declared.Visit.{Visit}
@@ -20,17 +19,8 @@ use Rattle.views.specs.declared.Visited.{Visited}
 -- ---- the record
 
 -- the block that a step hands out, with its number, and the index told of its first cell
-abbrev pub visit_of : Plan → Stepped → Told → Visit
-visit_of p s t =
-    record {
-      number = block_number (plan_cut_axes p) (take p.rank s.counters);
-      counters = s.counters;
-      length = s.length;
-      offsets = s.offsets;
-      strides = s.strides;
-      count = t.count;
-      first = t.index;
-    }
+abbrev pub visit_of : Plan → Block → Told → Visit
+visit_of p b t = record { number = block_number (plan_cut_axes p) (take p.rank b.counters); block = b; first = t }
 
 -- ---- the rows
 
@@ -54,28 +44,27 @@ abbrev pub ended_visit : Walk → Result Visited Refusal
 ended_visit w = Ok (record { visit = None; walk = w })
 
 -- the block's first counters must be an index of the layout's plan, or 11 refuses
-abbrev pub found_visit : Result Told Refusal → Plan → Stepped → Result Visited Refusal
-found_visit (Ok t) p s = shown (visit_of p s t) s.walk
-found_visit (Err r) p s = Err r
+abbrev pub found_visit : Plan → Block → Walk → Result Told Refusal → Result Visited Refusal
+found_visit p b w (Ok t) = shown (visit_of p b t) w
+found_visit p b w (Err r) = Err r
 
--- row 10 is the step's
-abbrev pub visit_by : Outcome → Plan → Stepped → Result Told Refusal → Result Visited Refusal
-visit_by Block p s t = found_visit t p s
-visit_by Ended p s t = ended_visit s.walk
-visit_by (Rejected r) p s t = Err r
+-- a step's block, or none, and its state; `tell` tells the original index of counters
+abbrev pub visit_by : (List ℕ → Result Told Refusal) → Plan → Option Block → Walk → Result Visited Refusal
+visit_by tell p None w = ended_visit w
+visit_by tell p (Some b) w = found_visit p b w (tell (take p.rank b.counters))
 
--- "A refusal carries its number and nothing else."
-abbrev pub visited_or : Option Refusal → Result Visited Refusal → Result Visited Refusal
-visited_or None v = v
-visited_or (Some r) v = Err r
+-- the step s of the plan, seen. Row 10 is the step's
+abbrev pub seen_by : (List ℕ → Result Told Refusal) → Plan → Result Stepped Refusal → Result Visited Refusal
+seen_by tell p (Ok s) = visit_by tell p s.block s.walk
+seen_by tell p (Err r) = Err r
 
--- the step s of the plan, seen with the layout
-unfoldable pub seen : List ℕ → List ℕ → List ℤ → Purpose → Plan → Stepped → Result Visited Refusal
-seen es sizes ss u p s = visit_by s.answer p s (told_original es sizes ss u (take p.rank s.counters))
+-- with the layout
+abbrev pub seen : List ℕ → List ℕ → List ℤ → Purpose → Plan → Result Stepped Refusal → Result Visited Refusal
+seen es sizes ss u p s = seen_by (told_original es sizes ss u) p s
 
 -- A VISIT: rows 1 to 6; then row 10, or "ended"; then row 11, or the record with the walk's next state
 unfoldable pub visited : List ℕ → List ℕ → List ℤ → Purpose → Plan → Walk → Result Visited Refusal
-visited es sizes ss u p w = visited_or (visit_refused es sizes ss u p.rank p.operands) (seen es sizes ss u p (stepped p w))
+visited es sizes ss u p w = answers_unless (visit_refused es sizes ss u p.rank p.operands) (seen es sizes ss u p (stepped p w))
 
 -- the state to go on with: the one that a visit hands out, or, if it is refused, the one that it was handed
 abbrev pub left_with : Walk → Result Visited Refusal → Walk
@@ -86,12 +75,3 @@ left_with w (Err r) = w
 abbrev pub visits_from : List ℕ → List ℕ → List ℤ → Purpose → Plan → ℕ → Walk → List (Result Visited Refusal)
 visits_from es sizes ss u p zero w = []
 visits_from es sizes ss u p (suc n) w = visited es sizes ss u p w ∷ visits_from es sizes ss u p n (left_with w (visited es sizes ss u p w))
-
--- what a visit answers as a step does: a block, the end, or the refusal
-abbrev pub met : Option Visit → Outcome
-met None = Ended
-met (Some v) = Block
-
-abbrev pub outcome_of : Result Visited Refusal → Outcome
-outcome_of (Ok v) = met v.visit
-outcome_of (Err r) = Rejected r

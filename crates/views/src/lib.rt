@@ -1,42 +1,32 @@
 // Two readers of a block: a visit is a step with its record, from which an engineer's view and a student's are taken.
 #![tactic(auto)]
 
-ghost use Rattle.std.specs.Prelude.{◌≡◌, None};
-ghost use Rattle.strided.specs.Refusals.{answered, layout_refused};
-ghost use Rattle.strided.specs.declared.Outcome.TheVariants.{Block};
-ghost use Rattle.views.specs.Visits.{visit_refused, seen, visited};
+ghost use Rattle.std.specs.Prelude.{◌≡◌, ◌∷◌, ◌^◌, ◌<◌, Some};
+ghost use Rattle.strided.specs.Layout.{total};
+ghost use Rattle.strided.specs.Refusals.{refused_by, answered, served_unless, row1};
+ghost use Rattle.strided.specs.Step.{step_rows};
+ghost use Rattle.strided.specs.Memory.{plan_of};
+ghost use Rattle.finding.specs.Mapped.{found_original};
+ghost use Rattle.views.specs.Visits.{visit_refused, visit_by, visited};
 ghost use Rattle.views.specs.Tally.{Countable};
 
 use finding::original_of_into;
-use layout::{check_layout, operands_wrong, rank_over};
+use layout::{Layout, LentPlan, check_layout, operands_wrong, rank_over};
 use number::number_of;
 pub use readers::{engineer_view, student_view};
-use strided::{Outcome, Plan, Purpose, Refusal, Stepped, Walk};
-use walk::step;
+use strided::{Block, Plan, Purpose, Refusal, Told, Walk};
+use walk::step_on;
 
 pub mod memory;
 pub mod number;
 pub mod readers;
 
-// The record of a visit: the block's number, the block as a step hands it out, and the original index of its first cell, with its count.
+// The record of a visit: the block's number, the block as a step hands it out, and the original index of its first cell.
 #[derive(Clone, Copy)]
 pub struct Visit {
     pub number: u64,
-    pub counters: [u64; 64],
-    pub length: u64,
-    pub offsets: [i64; 8],
-    pub strides: [i64; 8],
-    pub count: usize,
-    pub first: [u64; 64],
-}
-
-// What an engineer sees of it: the block as a step hands it out.
-#[derive(Clone, Copy)]
-pub struct Engineer {
-    pub counters: [u64; 64],
-    pub length: u64,
-    pub offsets: [i64; 8],
-    pub strides: [i64; 8],
+    pub block: Block,
+    pub first: Told,
 }
 
 // What a student sees of it: number, length, and the original index of the first cell. There is no offset, no stride and no counter.
@@ -44,8 +34,7 @@ pub struct Engineer {
 pub struct Student {
     pub number: u64,
     pub length: u64,
-    pub count: usize,
-    pub first: [u64; 64],
+    pub first: Told,
 }
 
 // What a visit hands out: the record, or none where the walk has ended, and the state to hand to the next visit.
@@ -55,96 +44,129 @@ pub struct Visited {
     pub walk: Walk,
 }
 
+// Kept: the counts beside the arrays, as C lends a plan. What is handed on is a LentPlan.
+
+// The plan of a visit, lent. Row 1 of the layout is asked before row 2 of the plan: "the least number wins" over both.
+pub fn lend<'a>(
+    axes: usize,
+    rank: usize,
+    operands: usize,
+    extents: &'a [u64; 64],
+    blocks: &'a [u64; 64],
+    strides: &'a [i64; 512],
+) -> Result<LentPlan<'a>, Refusal>
+    ensures { let p = plan_of rank operands extents.now blocks.now strides.now in
+        result ≡ served_unless (refused_by (row1 axes ∷ step_rows p)) p }
+{
+    if rank_over(axes) {
+        return Err(Refusal::Rank);
+    }
+    LentPlan::of(rank, operands, extents, blocks, strides)
+}
+
 // What a visit is refused for before the state is looked at: rows 1 and 2 of the layout and of the plan, then 3 to 6 of the layout.
-pub fn check_visit<'a>(
-    extents: &'a [u64],
-    sizes: &'a [u64],
-    strides: &'a [i64],
+pub fn check_visit(
+    extents: &[u64],
+    sizes: &[u64],
+    strides: &[i64],
     purpose: Purpose,
     rank: usize,
     operands: usize,
 ) -> Result<(), Refusal>
     ensures { result ≡ answered (visit_refused extents.now sizes.now strides.now purpose rank operands) }
 {
-    if rank_over(extents.len()) {
+    if rank_over(extents.len()) || rank_over(rank) {
         return Err(Refusal::Rank);
     }
-    if rank_over(rank) {
-        return Err(Refusal::Rank);
-    }
-    if operands_wrong(sizes.len()) {
-        return Err(Refusal::Operands);
-    }
-    if operands_wrong(operands) {
+    if operands_wrong(sizes.len()) || operands_wrong(operands) {
         return Err(Refusal::Operands);
     }
     check_layout(extents, sizes, strides, purpose)
 }
 
 // The visit of a block that a step has handed out: row 11 alone is judged.
-fn block_visit<'a>(
-    extents: &'a [u64],
-    sizes: &'a [u64],
-    strides: &'a [i64],
+fn block_visit(
+    layout: Layout,
     purpose: Purpose,
-    plan: Plan,
-    stepped: Stepped,
+    plan: &LentPlan,
+    block: Block,
+    walk: Walk,
 ) -> Result<Visited, Refusal>
-    requires layout { layout_refused extents.now sizes.now strides.now purpose ≡ None }
-    requires block { stepped.answer ≡ Block }
-    requires state { Countable plan.rank plan.extents plan.blocks stepped.counters }
-    ensures { result ≡ seen extents.now sizes.now strides.now purpose plan stepped }
+    requires total { total layout.extents.now < 2 ^ 64 }
+    requires state { Countable plan.now block.counters }
+    ensures { let l = layout.entry in
+        result ≡ visit_by (found_original l.extents.now l.operands l.strides.now purpose) plan.now (Some block) walk }
 {
-    let rank = plan.rank;
-    let counters = stepped.counters;
+    let counters = block.counters;
     let mut count = [0usize; 1];
-    let mut first = [0u64; 64];
+    let mut index = [0u64; 64];
     original_of_into(
-        extents,
-        strides,
-        sizes.len(),
+        layout,
         purpose,
-        &counters[..rank],
+        &counters[..plan.rank],
         &mut count,
-        &mut first,
+        &mut index,
     )?;
-    let number = number_of(rank, &plan.extents, &plan.blocks, &counters);
-    let offsets = stepped.offsets;
-    let strides = stepped.strides;
+    let number = number_of(plan, &counters);
     let visit = Visit {
         number,
-        counters,
-        length: stepped.length,
-        offsets,
-        strides,
-        count: count[0],
-        first,
+        block,
+        first: Told {
+            count: count[0],
+            index,
+        },
     };
     Ok(Visited {
         visit: Some(visit),
-        walk: stepped.walk,
+        walk,
     })
 }
 
+// A visit on a plan that is lent.
+pub fn visit_on(
+    extents: &[u64],
+    sizes: &[u64],
+    strides: &[i64],
+    purpose: Purpose,
+    plan: &LentPlan,
+    walk: Walk,
+) -> Result<Visited, Refusal>
+    ensures { result ≡ visited extents.now sizes.now strides.now purpose plan.now walk }
+{
+    check_visit(extents, sizes, strides, purpose, plan.rank, plan.operands)?;
+    let layout = Layout {
+        extents,
+        strides,
+        operands: sizes.len(),
+    };
+    let stepped = step_on(plan, walk)?;
+    match stepped.block {
+        None => Ok(Visited {
+            visit: None,
+            walk: stepped.walk,
+        }),
+        Some(block) => block_visit(layout, purpose, plan, block, stepped.walk),
+    }
+}
+
 // A VISIT, whatever the values of layout, plan and state: rows 1 to 6, then 10 or the end, then 11.
-pub fn next_visit<'a>(
-    extents: &'a [u64],
-    sizes: &'a [u64],
-    strides: &'a [i64],
+pub fn next_visit(
+    extents: &[u64],
+    sizes: &[u64],
+    strides: &[i64],
     purpose: Purpose,
     plan: Plan,
     walk: Walk,
 ) -> Result<Visited, Refusal>
     ensures { result ≡ visited extents.now sizes.now strides.now purpose plan walk }
 {
-    check_visit(extents, sizes, strides, purpose, plan.rank, plan.operands)?;
-    let s = step(plan, walk);
-    match s.answer {
-        Outcome::Rejected(refusal) => Err(refusal),
-        Outcome::Ended => Ok(Visited {
-            visit: None,
-            walk: s.walk,
-        }),
-        Outcome::Block => block_visit(extents, sizes, strides, purpose, plan, s),
-    }
+    let lent = lend(
+        extents.len(),
+        plan.rank,
+        plan.operands,
+        &plan.extents,
+        &plan.blocks,
+        &plan.strides,
+    )?;
+    visit_on(extents, sizes, strides, purpose, &lent, walk)
 }

@@ -1,10 +1,11 @@
 // The number of a block, told from a walk's counters: one pass over the axes, the outermost first.
 ghost use Rattle.std.specs.Prelude.{◌≡◌, ◌+◌, ◌-◌, ◌*◌, ◌/◌, ◌^◌, ◌<◌, take};
-ghost use Rattle.strided.specs.Walk.{cut_axes};
+ghost use Rattle.strided.specs.Step.{plan_cut_axes};
 ghost use Rattle.views.specs.Number.{block_number};
 ghost use Rattle.views.specs.Tally.{tallied, numbered, Room, First, Countable};
 
-use advance::width_of;
+use advance::width_on;
+use layout::LentPlan;
 use walk::onward::start_at;
 
 // Of the axes from some axis on: how many indices the tiles before have, how many this tile has, and the place among these.
@@ -62,12 +63,12 @@ fn number_first(extent: u64, width: u64, at: u64, tally: Tally) -> u64
     before + tile_at(width, at) * tally.size + tally.place
 }
 
-// How many blocks come before the one at the counters `c`, on the extents and block sizes of a plan.
-pub fn number_of<'a>(rank: usize, e: &'a [u64; 64], b: &'a [u64; 64], c: &'a [u64; 64]) -> u64
-    requires { Countable rank e.now b.now c.now }
-    ensures { result ≡ block_number (cut_axes (take rank e.now) (take rank b.now)) (take rank c.now) }
+// How many blocks of the plan come before the one at the counters `c`.
+pub fn number_of(plan: &LentPlan, c: &[u64; 64]) -> u64
+    requires { Countable plan.now c.now }
+    ensures { result ≡ block_number (plan_cut_axes plan.now) (take plan.now.rank c.now) }
 {
-    if rank == 0 {
+    if plan.rank == 0 {
         return 0;
     }
     let mut t = Tally {
@@ -75,10 +76,10 @@ pub fn number_of<'a>(rank: usize, e: &'a [u64; 64], b: &'a [u64; 64], c: &'a [u6
         size: 1,
         place: 0,
     };
-    for i in (1..rank).rev() {
-        let width = width_of(rank, i, e[i], b[i]);
-        t = tally_axis(e[i], width, c[i], t);
+    for i in (1..plan.rank).rev() {
+        let width = width_on(plan, i);
+        t = tally_axis(plan.extents[i], width, c[i], t);
     }
-    let width = width_of(rank, 0, e[0], b[0]);
-    number_first(e[0], width, c[0], t)
+    let width = width_on(plan, 0);
+    number_first(plan.extents[0], width, c[0], t)
 }

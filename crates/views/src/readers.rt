@@ -1,11 +1,31 @@
 // The two views of a visit's record, by value and in lent arrays. A record may hold any numbers: a view is what it says.
-ghost use Rattle.std.specs.Prelude.{◌≡◌, min, ◌≤◌, length, take, replicate};
-ghost use Rattle.strided.specs.Base.{padded};
+ghost use Rattle.std.specs.Prelude.{◌≡◌, min};
 ghost use Rattle.views.specs.Views.{engineer_of, student_of};
 ghost use Rattle.views.specs.Memory.{record_of, engineer_at, engineer_memory, student_at, student_memory};
+ghost use Rattle.views.specs.declared.Visit.{Visit};
 
-use crate::{Engineer, Student, Visit};
-use strided::MAX_RANK;
+use crate::{Student, Visit};
+use layout::lay_into;
+use std::marker::Model;
+use strided::{Block, MAX_RANK, Told};
+
+// A record whose arrays are lent. A contract sees it as the record.
+#[derive(Drop)]
+pub struct LentVisit<'a> {
+    pub number: u64,
+    pub counters: &'a [u64; 64],
+    pub length: u64,
+    pub offsets: &'a [i64; 8],
+    pub strides: &'a [i64; 8],
+    pub count: usize,
+    pub index: &'a [u64; 64],
+}
+
+impl<'a> Model for LentVisit<'a> {
+    ghost Value = { Visit };
+
+    ghost view = { λ v. record_of v.number v.counters.now v.length v.offsets.now v.strides.now v.count v.index.now };
+}
 
 // How many places an index has: a count above 64 is read as 64.
 fn count_of(count: usize) -> usize
@@ -14,99 +34,59 @@ fn count_of(count: usize) -> usize
     count.min(MAX_RANK)
 }
 
-// The first places of an index, written into an array of zeros.
-fn places_into(count: usize, index: &[u64; 64], places: &mut [u64; 64])
-    requires few { (count ≤ 64) × (length index.now ≡ 64) }
-    requires zeros { places.old ≡ replicate 64 0 }
-    ensures { places.new ≡ padded 64 0 (take count index.now) }
-{
-    places[..count].copy_from_slice(&index[..count]);
-}
-
 // THE ENGINEER'S VIEW: "a block as now".
-pub fn engineer_view(visit: Visit) -> Engineer
+pub fn engineer_view(visit: Visit) -> Block
     ensures { result ≡ engineer_of visit }
 {
-    let counters = visit.counters;
-    let offsets = visit.offsets;
-    let strides = visit.strides;
-    Engineer {
-        counters,
-        length: visit.length,
-        offsets,
-        strides,
-    }
+    visit.block
 }
 
 // THE STUDENT'S VIEW: "its number as on B lines, its length and the original index of its first cell, and no offset or stride".
 pub fn student_view(visit: Visit) -> Student
     ensures { result ≡ student_of visit }
 {
-    let count = count_of(visit.count);
-    let mut first = [0u64; 64];
-    places_into(count, &visit.first, &mut first);
+    let count = count_of(visit.first.count);
+    let first = visit.first.index;
+    let mut index = [0u64; 64];
+    lay_into(&first[..count], &mut index);
     Student {
         number: visit.number,
-        length: visit.length,
-        count,
-        first,
+        length: visit.block.length,
+        first: Told { count, index },
     }
 }
 
-// The engineer's view of a record in lent arrays.
-pub fn engineer_into<'a>(
-    number: u64,
-    counters: &'a [u64; 64],
-    length: u64,
-    offsets: &'a [i64; 8],
-    strides: &'a [i64; 8],
-    count: usize,
-    index: &'a [u64; 64],
-    engineer_counters: &mut [u64; 64],
-    engineer_length: &mut [u64; 1],
-    engineer_offsets: &mut [i64; 8],
-    engineer_strides: &mut [i64; 8],
+// The engineer's view of a record, in lent arrays.
+pub fn engineer_into(
+    visit: &LentVisit,
+    counters: &mut [u64; 64],
+    length: &mut [u64; 1],
+    offsets: &mut [i64; 8],
+    strides: &mut [i64; 8],
 )
-    ensures { let v = record_of number counters.now length offsets.now strides.now count index.now in
-        let new = engineer_at engineer_counters.new engineer_length.new engineer_offsets.new engineer_strides.new in
-        new ≡ engineer_memory (engineer_of v) }
+    ensures { engineer_at counters.new length.new offsets.new strides.new ≡ engineer_memory (engineer_of visit.now) }
 {
-    *engineer_counters = *counters;
-    *engineer_length = [length];
-    *engineer_offsets = *offsets;
-    *engineer_strides = *strides;
+    *counters = *visit.counters;
+    *length = [visit.length];
+    *offsets = *visit.offsets;
+    *strides = *visit.strides;
 }
 
-// The student's view of a record in lent arrays.
-pub fn student_into<'a>(
-    number: u64,
-    counters: &'a [u64; 64],
-    length: u64,
-    offsets: &'a [i64; 8],
-    strides: &'a [i64; 8],
-    count: usize,
-    index: &'a [u64; 64],
-    student_number: &mut [u64; 1],
-    student_length: &mut [u64; 1],
-    student_count: &mut [usize; 1],
-    student_index: &mut [u64; 64],
+// The student's view of a record, in lent arrays.
+pub fn student_into(
+    visit: &LentVisit,
+    number: &mut [u64; 1],
+    length: &mut [u64; 1],
+    count: &mut [usize; 1],
+    index: &mut [u64; 64],
 )
-    ensures { let v = record_of number counters.now length offsets.now strides.now count index.now in
-        let new = student_at student_number.new student_length.new student_count.new student_index.new in
-        new ≡ student_memory (student_of v) }
+    ensures { student_at number.new length.new count.new index.new ≡ student_memory (student_of visit.now) }
 {
-    let student = student_view(Visit {
-        number,
-        counters: *counters,
-        length,
-        offsets: *offsets,
-        strides: *strides,
-        count,
-        first: *index,
-    });
-    *student_number = [student.number];
-    *student_length = [student.length];
-    *student_count = [student.count];
-    let places = student.first;
-    *student_index = places;
+    let few = count_of(visit.count);
+    *number = [visit.number];
+    *length = [visit.length];
+    *count = [few];
+    *index = [0u64; 64];
+    let first = visit.index;
+    lay_into(&first[..few], index);
 }

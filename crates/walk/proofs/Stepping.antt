@@ -3,23 +3,23 @@
 use mathlib.Core.Path.{◌≡◌, refl, sym, ap, ap₂, ◌∙◌, subst}
 use mathlib.Core.Bool.{Bool, true, false, cond, ◌&&◌, not, false≢true}
 use mathlib.Core.List.{List, []}
-use Rattle.std.specs.Prelude.{Option, None, Some}
+use Rattle.std.specs.Prelude.{Option, None, Some, Result, Ok, Err}
 use Prim.Native.Nat.{ℕ, ◌+◌, ◌≤◌, ◌<◌}
 use native.Mathlib.Omega.{arith}
 use lib.Dec.{ltb, eqb}
 use lib.IntN.{ℤ, pos}
 use lib.ListN.{length, get_or, length-take}
-use borrow.Author.Tests.{ltb-false, eqb-false}
+use borrow.Author.Tests.{ltb-false, eqb-false, le-ltb, ne_eqb}
 use Rattle.strided.specs.Base.{padded}
-use Rattle.strided.specs.Refusals.{refused_by, row1, row2}
+use Rattle.strided.specs.Refusals.{refused_by, answers_unless}
 use Rattle.strided.specs.Walk.{length_at, run_strides}
 use Rattle.strided.specs.Begin.{plan_extents, plan_rows, begin_refused, begun_at, started}
-use Rattle.strided.specs.Step.{plan_cut_axes, unpacked, packed, reachable, may_begin, tidy, step, step_running, over, refused, handed_out, not_stepped, step_rows, stepped, walk_after}
+use Rattle.strided.specs.Step.{plan_cut_axes, unpacked, packed, reachable, may_begin, tidy, step, step_running, over, refused, handed_out, handed_block, step_rows, stepped, walk_after}
 use Rattle.strided.specs.Bulk.{next_blocks}
 use Rattle.strided.specs.Memory.{walk_of}
-use Rattle.strided.specs.declared.Refusal.TheVariants.{Rank, Operands, State}
-use Rattle.strided.specs.declared.Outcome.{Outcome}
-use Rattle.strided.specs.declared.Outcome.TheVariants.{Block, Ended, Rejected}
+use Rattle.strided.specs.declared.Refusal.TheVariants.{State}
+use Rattle.strided.specs.declared.Refusal.{Refusal}
+use Rattle.strided.specs.declared.Block.{Block}
 use Rattle.strided.specs.declared.Plan.{Plan}
 use Rattle.strided.specs.declared.Walk.{Walk}
 use Rattle.strided.specs.declared.Stepped.{Stepped}
@@ -30,93 +30,70 @@ use Rattle.laws.specs.Refusals.Rows.{served_none, served_is}
 use Rattle.laws.specs.Walk.States.{state_after, begin}
 use Rattle.laws.specs.Walk.Row10.{row10_exact}
 use Rattle.laws.specs.Walk.Bulk.{walk_more, blocks_none}
-use Rattle.laws.specs.Walk.Steps.{Ready, ready, none_of, at, raw, begun-walk, step-at, walk-state}
-use Rattle.advance.specs.Axis.{widths_to, start_of, starts_to}
-use Rattle.advance.specs.Carry.{Roomy, Tiled, AdvancedTo}
+use Rattle.laws.specs.Walk.Steps.{Ready, ready, none_of, at, raw, made, begun-walk, step-at, walk-state}
+use Rattle.advance.specs.Axis.{widths, start_of, starts_to}
+use Rattle.advance.specs.Carry.{state_of, Roomy, Tiled, AdvancedTo}
+use Rattle.advance.specs.declared.State as kept
 use Rattle.advance.specs.Blocks.{length_of, firsts_of}
+use Rattle.layout.specs.Lent.{lent, lent_refuses, Whole}
 use Rattle.advance.proofs.Plans.{C, O, length_is, firsts_are, first_start}
 use Rattle.advance.specs.Sized as plans
 use Rattle.advance.proofs.Reached.{widths_pos, tiled, roomy, advanced}
-use Rattle.states.specs.Reaches.{Arrays, reaches}
+use Rattle.states.specs.Reaches.{reaches}
 use Rattle.walk.specs.Lent.{Taken, Answers, over_step}
 
 -- ---- the rows
 
-module _ (p : Plan) (w : Walk) where
-  module _ {a : Bool} (a-is : a ≡ (row1 p.rank).applies) where
-    pub rank_rejected : a ≡ true → {s : Stepped} → s ≡ not_stepped Rank → s ≡ stepped p w
+-- what the lending of the plan refuses, the step refuses too
+pub lent_refused : (p : Plan) (w : Walk) {r : Refusal} → Err r ≡ lent p → Err r ≡ stepped p w
+unfolding stepped
+lent_refused p w h =
+    sym (ap (λ (o : Option Refusal). answers_unless o (cond (tidy p w) (handed_out (step (plan_cut_axes p) (plan_rows p) (may_begin p) (unpacked p w))) (Err State))) (lent_refuses p [] h))
+
+module _ (p : Plan) (w : Walk) (A : Whole p) (hc : length w.counters ≡ 64) (ho : length w.offsets ≡ 8) where
+  rows : refused_by (step_rows p) ≡ None
+  rows =
+      let n : p.operands ≡ 0 → ⊥ = λ q. absurd (omega (arith, A.one)) in
+      rw (le-ltb 64 p.rank A.axes, ne_eqb p.operands 0 n, le-ltb 8 p.operands A.few)
+
+  module _ {t : Bool} (t-is : t ≡ reaches p w) where
+    -- what is taken is what the machine hands out
+    stepped_is : stepped p w ≡ cond (tidy p w) (handed_out (step (plan_cut_axes p) (plan_rows p) (may_begin p) (unpacked p w))) (Err State)
     unfolding stepped
-    rank_rejected h e = e ∙ sym (rw (sym a-is ∙ h))
+    stepped_is = rw rows
 
-    module _ (ah : a ≡ false) {b : Bool} (b-is : b ≡ (row2 p.operands).applies) where
-      pub operands_rejected : b ≡ true → {s : Stepped} → s ≡ not_stepped Operands → s ≡ stepped p w
-      unfolding stepped
-      operands_rejected h e = e ∙ sym (rw (sym a-is ∙ ah, sym b-is ∙ h))
+    pub state_rejected : t ≡ false → Err State ≡ stepped p w
+    unfolding reaches
+    state_rejected h = sym (stepped_is ∙ go (tidy p w) (reachable (plan_cut_axes p) (plan_rows p) (may_begin p) (unpacked p w)) refl refl (sym t-is ∙ h))
+      where
+        go : (x y : Bool) → tidy p w ≡ x → reachable (plan_cut_axes p) (plan_rows p) (may_begin p) (unpacked p w) ≡ y → (x && y) ≡ false
+            → cond x (handed_out (cond y (cond (not w.ended) (step_running (plan_cut_axes p) (plan_rows p) (unpacked p w).counters (unpacked p w).offsets) (over (unpacked p w))) refused)) (Err State) ≡ Err State
+        go true true a b q = absurd (false≢true (sym q))
+        go true false a b q = refl
+        go false y a b q = refl
 
-      module _ (bh : b ≡ false) where
-        rows : refused_by (step_rows p) ≡ None
-        rows = rw (sym a-is ∙ ah, sym b-is ∙ bh)
+    module _ (th : t ≡ true) where
+      not_rejected : stepped p w ≡ Err State → ⊥
+      unfolding reaches
+      not_rejected h =
+          let q = and_both (tidy p w) (reachable (plan_cut_axes p) (plan_rows p) (may_begin p) (unpacked p w)) (sym t-is ∙ th) in
+          let e : stepped p w ≡ handed_out (cond (not w.ended) (step_running (plan_cut_axes p) (plan_rows p) (unpacked p w).counters (unpacked p w).offsets) (over (unpacked p w))) = stepped_is ∙ rw (q.0, q.1) in
+          go w.ended (sym e ∙ h)
+        where
+          go : (x : Bool) → handed_out (cond (not x) (step_running (plan_cut_axes p) (plan_rows p) (unpacked p w).counters (unpacked p w).offsets) (over (unpacked p w))) ≡ Err State → ⊥
+          go true g = let z : ◌≡◌ {A = ℕ} 0 1 = cc g in omega arith
+          go false g = let z : ◌≡◌ {A = ℕ} 0 1 = cc g in omega arith
 
-        axes : p.rank ≤ 64
-        axes = ltb-false 64 p.rank (sym a-is ∙ ah)
-
-        some_operands : eqb p.operands 0 ≡ false
-        some_operands = (or_none (eqb p.operands 0) (ltb 8 p.operands) (sym b-is ∙ bh)).0
-
-        few : p.operands ≤ 8
-        few = ltb-false 8 p.operands (or_none (eqb p.operands 0) (ltb 8 p.operands) (sym b-is ∙ bh)).1
-
-        module _ (he : length p.extents ≡ 64) (hb : length p.blocks ≡ 64) (hs : length p.strides ≡ 512) (hc : length w.counters ≡ 64) (ho : length w.offsets ≡ 8) where
-          pub arrays : Arrays p.rank p.operands p.extents p.blocks p.strides w.counters w.offsets
-          arrays = record {
-            axes = axes;
-            one = omega (arith, eqb-false p.operands 0 some_operands);
-            few = few;
-            extents = he;
-            blocks = hb;
-            strides = hs;
-            counters = hc;
-            offsets = ho;
-          }
-
-          module _ {t : Bool} (t-is : t ≡ reaches p w) where
-            -- what is taken is what the machine hands out
-            stepped_is : stepped p w ≡ cond (tidy p w) (handed_out (step (plan_cut_axes p) (plan_rows p) (may_begin p) (unpacked p w))) (not_stepped State)
-            unfolding stepped
-            stepped_is = rw rows
-
-            pub state_rejected : t ≡ false → {s : Stepped} → s ≡ not_stepped State → s ≡ stepped p w
-            unfolding reaches
-            state_rejected h e = e ∙ sym (stepped_is ∙ go (tidy p w) (reachable (plan_cut_axes p) (plan_rows p) (may_begin p) (unpacked p w)) refl refl (sym t-is ∙ h))
-              where
-                go : (x y : Bool) → tidy p w ≡ x → reachable (plan_cut_axes p) (plan_rows p) (may_begin p) (unpacked p w) ≡ y → (x && y) ≡ false
-                    → cond x (handed_out (cond y (cond (not w.ended) (step_running (plan_cut_axes p) (plan_rows p) (unpacked p w).counters (unpacked p w).offsets) (over (unpacked p w))) refused)) (not_stepped State) ≡ not_stepped State
-                go true true a b q = absurd (false≢true (sym q))
-                go true false a b q = refl
-                go false y a b q = refl
-
-            module _ (th : t ≡ true) where
-              not_rejected : (stepped p w).answer ≡ Rejected State → ⊥
-              unfolding reaches
-              not_rejected h =
-                  let q = and_both (tidy p w) (reachable (plan_cut_axes p) (plan_rows p) (may_begin p) (unpacked p w)) (sym t-is ∙ th) in
-                  let e : stepped p w ≡ handed_out (cond (not w.ended) (step_running (plan_cut_axes p) (plan_rows p) (unpacked p w).counters (unpacked p w).offsets) (over (unpacked p w))) = stepped_is ∙ rw (q.0, q.1) in
-                  go w.ended (sym (ap (λ (s : Stepped). s.answer) e) ∙ h)
-                where
-                  go : (x : Bool) → (handed_out (cond (not x) (step_running (plan_cut_axes p) (plan_rows p) (unpacked p w).counters (unpacked p w).offsets) (over (unpacked p w)))).answer ≡ Rejected State → ⊥
-                  go true g = let z : ◌≡◌ {A = ℕ} 0 1 = cc g in omega arith
-                  go false g = let z : ◌≡◌ {A = ℕ} 0 1 = cc g in omega arith
-
-              pub taken : Taken p w
-              taken = record {
-                extents-all = he;
-                blocks_all = hb;
-                strides_all = hs;
-                counters-all = hc;
-                offsets_all = ho;
-                rows = rows;
-                reached = (row10_exact p w (record { extents-all = he; counters-all = hc; offsets_all = ho }) rows).0 not_rejected;
-              }
+      pub taken : Taken p w
+      taken = record {
+        extents-all = A.extents-all;
+        blocks_all = A.blocks_all;
+        strides_all = A.strides_all;
+        counters-all = hc;
+        offsets_all = ho;
+        rows = rows;
+        reached = (row10_exact p w (record { extents-all = A.extents-all; counters-all = hc; offsets_all = ho }) rows).0 not_rejected;
+      }
 
 -- ---- a state that is taken
 
@@ -165,17 +142,15 @@ module _ (p : Plan) (w : Walk) (k : Taken p w) where
   comes = steps-here ∙ walk-state p zs r k.reached.steps
 
   -- "A step after the last block answers "ended" again, state unchanged."
-  pub ended_step : w.ended ≡ true → {s : Stepped} → s ≡ over_step w → s ≡ stepped p w
-  ended_step h e = e ∙ go (state_after (plan_cut_axes p) k.reached.steps) refl comes
+  pub ended_step : w.ended ≡ true → over_step w ≡ stepped p w
+  ended_step h = go (state_after (plan_cut_axes p) k.reached.steps) refl comes
     where
       go : (m : Option (List ℕ)) → state_after (plan_cut_axes p) k.reached.steps ≡ m → w ≡ packed (at p zs r m) → over_step w ≡ stepped p w
       go None g q = sym (subst (λ (v : Walk). stepped p v ≡ over_step v) (sym q) (step-at p zs r k.reached.steps None g))
       go (Some c) g q = absurd (false≢true (sym (ap (λ (v : Walk). v.ended) q) ∙ h))
 
   pub ended_none : w.ended ≡ true → (m : ℕ) → next_blocks m p w ≡ []
-  ended_none h m =
-      let e : Ended ≡ (stepped p w).answer = ap (λ (s : Stepped). s.answer) (ended_step h {s = over_step w} refl) in
-      blocks_none p m w (λ a. let z : ◌≡◌ {A = ℕ} 0 1 = cc (e, a) in omega arith)
+  ended_none h m = blocks_none p m w (ap handed_block (sym (ended_step h)))
 
   -- the state after n steps is taken too
   pub taken_after : (n : ℕ) → Taken p (walk_after p n w)
@@ -207,7 +182,7 @@ module _ (p : Plan) (w : Walk) (k : Taken p w) where
       go (Some c) g q = record { c = c; is = g; here = q }
 
   abbrev pub ws : List ℕ
-  ws = widths_to p.rank p.extents p.blocks p.rank
+  ws = widths p
 
   pub axes-few : p.rank ≤ 64
   axes-few = r.axes
@@ -226,19 +201,17 @@ module _ (p : Plan) (w : Walk) (k : Taken p w) where
     pub widths_here : (i : ℕ) → i < p.rank → 0 < get_or v i 0
     widths_here i l = subst (λ (u : List ℕ). 0 < get_or u i 0) (sym is) (widths_pos p zs r sized i l)
 
-    pub tiled_here : (t : List ℕ) → t ≡ starts_to v w.counters p.rank → Tiled p.rank v w.counters t
-    tiled_here t e =
-        subst (λ (u : List ℕ). Tiled p.rank u w.counters t) (sym is)
-        (subst (λ (u : List ℕ). Tiled p.rank ws w.counters u) (sym (e ∙ ap (λ (u : List ℕ). starts_to u w.counters p.rank) is)) (tiled p zs r sized w.counters))
+    pub tiled_here : (x : kept.State) → x.tile_starts ≡ starts_to v x.counters p.rank → Tiled p v x
+    tiled_here x e =
+        subst (λ (u : List ℕ). Tiled p u x) (sym is)
+        (subst (λ (t : List ℕ). Tiled p ws (state_of t x.counters x.offsets)) (sym (e ∙ ap (λ (u : List ℕ). starts_to u x.counters p.rank) is)) (tiled p zs r sized x.counters x.offsets))
 
   module _ (h : w.ended ≡ false) where
-    q : Runs
+    pub q : Runs
     q = runs h
 
-    pub roomy_here : Roomy p.rank p.operands p.extents p.strides w.counters w.offsets
-    roomy_here =
-        subst (λ (v : Walk). Roomy p.rank p.operands p.extents p.strides v.counters v.offsets) (sym q.here)
-        (roomy p zs r sized k.reached.steps q.c q.is)
+    pub roomy_here : (t : List ℕ) → Roomy p (state_of t w.counters w.offsets)
+    roomy_here t = subst (λ (v : Walk). Roomy p (state_of t v.counters v.offsets)) (sym q.here) (roomy p zs r sized k.reached.steps q.c q.is t)
 
     -- axis 0 stands where a tile starts
     pub start_here : (v : List ℕ) → v ≡ ws → 0 < p.rank → get_or w.counters 0 0 ≡ start_of (get_or v 0 0) (get_or w.counters 0 0)
@@ -248,50 +221,56 @@ module _ (p : Plan) (w : Walk) (k : Taken p w) where
         (first_start p zs r sized k.reached.steps q.c q.is))
 
     -- the block that it is at
+    abbrev pub here : Block
+    here = made p zs r q.c
+
     step-here : stepped p w ≡ handed_out (raw p zs r (Some q.c))
     step-here = ap (stepped p) q.here ∙ step-at p zs r k.reached.steps (Some q.c) q.is
 
-    pub block_here : (stepped p w).answer ≡ Block
-    block_here = ap (λ (s : Stepped). s.answer) step-here
+    pub block_here : handed_block (stepped p w) ≡ Some here
+    block_here = ap handed_block step-here
 
-    pub counters-here : (stepped p w).counters ≡ w.counters
-    counters-here = ap (λ (s : Stepped). s.counters) step-here ∙ ap (λ (v : Walk). v.counters) (sym q.here)
+    pub counters-here : here.counters ≡ w.counters
+    counters-here = ap (λ (v : Walk). v.counters) (sym q.here)
 
-    pub offsets_here : (stepped p w).offsets ≡ w.offsets
-    offsets_here = ap (λ (s : Stepped). s.offsets) step-here ∙ ap (λ (v : Walk). v.offsets) (sym q.here)
+    pub offsets_here : here.offsets ≡ w.offsets
+    offsets_here = ap (λ (v : Walk). v.offsets) (sym q.here)
 
-    pub length-here : (v : List ℕ) → v ≡ ws → length_of p.rank p.extents v w.counters ≡ (stepped p w).length
+    pub length-here : (v : List ℕ) → v ≡ ws → length_of p v w.counters ≡ here.length
     length-here v is =
-        ap₂ (λ (u : List ℕ) (g : Walk). length_of p.rank p.extents u g.counters) is q.here
-        ∙ length_is p zs r sized k.reached.steps q.c q.is
-        ∙ sym (ap (λ (s : Stepped). s.length) step-here)
+        ap₂ (λ (u : List ℕ) (g : Walk). length_of p u g.counters) is q.here ∙ length_is p zs r sized k.reached.steps q.c q.is
 
     -- THE STEP, out of what the functions on arrays gave
-    pub block_step : (v : List ℕ) → v ≡ ws → {n : ℕ} {ts : List ℤ} {more : Bool} {t' c' : List ℕ} {o' : List ℤ}
-        → n ≡ length_of p.rank p.extents v w.counters → ts ≡ firsts_of p.rank p.operands p.strides
-        → AdvancedTo p.rank p.operands p.extents v p.strides w.counters w.offsets more t' c' o'
-        → ◌≡◌ {A = Stepped} (record { answer = Block; counters = w.counters; length = n; offsets = w.offsets; strides = ts; walk = record { ended = not more; counters = c'; offsets = o' } }) (stepped p w)
-    block_step v is {n} {ts} {more} {t'} {c'} {o'} e f m =
-        let m' : AdvancedTo p.rank p.operands p.extents ws p.strides (C p zs r sized q.c) (O p zs r sized q.c) more t' c' o' =
-        subst (λ (g : Walk). AdvancedTo p.rank p.operands p.extents ws p.strides g.counters g.offsets more t' c' o') q.here
-        (subst (λ (u : List ℕ). AdvancedTo p.rank p.operands p.extents u p.strides w.counters w.offsets more t' c' o') is m) in
+    pub block_step : (v : List ℕ) → v ≡ ws → {n : ℕ} {ts : List ℤ} {more : Bool} {t : List ℕ} {at' : kept.State}
+        → n ≡ length_of p v w.counters → ts ≡ firsts_of p
+        → AdvancedTo p v (state_of t w.counters w.offsets) more at'
+        → ◌≡◌ {A = Result Stepped Refusal}
+        (Ok (record {
+          block = Some (record { counters = w.counters; length = n; offsets = w.offsets; strides = ts });
+          walk = record { ended = not more; counters = at'.counters; offsets = at'.offsets };
+        })) (stepped p w)
+    block_step v is {n} {ts} {more} {t} {at'} e f m =
+        let m' : AdvancedTo p ws (state_of t (C p zs r sized q.c) (O p zs r sized q.c)) more at' =
+        subst (λ (g : Walk). AdvancedTo p ws (state_of t g.counters g.offsets) more at') q.here
+        (subst (λ (u : List ℕ). AdvancedTo p u (state_of t w.counters w.offsets) more at') is m) in
         let len : n ≡ length_at (plan_cut_axes p) q.c =
-        e ∙ ap₂ (λ (u : List ℕ) (g : Walk). length_of p.rank p.extents u g.counters) is q.here ∙ length_is p zs r sized k.reached.steps q.c q.is in
+        e ∙ ap₂ (λ (u : List ℕ) (g : Walk). length_of p u g.counters) is q.here ∙ length_is p zs r sized k.reached.steps q.c q.is in
         let first : ts ≡ padded 8 (pos 0) (run_strides (plan_cut_axes p) (plan_rows p)) = f ∙ firsts_are p zs r sized in
         let walk = advanced p zs r sized k.reached.steps q.c q.is m' in
-        (λ i. record {
-          answer = Block;
-          counters = (q.here i).counters;
-          length = len i;
-          offsets = (q.here i).offsets;
-          strides = first i;
+        (λ i. Ok (record {
+          block = Some (record {
+            counters = (q.here i).counters;
+            length = len i;
+            offsets = (q.here i).offsets;
+            strides = first i;
+          });
           walk = walk i;
-        })
+        }))
         ∙ sym step-here
 
 -- ---- what is known with an answer
 
-pub answers_at : (p : Plan) (w : Walk) {r s : Outcome} → Answers p w r → r ≡ s → Answers p w s
+pub answers_at : (p : Plan) (w : Walk) {r s : Result Bool Refusal} → Answers p w r → r ≡ s → Answers p w s
 answers_at p w a h = subst (Answers p w) h a
 
 -- ---- a state that runs, put together anew from its parts

@@ -10,13 +10,17 @@ use lib.Dec.{ltb, leb, eqb}
 use lib.ListN.{length, get_or, replicate, length-replicate}
 use borrow.Author.Tests.{ltb-true, ltb-false, lt-leb, ne_eqb}
 use Rattle.strided.specs.Walk.{effective}
-use Rattle.advance.specs.Axis.{width_of, width_at, tile_at, starts_to, goal_of}
+use lib.IntN.{ℤ}
+use Rattle.strided.specs.declared.Plan.{Plan}
+use Rattle.advance.specs.Axis.{width_of, width_at, widths, tile_at, starts_to, goal_of}
 use Rattle.advance.specs.declared.Goal.{Goal}
-use Rattle.advance.specs.Carry.{Tiled, Single}
+use Rattle.advance.specs.declared.State.{State}
+use Rattle.advance.specs.Carry.{Carried, state_of, Roomy, Tiled, Single, MovedTo}
 use Rattle.advance.specs.Blocks.{length_of}
 use Rattle.advance.proofs.Axis.{length_cut, length-left}
 use Rattle.advance.specs.Filled.{filled_length, filled_at}
-use Rattle.walk.specs.Onward.{widths_of, inner_of}
+use Rattle.advance.proofs.Turns.{Before}
+use Rattle.walk.specs.Onward.{inner_of}
 
 all_places : length {A = ℕ} (replicate 64 0) ≡ 64
 all_places = length-replicate {A = ℕ} 64 0
@@ -30,45 +34,56 @@ width_some rank i e b = go (leb rank 8) (eqb i 0)
     go false true = omega arith
     go false false = omega arith
 
-module _ (rank : ℕ) (few : rank ≤ 64) (e b : List ℕ) where
+module _ (p : Plan) (few : p.rank ≤ 64) where
   -- the block size in force on axis i
-  pub width_read : (i : ℕ) → i < rank → {x : ℕ} → x ≡ width_of rank i (get_or e i 0) (get_or b i 0) → x ≡ get_or (widths_of rank e b) i 0
-  width_read i h q = q ∙ sym (filled_at (replicate 64 0) (width_at rank e b) 0 rank i h (omega (arith, all_places, few)))
+  pub width_read : (i : ℕ) → i < p.rank → {x : ℕ} → x ≡ width_at p i → x ≡ get_or (widths p) i 0
+  width_read i h q = q ∙ sym (filled_at (replicate 64 0) (width_at p) 0 p.rank i h (omega (arith, all_places, few)))
 
   -- where axis i goes next, told with the size in force in the array
-  pub aimed : (i : ℕ) → i < rank → {x : ℕ} → x ≡ width_of rank i (get_or e i 0) (get_or b i 0) → (inside : Bool) (at : ℕ) → {g : Goal} → g ≡ goal_of inside (get_or e i 0) x at
-      → g ≡ goal_of inside (get_or e i 0) (get_or (widths_of rank e b) i 0) at
-  aimed i h q inside at g = g ∙ ap (λ (n : ℕ). goal_of inside (get_or e i 0) n at) (width_read i h q)
+  pub aimed : (i : ℕ) → i < p.rank → {x : ℕ} → x ≡ width_at p i → (inside : Bool) (at : ℕ) → {g : Goal} → g ≡ goal_of inside (get_or p.extents i 0) x at
+      → g ≡ goal_of inside (get_or p.extents i 0) (get_or (widths p) i 0) at
+  aimed i h q inside at g = g ∙ ap (λ (n : ℕ). goal_of inside (get_or p.extents i 0) n at) (width_read i h q)
 
-  pub width_pos : (i : ℕ) → i < rank → 0 < get_or (widths_of rank e b) i 0
-  width_pos i h = subst (λ (n : ℕ). 0 < n) (width_read i h refl) (width_some rank i (get_or e i 0) (get_or b i 0))
+  pub width_pos : (i : ℕ) → i < p.rank → 0 < get_or (widths p) i 0
+  width_pos i h = subst (λ (n : ℕ). 0 < n) (width_read i h refl) (width_some p.rank i (get_or p.extents i 0) (get_or p.blocks i 0))
 
-  pub tiled_any : (c : List ℕ) → Tiled rank (widths_of rank e b) c (starts_to (widths_of rank e b) c rank)
-  tiled_any c = record {
-    placed = filled_length (replicate 64 0) (tile_at (widths_of rank e b) c) rank ∙ all_places;
+  pub tiled_any : (c : List ℕ) (o : List ℤ) → Tiled p (widths p) (state_of (starts_to (widths p) c p.rank) c o)
+  tiled_any c o = record {
+    placed = filled_length (replicate 64 0) (tile_at (widths p) c) p.rank ∙ all_places;
     wide = width_pos;
-    start = λ i h. filled_at (replicate 64 0) (tile_at (widths_of rank e b) c) 0 rank i h (omega (arith, all_places, few));
+    start = λ i h. filled_at (replicate 64 0) (tile_at (widths p) c) 0 p.rank i h (omega (arith, all_places, few));
   }
 
   -- from rank 9 on the blocks of all axes but axis 0 are 1
-  single-one : 8 < rank → (i : ℕ) → 1 ≤ i → i < rank → get_or (widths_of rank e b) i 0 ≡ 1
+  single-one : 8 < p.rank → (i : ℕ) → 1 ≤ i → i < p.rank → get_or (widths p) i 0 ≡ 1
   unfolding width_of
-  single-one h i p l = sym (width_read i l refl) ∙ rw (lt-leb rank 8 h, ne_eqb i 0 (λ z. omega arith))
+  single-one h i q l = sym (width_read i l refl) ∙ rw (lt-leb p.rank 8 h, ne_eqb i 0 (λ z. omega arith))
 
-  pub inner-single : Single (inner_of rank) rank (widths_of rank e b)
-  inner-single = go (ltb 8 rank) refl
+  pub inner-single : Single (inner_of p.rank) p (widths p)
+  inner-single = go (ltb 8 p.rank) refl
     where
-      go : (t : Bool) → ltb 8 rank ≡ t → Single (cond t 1 rank) rank (widths_of rank e b)
-      go true q = record { most = omega (arith, ltb-true 8 rank q); one = single-one (ltb-true 8 rank q) }
+      go : (t : Bool) → ltb 8 p.rank ≡ t → Single (cond t 1 p.rank) p (widths p)
+      go true q = record { most = omega (arith, ltb-true 8 p.rank q); one = single-one (ltb-true 8 p.rank q) }
       go false q = record { most = omega arith; one = λ i p l. absurd (let z : ⊥ = omega arith in z) }
 
+-- tile starts play no part in the room of a state
+pub roomy_any : {p : Plan} {t u c : List ℕ} {o : List ℤ} → Roomy p (state_of t c o) → Roomy p (state_of u c o)
+roomy_any r = record { axes = r.axes; few = r.few; counted = r.counted; offered = r.offered; within = r.within; span = r.span; reach = r.reach }
+
+pub moved_any : {goes : Carried} {p : Plan} {w t u c : List ℕ} {o : List ℤ} {more : Bool} {at' : State} → MovedTo goes p w (state_of t c o) more at' → MovedTo goes p w (state_of u c o) more at'
+moved_any m = record { answer = m.answer; counters = m.counters; roomy = m.roomy; tiled = m.tiled; starts = m.starts; others = m.others }
+
+-- a carry begins at whatever tile starts lie where the counters are
+pub begun_any : {inside : Bool} {first last : ℕ} {p : Plan} {w t u c : List ℕ} {o : List ℤ} → Roomy p (state_of t c o) → Tiled p w (state_of u c o) → Before inside first last p w (state_of t c o) first (state_of u c o)
+begun_any r d = record { roomy = roomy_any r; tiled = d; starts = λ k h. refl; others = λ k h. refl; same = refl }
+
 -- the length of a block: the least of the size in force and what is left of axis 0
-pub length_least : (rank : ℕ) (e w c : List ℕ) → (rank ≡ 0 → ⊥) → {n : ℕ} → n ≡ get_or w 0 0 → min n (get_or e 0 0 - get_or c 0 0) ≡ length_of rank e w c
-length_least rank e w c some q = ap (λ (m : ℕ). min m left) q ∙ go (ltb (get_or w 0 0) left) refl
+pub length_least : (p : Plan) (w c : List ℕ) → (p.rank ≡ 0 → ⊥) → {n : ℕ} → n ≡ get_or w 0 0 → min n (get_or p.extents 0 0 - get_or c 0 0) ≡ length_of p w c
+length_least p w c some q = ap (λ (m : ℕ). min m left) q ∙ go (ltb (get_or w 0 0) left) refl
   where
     left : ℕ
-    left = get_or e 0 0 - get_or c 0 0
+    left = get_or p.extents 0 0 - get_or c 0 0
 
-    go : (t : Bool) → ltb (get_or w 0 0) left ≡ t → min (get_or w 0 0) left ≡ length_of rank e w c
-    go true h = let l : get_or w 0 0 < left = ltb-true _ _ h in min-eq_left (omega (arith, l)) ∙ length_cut rank e w c some l
-    go false h = let l : left ≤ get_or w 0 0 = ltb-false _ _ h in min-eq_right l ∙ length-left rank e w c some l
+    go : (t : Bool) → ltb (get_or w 0 0) left ≡ t → min (get_or w 0 0) left ≡ length_of p w c
+    go true h = let l : get_or w 0 0 < left = ltb-true _ _ h in min-eq_left (omega (arith, l)) ∙ length_cut p w c some l
+    go false h = let l : left ≤ get_or w 0 0 = ltb-false _ _ h in min-eq_right l ∙ length-left p w c some l

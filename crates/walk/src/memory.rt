@@ -1,14 +1,14 @@
 // A walk in lent arrays, as C functions have it: a plan made of them, and one step of the state that lies in them.
-ghost use Rattle.std.specs.Prelude.{◌≡◌, false, pos};
+ghost use Rattle.std.specs.Prelude.{◌≡◌, true, false, Ok};
 ghost use Rattle.strided.specs.Step.{stepped};
-ghost use Rattle.strided.specs.Memory.{plan_of, walk_of, flag as flagOf, walk_at, walk_in, step_at, Steps};
-ghost use Rattle.walk.specs.Lent.{Taken};
+ghost use Rattle.strided.specs.Memory.{plan_of, walk_of, flag as flagOf, walk_at, walk_in, step_at};
+ghost use Rattle.walk.specs.Lent.{Taken, Handed};
 
 use crate::answer_of;
 use crate::onward::{advance_on, length_on};
 use advance::firsts;
-use layout::negated;
-use strided::{Outcome, Plan};
+use layout::LentPlan;
+use strided::{Plan, Refusal};
 
 // 1 for yes, 0 for no.
 pub fn flag(b: bool) -> u64
@@ -17,7 +17,7 @@ pub fn flag(b: bool) -> u64
     u64::from(b)
 }
 
-// A plan from its numbers and arrays.
+// A plan from its numbers and arrays. Kept: the five one by one, as C lends them.
 pub fn plan_of<'a>(
     rank: usize,
     operands: usize,
@@ -36,13 +36,12 @@ pub fn plan_of<'a>(
     }
 }
 
+// Kept, in block_into and step_into: what a step moves and what it hands out, array by array, as C lends them. A struct of lent arrays would
+// have to say of each that it lends the same one on.
+
 // The block at the counters, and the state at the next one, in the lent arrays. It checks nothing.
-pub fn block_into<'a>(
-    rank: usize,
-    operands: usize,
-    extents: &'a [u64; 64],
-    blocks: &'a [u64; 64],
-    strides: &'a [i64; 512],
+pub fn block_into(
+    plan: &LentPlan,
     ended: &mut [u64; 1],
     counters: &mut [u64; 64],
     offsets: &mut [i64; 8],
@@ -51,31 +50,26 @@ pub fn block_into<'a>(
     block_offsets: &mut [i64; 8],
     block_strides: &mut [i64; 8],
 )
-    requires { Taken (plan_of rank operands extents.now blocks.now strides.now) (walk_of false counters.old offsets.old) }
-    ensures { let p = plan_of rank operands extents.now blocks.now strides.now in
-        let w = walk_at ended.old counters.old offsets.old in
+    requires { Taken plan.now (walk_of false counters.old offsets.old) }
+    ensures { let w = walk_at ended.old counters.old offsets.old in
         let w' = walk_at ended.new counters.new offsets.new in
         let old = step_at w block_counters.old length.old block_offsets.old block_strides.old in
         let new = step_at w' block_counters.new length.new block_offsets.new block_strides.new in
-        Steps (stepped p (walk_of false counters.old offsets.old)) old new (pos 1) }
+        Handed (stepped plan.now (walk_of false counters.old offsets.old)) old new (Ok true) }
 {
-    let bl = length_on(rank, extents, blocks, counters);
-    let bs = firsts(rank, operands, strides);
+    let bl = length_on(plan, counters);
+    let bs = firsts(plan);
     *block_counters = *counters;
     *length = [bl];
     *block_offsets = *offsets;
     *block_strides = bs;
-    let more = advance_on(rank, operands, extents, blocks, strides, counters, offsets);
+    let more = advance_on(plan, counters, offsets);
     *ended = [flag(!more)];
 }
 
-// One step in the lent arrays. Neither the plan nor the state is copied.
-pub fn step_into<'a>(
-    rank: usize,
-    operands: usize,
-    extents: &'a [u64; 64],
-    blocks: &'a [u64; 64],
-    strides: &'a [i64; 512],
+// One step in the lent arrays; it says whether there is a block. Neither the plan nor the state is copied.
+pub fn step_into(
+    plan: &LentPlan,
     ended: &mut [u64; 1],
     counters: &mut [u64; 64],
     offsets: &mut [i64; 8],
@@ -83,37 +77,26 @@ pub fn step_into<'a>(
     length: &mut [u64; 1],
     block_offsets: &mut [i64; 8],
     block_strides: &mut [i64; 8],
-) -> i64
-    ensures { let p = plan_of rank operands extents.now blocks.now strides.now in
-        let w = walk_at ended.old counters.old offsets.old in
+) -> Result<bool, Refusal>
+    ensures { let w = walk_at ended.old counters.old offsets.old in
         let w' = walk_at ended.new counters.new offsets.new in
         let old = step_at w block_counters.old length.old block_offsets.old block_strides.old in
         let new = step_at w' block_counters.new length.new block_offsets.new block_strides.new in
-        Steps (stepped p (walk_in w)) old new result }
+        Handed (stepped plan.now (walk_in w)) old new result }
 {
     let over = ended[0] != 0;
-    let answer = answer_of(
-        over, rank, operands, extents, blocks, strides, counters, offsets,
-    );
-    match answer {
-        Outcome::Rejected(refusal) => negated(refusal),
-        Outcome::Ended => 0,
-        Outcome::Block => {
-            block_into(
-                rank,
-                operands,
-                extents,
-                blocks,
-                strides,
-                ended,
-                counters,
-                offsets,
-                block_counters,
-                length,
-                block_offsets,
-                block_strides,
-            );
-            1
-        }
+    let some = answer_of(plan, over, counters, offsets)?;
+    if some {
+        block_into(
+            plan,
+            ended,
+            counters,
+            offsets,
+            block_counters,
+            length,
+            block_offsets,
+            block_strides,
+        );
     }
+    Ok(some)
 }

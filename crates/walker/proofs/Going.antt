@@ -1,6 +1,6 @@
 -- ALONG THE WAY: going on by so many blocks is what as many steps of the walk do, and what `go_steps`, `go_behind` and `take_stretch` ask and leave.
 -- Assumes nothing.
-use mathlib.Core.Path.{◌≡◌, refl, sym, ap, ◌∙◌, subst, transport}
+use mathlib.Core.Path.{◌≡◌, refl, sym, ap, ◌∙◌, subst}
 use mathlib.Core.Bool.{Bool, true, false, cond}
 use mathlib.Core.List.{List}
 use Prim.Native.Nat.{ℕ, zero, suc, ◌+◌, ◌-◌, ◌*◌, ◌≤◌, ◌<◌, ◌^◌, min}
@@ -14,13 +14,15 @@ use borrow.Author.Tests.{le-ltb, ltb-false, ne_eqb}
 use Rattle.advance.specs.Axis.{start_of, ahead, back, inside_goal, tile_goal, goal_of}
 use Rattle.advance.specs.Blocks.{length_of}
 use Rattle.advance.specs.Filled.{by_lt, filled_above}
-use Rattle.advance.specs.Moves.{shifted, moved_at, Shifts}
-use Rattle.advance.specs.Carry.{Carried, carry_of, next_of, Roomy, Tiled, AdvancedTo}
+use Rattle.advance.specs.Moves.{shifted, moved_at}
+use Rattle.advance.specs.Carry.{Carried, carry_of, next_of, state_of, Roomy, Tiled, AdvancedTo}
 use Rattle.advance.proofs.Axis.{start_one, start_whole, start_on, start_tiles}
 use Rattle.advance.proofs.Dot.{roomy_shifts, roomy_moved, start_stays}
 use Rattle.advance.proofs.Turns.{tiled_set, passed, passed_single}
+use Rattle.strided.specs.declared.Plan.{Plan}
+use Rattle.advance.specs.declared.State.{State}
 use Rattle.walker.specs.declared.Way.{Way}
-use Rattle.walker.specs.Way.{Leads, left_of, onward, OnTo, MayGo, Gone, MayStride, LeftFrom, MayTell, PassedOn, StrodeOn}
+use Rattle.walker.specs.Way.{Leads, AtEnd, left_of, onward, OnTo, MayGo, Gone, Strides, Leaves, MayTell, Passed, Strode}
 use Rattle.walker.proofs.Ahead.{inside_next, tiles-fit, tile_next, left_inside, left_tile, left_some, left_way}
 
 -- ---- axes that stay where they are
@@ -50,44 +52,43 @@ full_length w left h = go (ltb w left) refl
     go true e = refl
     go false e = omega (arith, ltb-false w left e, h)
 
-module _ {y : Way} {rank operands : ℕ} {e w : List ℕ} {s : List ℤ} {t c : List ℕ} {o : List ℤ}
-    (m : MayStride y rank operands e w s t c o) where
-  abbrev l : Leads y rank operands e w
+module _ {y : Way} {P : Plan} {w : List ℕ} {at : State} (m : Strides y P w at) where
+  abbrev l : Leads y P w
   l = m.leads
 
-  abbrev r : Roomy rank operands e s c o
+  abbrev r : Roomy P at
   r = m.roomy
 
-  abbrev q : Tiled rank w c t
+  abbrev q : Tiled P w at
   q = m.tiled
 
   abbrev a : ℕ
   a = y.axis
 
   abbrev E : ℕ
-  E = get_or e y.axis 0
+  E = get_or P.extents y.axis 0
 
   abbrev Z : ℕ
   Z = get_or w y.axis 0
 
   abbrev A : ℕ
-  A = get_or c y.axis 0
+  A = get_or at.counters y.axis 0
 
   -- what `blocks_left` asks
-  pub left_asks : 0 < y.by → (0 < Z) × (A < E) × (get_or t y.axis 0 ≡ start_of Z A)
+  pub left_asks : 0 < y.by → (0 < Z) × (A < E) × (get_or at.tile_starts y.axis 0 ≡ start_of Z A)
   left_asks h = (q.wide a (l.there h), r.within a (l.there h), q.start a (l.there h))
 
-  pub some_left : 0 < left_of y e w c
+  pub some_left : 0 < left_of y P w at.counters
   some_left = left_some y E Z A (λ h. ((left_asks h).0, (left_asks h).1))
 
-  pub long : y.axis < length c
+  pub long : y.axis < length at.counters
   long = let x = r.counted in let z = l.small in omega (arith, x, z)
 
   -- from tile to tile: the axis stands where a tile starts
   pub stands : 0 < y.by → y.inside ≡ false → A ≡ start_of Z A
   stands h i =
       by_lt 0 a (λ p. sym (ap (λ (v : ℕ). start_of v A) (l.tile_still i h a p (l.there h)) ∙ start_one A))
-      (λ p. subst (λ (n : ℕ). get_or c n 0 ≡ start_of (get_or w n 0) (get_or c n 0)) (let z : 0 ≡ a = omega arith in z) (m.start (let z = l.there h in omega (arith, z))))
+      (λ p. subst (λ (n : ℕ). get_or at.counters n 0 ≡ start_of (get_or w n 0) (get_or at.counters n 0)) (let z : 0 ≡ a = omega arith in z) (m.start (let z = l.there h in omega (arith, z))))
 
   module _ (h : 0 < y.by) where
     wide : 0 < Z
@@ -96,7 +97,7 @@ module _ {y : Way} {rank operands : ℕ} {e w : List ℕ} {s : List ℤ} {t c : 
     pub inside_by : y.inside ≡ true → (j : ℕ) → j * y.by ≡ j
     inside_by i j = ap (λ (x : ℕ). j * x) (l.inner_by i h) ∙ mul-one j
 
-    pub below : (j : ℕ) → j < left_of y e w c → A + j * y.by < E
+    pub below : (j : ℕ) → j < left_of y P w at.counters → A + j * y.by < E
     below j g = go y.inside refl
       where
         go : (b : Bool) → y.inside ≡ b → A + j * y.by < E
@@ -107,7 +108,7 @@ module _ {y : Way} {rank operands : ℕ} {e w : List ℕ} {s : List ℤ} {t c : 
             by_lt 0 j (λ p. let f = tiles-fit E Z A j wide p (subst (λ (n : ℕ). j < n) z g) in let u = suc-mul j Z in let k = wide in omega (arith, f, u, k, x))
             (λ p. let k = (left_asks h).1 in let u : j * y.by ≡ 0 = ap (λ (n : ℕ). n * y.by) (let v : j ≡ 0 = omega arith in v) ∙ zero-mul y.by in omega (arith, k, u))
 
-    start_at_lem : (j : ℕ) → j < left_of y e w c → cond y.inside (start_of Z A) (A + j * y.by) ≡ start_of Z (A + j * y.by)
+    start_at_lem : (j : ℕ) → j < left_of y P w at.counters → cond y.inside (start_of Z A) (A + j * y.by) ≡ start_of Z (A + j * y.by)
     start_at_lem j g = go y.inside refl
       where
         go : (b : Bool) → y.inside ≡ b → cond b (start_of Z A) (A + j * y.by) ≡ start_of Z (A + j * y.by)
@@ -119,7 +120,7 @@ module _ {y : Way} {rank operands : ℕ} {e w : List ℕ} {s : List ℤ} {t c : 
             let x : j * y.by ≡ j * Z = ap (λ (v : ℕ). j * v) (l.tile_by i h) in
             ap (λ (n : ℕ). A + n) x ∙ sym (ap (λ (n : ℕ). start_of Z (A + n)) x ∙ start_tiles Z A j wide (stands h i))
 
-    goal-at : (j : ℕ) → suc j < left_of y e w c → (b : Bool) → y.inside ≡ b
+    goal-at : (j : ℕ) → suc j < left_of y P w at.counters → (b : Bool) → y.inside ≡ b
         → goal_of b E Z (A + j * y.by) ≡ ahead (A + suc j * y.by) (cond b (start_of Z A) (A + suc j * y.by))
     unfolding goal_of
     goal-at j g true i =
@@ -132,137 +133,133 @@ module _ {y : Way} {rank operands : ℕ} {e w : List ℕ} {s : List ℤ} {t c : 
         ap (λ (v : ℕ). tile_goal E Z (A + j * v)) x ∙ tile_next E Z A j wide (stands h i) (subst (λ (n : ℕ). suc j < n) z g)
         ∙ ap (λ (v : ℕ). ahead (A + suc j * v) (A + suc j * v)) (sym x)
 
-    other : (j i : ℕ) → (i ≡ a → ⊥) → get_or (onward y c j) i 0 ≡ get_or c i 0
-    other j i n = get_or-set_other c a i (A + j * y.by) 0 n
+    other : (j i : ℕ) → (i ≡ a → ⊥) → get_or (onward y at.counters j) i 0 ≡ get_or at.counters i 0
+    other j i n = get_or-set_other at.counters a i (A + j * y.by) 0 n
 
     -- inside a tile no axis before moves
-    pub still-axes : (j : ℕ) → y.inside ≡ true → carry_of true e w (rank - 1) 1 (onward y c j) ≡ carry_of true e w (rank - y.axis) y.axis (onward y c j)
+    pub still-axes : (j : ℕ) → y.inside ≡ true → carry_of true P.extents w (P.rank - 1) 1 (onward y at.counters j) ≡ carry_of true P.extents w (P.rank - y.axis) y.axis (onward y at.counters j)
     still-axes j i =
         let k = l.there h in
         let f = l.inner_axis i h in
-        let x : rank - 1 ≡ (a - 1) + (rank - a) = omega (arith, k, f) in
+        let x : P.rank - 1 ≡ (a - 1) + (P.rank - a) = omega (arith, k, f) in
         let z : 1 + (a - 1) ≡ a = omega (arith, f) in
-        ap (λ (n : ℕ). carry_of true e w n 1 (onward y c j)) x
-        ∙ passed_single e w (a - 1) (rank - a) 1 (onward y c j) (λ n p u. l.inner-still i n p (let b : n < a = omega (arith, u, z) in b))
-        ∙ ap (λ (n : ℕ). carry_of true e w (rank - a) n (onward y c j)) z
+        ap (λ (n : ℕ). carry_of true P.extents w n 1 (onward y at.counters j)) x
+        ∙ passed_single P.extents w (a - 1) (P.rank - a) 1 (onward y at.counters j) (λ n p u. l.inner-still i n p (let b : n < a = omega (arith, u, z) in b))
+        ∙ ap (λ (n : ℕ). carry_of true P.extents w (P.rank - a) n (onward y at.counters j)) z
 
-    at_zero : y.inside ≡ false → (n : ℕ) → n < a → get_or c n 0 ≡ 0
+    at_zero : y.inside ≡ false → (n : ℕ) → n < a → get_or at.counters n 0 ≡ 0
     at_zero i n u =
         let k = l.there h in
         let f = l.tile_whole i h n u in
-        let b = r.within n (let z : n < rank = omega (arith, k, u) in z) in
-        by_lt 0 n (λ p. let x = l.tile_still i h n p (let z : n < rank = omega (arith, k, u) in z) in omega (arith, f, b, x))
+        let b = r.within n (let z : n < P.rank = omega (arith, k, u) in z) in
+        by_lt 0 n (λ p. let x = l.tile_still i h n p (let z : n < P.rank = omega (arith, k, u) in z) in omega (arith, f, b, x))
         (λ p. let z : 0 ≡ n = omega arith in
-        subst (λ (m : ℕ). get_or c m 0 ≡ start_of (get_or w m 0) (get_or c m 0)) z (m.start (let x : 0 < rank = omega (arith, k) in x)) ∙ start_whole (get_or w n 0) (get_or c n 0) (omega (arith, f, b)))
+        subst (λ (m : ℕ). get_or at.counters m 0 ≡ start_of (get_or w m 0) (get_or at.counters m 0)) z (m.start (let x : 0 < P.rank = omega (arith, k) in x)) ∙ start_whole (get_or w n 0) (get_or at.counters n 0) (omega (arith, f, b)))
 
     -- from tile to tile nothing moves inside the tile, and each axis before has one tile
-    pub whole-axes : (j : ℕ) → y.inside ≡ false → next_of rank e w (onward y c j) ≡ carry_of false e w (rank - y.axis) y.axis (onward y c j)
+    pub whole-axes : (j : ℕ) → y.inside ≡ false → next_of P.rank P.extents w (onward y at.counters j) ≡ carry_of false P.extents w (P.rank - y.axis) y.axis (onward y at.counters j)
     unfolding next_of carry_of
     whole-axes j i =
-        let d : List ℕ = onward y c j in
+        let d : List ℕ = onward y at.counters j in
         let k = l.there h in
-        let x : rank - 1 ≡ (rank - 1) + 0 = omega arith in
-        let f : carry_of true e w (rank - 1) 1 d ≡ record { more = false; counters = d } =
-        ap (λ (n : ℕ). carry_of true e w n 1 d) x
-        ∙ passed_single e w (rank - 1) 0 1 d (λ n p u. l.tile_still i h n p (let z : n < rank = omega (arith, u, k) in z)) in
-        let z : rank - 0 ≡ a + (rank - a) = omega (arith, k) in
+        let x : P.rank - 1 ≡ (P.rank - 1) + 0 = omega arith in
+        let f : carry_of true P.extents w (P.rank - 1) 1 d ≡ record { more = false; counters = d } =
+        ap (λ (n : ℕ). carry_of true P.extents w n 1 d) x
+        ∙ passed_single P.extents w (P.rank - 1) 0 1 d (λ n p u. l.tile_still i h n p (let z : n < P.rank = omega (arith, u, k) in z)) in
+        let z : P.rank - 0 ≡ a + (P.rank - a) = omega (arith, k) in
         let zero_a : 0 + a ≡ a = omega arith in
-        ap (λ (b : Carried). cond b.more b (carry_of false e w (rank - 0) 0 b.counters)) f
-        ∙ ap (λ (n : ℕ). carry_of false e w n 0 d) z
-        ∙ passed false e w a (rank - a) 0 d (λ n p u.
+        ap (λ (b : Carried). cond b.more b (carry_of false P.extents w (P.rank - 0) 0 b.counters)) f
+        ∙ ap (λ (n : ℕ). carry_of false P.extents w n 0 d) z
+        ∙ passed false P.extents w a (P.rank - a) 0 d (λ n p u.
         let n-lt : n < a = omega (arith, u) in
         let ne : (n ≡ a → ⊥) = omega (arith, u) in
         let v = other j n ne in
-        let lt : n < rank = omega (arith, k, n-lt) in
-        whole-goal (get_or e n 0) (get_or w n 0) (get_or d n 0) (l.tile_whole i h n n-lt) (subst (λ (b : ℕ). b < get_or e n 0) (sym v) (r.within n lt)) (v ∙ at_zero i n n-lt))
-        ∙ ap (λ (n : ℕ). carry_of false e w (rank - a) n d) zero_a
+        let lt : n < P.rank = omega (arith, k, n-lt) in
+        whole-goal (get_or P.extents n 0) (get_or w n 0) (get_or d n 0) (l.tile_whole i h n n-lt) (subst (λ (b : ℕ). b < get_or P.extents n 0) (sym v) (r.within n lt)) (v ∙ at_zero i n n-lt))
+        ∙ ap (λ (n : ℕ). carry_of false P.extents w (P.rank - a) n d) zero_a
 
     -- THE NEXT BLOCK is one on
-    module _ (j : ℕ) (g : suc j < left_of y e w c) where
+    module _ (j : ℕ) (g : suc j < left_of y P w at.counters) where
       abbrev d : List ℕ
-      d = onward y c j
+      d = onward y at.counters j
 
       abbrev v : ℕ
       v = A + suc j * y.by
 
       abbrev goal : Carried
-      goal = record { more = true; counters = onward y c (suc j) }
+      goal = record { more = true; counters = onward y at.counters (suc j) }
 
-      carried : (b : Bool) → y.inside ≡ b → carry_of b e w (rank - a) a d ≡ goal
+      carried : (b : Bool) → y.inside ≡ b → carry_of b P.extents w (P.rank - a) a d ≡ goal
       carried b i =
-          let f : goal_of b E Z (get_or d a 0) ≡ ahead v (cond b (start_of Z A) v) = ap (goal_of b E Z) (get_or-set_same c a (A + j * y.by) 0 long) ∙ goal-at j g b i in
+          let f : goal_of b E Z (get_or d a 0) ≡ ahead v (cond b (start_of Z A) v) = ap (goal_of b E Z) (get_or-set_same at.counters a (A + j * y.by) 0 long) ∙ goal-at j g b i in
           let k = l.there h in
-          goes b e w (rank - a) a d v (cond b (start_of Z A) v) (omega (arith, k)) f
-          ∙ ap (λ (x : List ℕ). record { more = true; counters = x }) (set-set c a (A + j * y.by) v)
+          goes b P.extents w (P.rank - a) a d v (cond b (start_of Z A) v) (omega (arith, k)) f
+          ∙ ap (λ (x : List ℕ). record { more = true; counters = x }) (set-set at.counters a (A + j * y.by) v)
 
-      on_inside : y.inside ≡ true → next_of rank e w d ≡ goal
+      on_inside : y.inside ≡ true → next_of P.rank P.extents w d ≡ goal
       unfolding next_of
-      on_inside i = ap (λ (b : Carried). cond b.more b (carry_of false e w (rank - 0) 0 b.counters)) (still-axes j i ∙ carried true i)
+      on_inside i = ap (λ (b : Carried). cond b.more b (carry_of false P.extents w (P.rank - 0) 0 b.counters)) (still-axes j i ∙ carried true i)
 
-      on_tile : y.inside ≡ false → next_of rank e w d ≡ goal
+      on_tile : y.inside ≡ false → next_of P.rank P.extents w d ≡ goal
       on_tile i = whole-axes j i ∙ carried false i
 
-      next_on : next_of rank e w d ≡ goal
+      next_on : next_of P.rank P.extents w d ≡ goal
       next_on = go y.inside refl
         where
-          go : (b : Bool) → y.inside ≡ b → next_of rank e w d ≡ goal
+          go : (b : Bool) → y.inside ≡ b → next_of P.rank P.extents w d ≡ goal
           go true i = on_inside i
           go false i = on_tile i
 
     -- the move there
-    pub moved_on_lem : (j : ℕ) → j < left_of y e w c
-        → OnTo y j rank operands e w s c o (set t y.axis (cond y.inside (start_of Z A) (A + j * y.by))) (onward y c j) (shifted operands y.axis A (A + j * y.by) s o)
+    pub moved_on_lem : (j : ℕ) → j < left_of y P w at.counters
+        → OnTo y j P w at (state_of (set at.tile_starts y.axis (cond y.inside (start_of Z A) (A + j * y.by))) (onward y at.counters j) (shifted P y.axis A (A + j * y.by) at.offsets))
     moved_on_lem j g = record {
       answer = refl;
       counters = refl;
-      roomy = roomy_moved rank operands e s c o r a (A + j * y.by) (l.there h) (below j g);
-      tiled = tiled_set rank w c t r.counted r.axes q a (A + j * y.by) (cond y.inside (start_of Z A) (A + j * y.by)) (l.there h) (start_at_lem j g);
-      starts = start_stays rank operands e s c o r a (A + j * y.by) (l.there h) (below j g);
-      others = λ k p. filled_above o (moved_at a A (A + j * y.by) s o) (pos 0) operands k p;
+      roomy = roomy_moved P at r a (A + j * y.by) (l.there h) (below j g) (set at.tile_starts y.axis (cond y.inside (start_of Z A) (A + j * y.by)));
+      tiled = tiled_set P w at r.counted r.axes q a (A + j * y.by) (cond y.inside (start_of Z A) (A + j * y.by)) (shifted P y.axis A (A + j * y.by) at.offsets) (l.there h) (start_at_lem j g);
+      starts = start_stays P at r a (A + j * y.by) (l.there h) (below j g);
+      others = λ k p. filled_above at.offsets (moved_at a A (A + j * y.by) P.strides at.offsets) (pos 0) P.operands k p;
     }
 
   -- no move
-  pub unmoved_on : OnTo y 0 rank operands e w s c o t c o
-  unmoved_on = record { answer = refl; counters = sym (on_none y c); roomy = r; tiled = q; starts = λ k p. refl; others = λ k p. refl }
+  pub unmoved_on : OnTo y 0 P w at at
+  unmoved_on = record { answer = refl; counters = sym (on_none y at.counters); roomy = r; tiled = q; starts = λ k p. refl; others = λ k p. refl }
 
-  pub way_for : (j : ℕ) → 0 < j → j < left_of y e w c → 0 < y.by
+  pub way_for : (j : ℕ) → 0 < j → j < left_of y P w at.counters → 0 < y.by
   way_for j p g = left_way y E Z A (omega (arith, p, g))
 
   -- what `go_steps` asks
-  pub may_go : (j : ℕ) → j < left_of y e w c → E < 2 ^ 64 → MayGo y j s c o
+  pub may_go : (j : ℕ) → j < left_of y P w at.counters → E < 2 ^ 64 → MayGo y j P at
   may_go j g f = record {
     small = l.small;
     fits = λ p. let b = below (way_for j p g) j g in omega (arith, b, f);
-    moves = λ p.
-        let h = way_for j p g in
-        subst (λ (n : ℕ). Shifts n a A (A + j * y.by) s o) (sym l.operands_is) (roomy_shifts rank operands e s c o r a (A + j * y.by) (l.there h) (below h j g));
+    moves = λ p. let h = way_for j p g in roomy_shifts P at r a (A + j * y.by) (l.there h) (below h j g);
   }
 
   -- and what it leaves
-  pub gone_on : (j : ℕ) → j < left_of y e w c → {t' c' : List ℕ} {o' : List ℤ} → Gone y j s t c o t' c' o' → OnTo y j rank operands e w s c o t' c' o'
-  gone_on zero g {t'} {c'} {o'} k =
-      transport (λ i. OnTo y 0 rank operands e w s c o (sym k.starts i) (sym k.counters i) (sym k.offsets i)) unmoved_on
-  gone_on (suc j) g {t'} {c'} {o'} k =
+  pub gone_on : (j : ℕ) → j < left_of y P w at.counters → {at' : State} → Gone y j P at at' → OnTo y j P w at at'
+  gone_on zero g {at'} k = subst (λ (x : State). OnTo y 0 P w at x) (λ i. state_of (sym k.starts i) (sym k.counters i) (sym k.offsets i)) unmoved_on
+  gone_on (suc j) g {at'} k =
       let h = way_for (suc j) (omega arith) g in
-      let x : set t y.axis (cond y.inside (start_of Z A) (A + suc j * y.by)) ≡ cond y.inside t (set t y.axis (A + suc j * y.by)) = go h y.inside in
+      let x : set at.tile_starts y.axis (cond y.inside (start_of Z A) (A + suc j * y.by)) ≡ cond y.inside at.tile_starts (set at.tile_starts y.axis (A + suc j * y.by)) = go h y.inside in
       let n : eqb (suc j) 0 ≡ false = ne_eqb (suc j) 0 (λ z. not_none z) in
-      let f : t' ≡ cond y.inside t (set t y.axis (A + suc j * y.by)) = k.starts ∙ rw n in
-      let u : c' ≡ onward y c (suc j) = k.counters ∙ rw n in
-      let z : o' ≡ shifted operands y.axis A (A + suc j * y.by) s o = k.offsets ∙ rw (n, l.operands_is) in
-      transport (λ i. OnTo y (suc j) rank operands e w s c o ((x ∙ sym f) i) (sym u i) (sym z i)) (moved_on_lem h (suc j) g)
+      let f : at'.tile_starts ≡ cond y.inside at.tile_starts (set at.tile_starts y.axis (A + suc j * y.by)) = k.starts ∙ rw n in
+      let u : at'.counters ≡ onward y at.counters (suc j) = k.counters ∙ rw n in
+      let z : at'.offsets ≡ shifted P y.axis A (A + suc j * y.by) at.offsets = k.offsets ∙ rw n in
+      subst (λ (v : State). OnTo y (suc j) P w at v) (λ i. state_of ((x ∙ sym f) i) (sym u i) (sym z i)) (moved_on_lem h (suc j) g)
     where
       not_none : suc j ≡ 0 → ⊥
       not_none z = omega arith
 
-      go : 0 < y.by → (b : Bool) → set t y.axis (cond b (start_of Z A) (A + suc j * y.by)) ≡ cond b t (set t y.axis (A + suc j * y.by))
-      go h true = ap (set t y.axis) (sym (left_asks h).2) ∙ set-get_or t y.axis 0
+      go : 0 < y.by → (b : Bool) → set at.tile_starts y.axis (cond b (start_of Z A) (A + suc j * y.by)) ≡ cond b at.tile_starts (set at.tile_starts y.axis (A + suc j * y.by))
+      go h true = ap (set at.tile_starts y.axis) (sym (left_asks h).2) ∙ set-get_or at.tile_starts y.axis 0
       go h false = refl
 
   -- ONE BLOCK ON is one step of the walk
-  pub on_step : (j : ℕ) → suc j < left_of y e w c → {t₁ c₁ : List ℕ} {o₁ : List ℤ} {t₂ c₂ : List ℕ} {o₂ : List ℤ}
-      → OnTo y j rank operands e w s c o t₁ c₁ o₁ → OnTo y (suc j) rank operands e w s c o t₂ c₂ o₂ → AdvancedTo rank operands e w s c₁ o₁ true t₂ c₂ o₂
-  on_step j g {t₁} {c₁} m n =
-      let z : next_of rank e w c₁ ≡ record { more = true; counters = onward y c (suc j) } = ap (next_of rank e w) m.counters ∙ next_on (way_for (suc j) (omega arith) g) j g in
+  pub on_step : (j : ℕ) → suc j < left_of y P w at.counters → {at₁ at₂ : State} → OnTo y j P w at at₁ → OnTo y (suc j) P w at at₂ → AdvancedTo P w at₁ true at₂
+  on_step j g {at₁} m n =
+      let z : next_of P.rank P.extents w at₁.counters ≡ record { more = true; counters = onward y at.counters (suc j) } = ap (next_of P.rank P.extents w) m.counters ∙ next_on (way_for (suc j) (omega arith) g) j g in
       record {
         answer = ap (λ (b : Carried). b.more) (sym z);
         counters = n.counters ∙ ap (λ (b : Carried). b.counters) (sym z);
@@ -274,31 +271,27 @@ module _ {y : Way} {rank operands : ℕ} {e w : List ℕ} {s : List ℤ} {t c : 
 
   -- there is such a move for each block of the stretch
   pub record There (j : ℕ) : Type 0 where
-    pub starts : List ℕ
-    pub counters : List ℕ
-    pub offsets : List ℤ
-    pub moved : OnTo y j rank operands e w s c o starts counters offsets
+    pub stands : State
+    pub moved : OnTo y j P w at stands
 
-  pub moved-there : (j : ℕ) → j < left_of y e w c → There j
-  moved-there zero g = record { starts = t; counters = c; offsets = o; moved = unmoved_on }
+  pub moved-there : (j : ℕ) → j < left_of y P w at.counters → There j
+  moved-there zero g = record { stands = at; moved = unmoved_on }
   moved-there (suc j) g = record {
-    starts = set t y.axis (cond y.inside (start_of Z A) (A + suc j * y.by));
-    counters = onward y c (suc j);
-    offsets = shifted operands y.axis A (A + suc j * y.by) s o;
+    stands = state_of (set at.tile_starts y.axis (cond y.inside (start_of Z A) (A + suc j * y.by))) (onward y at.counters (suc j)) (shifted P y.axis A (A + suc j * y.by) at.offsets);
     moved = moved_on_lem (way_for (suc j) (omega arith) g) (suc j) g;
   }
 
   -- every block has the same length
-  pub on_length : (j : ℕ) → j < left_of y e w c → length_of rank e w (onward y c j) ≡ length_of rank e w c
+  pub on_length : (j : ℕ) → j < left_of y P w at.counters → length_of P w (onward y at.counters j) ≡ length_of P w at.counters
   unfolding length_of
-  on_length zero g = ap (length_of rank e w) (on_none y c)
+  on_length zero g = ap (length_of P w) (on_none y at.counters)
   on_length (suc j) g =
       let h = way_for (suc j) (omega arith) g in
       by_lt 0 a
-      (λ p. ap (λ (n : ℕ). cond (eqb rank 0) 1 (cond (ltb (get_or w 0 0) (get_or e 0 0 - n)) (get_or w 0 0) (get_or e 0 0 - n))) (get_or-set_other c a 0 (A + suc j * y.by) 0 (let z : (0 ≡ a → ⊥) = omega (arith, p) in z)))
+      (λ p. ap (λ (n : ℕ). cond (eqb P.rank 0) 1 (cond (ltb (get_or w 0 0) (get_or P.extents 0 0 - n)) (get_or w 0 0) (get_or P.extents 0 0 - n))) (get_or-set_other at.counters a 0 (A + suc j * y.by) 0 (let z : (0 ≡ a → ⊥) = omega (arith, p) in z)))
       (λ p. go h (let z : a ≡ 0 = omega (arith, p) in z) y.inside refl)
     where
-      go : 0 < y.by → a ≡ 0 → (b : Bool) → y.inside ≡ b → length_of rank e w (onward y c (suc j)) ≡ length_of rank e w c
+      go : 0 < y.by → a ≡ 0 → (b : Bool) → y.inside ≡ b → length_of P w (onward y at.counters (suc j)) ≡ length_of P w at.counters
       go h z true i = absurd (let k = l.inner_axis i h in let u : ⊥ = omega (arith, k, z) in u)
       go h z false i =
           let n : ℕ = A + suc j * y.by in
@@ -307,18 +300,18 @@ module _ {y : Way} {rank operands : ℕ} {e w : List ℕ} {s : List ℤ} {t c : 
           let u : suc (suc j) * Z ≡ suc j * Z + Z = suc-mul (suc j) Z in
           let later : Z ≤ E - n = omega (arith, f, u, x) in
           let here : Z ≤ E - A = omega (arith, f, u) in
-          let k : get_or (onward y c (suc j)) a 0 ≡ n = get_or-set_same c a n 0 long in
-          let p : length_of rank e w (onward y c (suc j)) ≡ cond (eqb rank 0) 1 Z =
-          subst (λ (m : ℕ). cond (eqb rank 0) 1 (cond (ltb (get_or w m 0) (get_or e m 0 - get_or (onward y c (suc j)) m 0)) (get_or w m 0) (get_or e m 0 - get_or (onward y c (suc j)) m 0)) ≡ cond (eqb rank 0) 1 Z) z
-          (ap (λ (m : ℕ). cond (eqb rank 0) 1 (cond (ltb Z (E - m)) Z (E - m))) k ∙ ap (cond (eqb rank 0) 1) (full_length Z (E - n) later)) in
-          let q : length_of rank e w c ≡ cond (eqb rank 0) 1 Z =
-          subst (λ (m : ℕ). cond (eqb rank 0) 1 (cond (ltb (get_or w m 0) (get_or e m 0 - get_or c m 0)) (get_or w m 0) (get_or e m 0 - get_or c m 0)) ≡ cond (eqb rank 0) 1 Z) z
-          (ap (cond (eqb rank 0) 1) (full_length Z (E - A) here)) in
+          let k : get_or (onward y at.counters (suc j)) a 0 ≡ n = get_or-set_same at.counters a n 0 long in
+          let p : length_of P w (onward y at.counters (suc j)) ≡ cond (eqb P.rank 0) 1 Z =
+          subst (λ (m : ℕ). cond (eqb P.rank 0) 1 (cond (ltb (get_or w m 0) (get_or P.extents m 0 - get_or (onward y at.counters (suc j)) m 0)) (get_or w m 0) (get_or P.extents m 0 - get_or (onward y at.counters (suc j)) m 0)) ≡ cond (eqb P.rank 0) 1 Z) z
+          (ap (λ (m : ℕ). cond (eqb P.rank 0) 1 (cond (ltb Z (E - m)) Z (E - m))) k ∙ ap (cond (eqb P.rank 0) 1) (full_length Z (E - n) later)) in
+          let q : length_of P w at.counters ≡ cond (eqb P.rank 0) 1 Z =
+          subst (λ (m : ℕ). cond (eqb P.rank 0) 1 (cond (ltb (get_or w m 0) (get_or P.extents m 0 - get_or at.counters m 0)) (get_or w m 0) (get_or P.extents m 0 - get_or at.counters m 0)) ≡ cond (eqb P.rank 0) 1 Z) z
+          (ap (cond (eqb P.rank 0) 1) (full_length Z (E - A) here)) in
           p ∙ sym q
 
   -- what `go_behind` makes of its callees' answers
-  module _ {left : ℕ} (left_is : left ≡ left_of y e w c) where
-    pub last_less : left - 1 < left_of y e w c
+  module _ {left : ℕ} (left_is : left ≡ left_of y P w at.counters) where
+    pub last_less : left - 1 < left_of y P w at.counters
     last_less = let p = some_left in omega (arith, p, left_is)
 
     pub left_above : 0 < left
@@ -328,38 +321,37 @@ module _ {y : Way} {rank operands : ℕ} {e w : List ℕ} {s : List ℤ} {t c : 
     pub end_below : 0 < y.by → A + (left - 1) * y.by ≤ E
     end_below h = let f = below h (left - 1) last_less in omega (arith, f)
 
-    pub limit_less : (limit : ℕ) → limit < left → limit < left_of y e w c
+    pub at_end : 0 < y.by → (y.inside ≡ false → E - (A + (left - 1) * y.by) ≤ y.by) → AtEnd y E Z A
+    at_end h f i =
+        subst (λ (n : ℕ). E - (A + (n - 1) * y.by) ≤ Z) left_is (subst (λ (v : ℕ). E - (A + (left - 1) * y.by) ≤ v) (l.tile_by i h) (f i))
+
+    pub limit_less : (limit : ℕ) → limit < left → limit < left_of y P w at.counters
     limit_less limit h = omega (arith, h, left_is)
 
-    pub gone_last : {t₁ c₁ : List ℕ} {o₁ : List ℤ} → Gone y (left - 1) s t c o t₁ c₁ o₁ → {more : Bool} {t₂ c₂ : List ℕ} {o₂ : List ℤ} → AdvancedTo rank operands e w s c₁ o₁ more t₂ c₂ o₂
-        → LeftFrom y (left_of y e w c - 1) rank operands e w s c o more t₂ c₂ o₂
-    gone_last {t₁} {c₁} {o₁} k m = record {
-      starts = t₁;
-      counters = c₁;
-      offsets = o₁;
-      last = subst (λ (n : ℕ). OnTo y (n - 1) rank operands e w s c o t₁ c₁ o₁) left_is (gone_on (left - 1) last_less k);
+    pub gone_last : {at₁ : State} → Gone y (left - 1) P at at₁ → {more : Bool} {at₂ : State} → AdvancedTo P w at₁ more at₂ → Leaves y P w at more at₂
+    gone_last {at₁} k m = record {
+      there = at₁;
+      last = subst (λ (n : ℕ). OnTo y (n - 1) P w at at₁) left_is (gone_on (left - 1) last_less k);
       then = m;
     }
 
-    pub passed_short : (limit : ℕ) → limit < left → {t₁ c₁ : List ℕ} {o₁ : List ℤ} → Gone y limit s t c o t₁ c₁ o₁ → PassedOn y rank operands limit e w s c o true t₁ c₁ o₁
+    pub passed_short : (limit : ℕ) → limit < left → {at₁ : State} → Gone y limit P at at₁ → Passed y limit P w at true at₁
     passed_short limit h k = record {
       short = λ g. (refl, gone_on limit (limit_less limit h) k);
       all = λ g. absurd (let z : ⊥ = omega (arith, g, h, left_is) in z);
     }
 
-    pub passed_all : (limit : ℕ) → left ≤ limit → {more : Bool} {t₂ c₂ : List ℕ} {o₂ : List ℤ} → LeftFrom y (left_of y e w c - 1) rank operands e w s c o more t₂ c₂ o₂
-        → PassedOn y rank operands limit e w s c o more t₂ c₂ o₂
+    pub passed_all : (limit : ℕ) → left ≤ limit → {more : Bool} {at₂ : State} → Leaves y P w at more at₂ → Passed y limit P w at more at₂
     passed_all limit h m = record {
       short = λ g. absurd (let z : ⊥ = omega (arith, g, h, left_is) in z);
       all = λ g. m;
     }
 
   -- what `stretch_here` asks
-  pub may_tell : y.rank ≡ rank → MayTell y e w t c
-  may_tell f = record { small = l.small; first = λ p. r.within 0 (subst (λ (n : ℕ). 0 < n) f p); there = left_asks }
+  pub may_tell : MayTell y P w at
+  may_tell = record { small = l.small; first = λ p. r.within 0 p; there = left_asks }
 
 -- a stretch that was looked at, and that the walk went past, was handed out
-pub strode_of : {y : Way} {rank operands limit : ℕ} {e w : List ℕ} {s : List ℤ} {c : List ℕ} {o : List ℤ} {left len count : ℕ} → left ≡ left_of y e w c → len ≡ length_of rank e w c → count ≡ min limit left
-    → {first : List ℤ} → first ≡ o → {more : Bool} {t' c' : List ℕ} {o' : List ℤ} → PassedOn y rank operands limit e w s c o more t' c' o'
-    → StrodeOn y rank operands limit e w s c o (record { count = count; length = len; more = more }) first t' c' o'
+pub strode_of : {y : Way} {limit : ℕ} {P : Plan} {w : List ℕ} {at : State} {left len count : ℕ} → left ≡ left_of y P w at.counters → len ≡ length_of P w at.counters → count ≡ min limit left
+    → {first : List ℤ} → first ≡ at.offsets → {more : Bool} {at' : State} → Passed y limit P w at more at' → Strode y limit P w at (record { count = count; length = len; more = more }) first at'
 strode_of {limit = limit} a b n f p = record { count = n ∙ ap (λ (i : ℕ). min limit i) a; length = b; offsets = f; short = p.short; all = p.all }

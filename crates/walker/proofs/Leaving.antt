@@ -1,6 +1,6 @@
 -- LEAVING A STRETCH: its axis goes home at once, not to the last block and back, and the axes behind it carry on.
 -- Assumes nothing.
-use mathlib.Core.Path.{◌≡◌, refl, sym, ap, ap₂, ◌∙◌, subst, transport}
+use mathlib.Core.Path.{◌≡◌, refl, sym, ap, ap₂, ◌∙◌, subst}
 use mathlib.Core.Bool.{Bool, true, false, cond, false≢true}
 use mathlib.Core.List.{List}
 use Prim.Native.Nat.{ℕ, zero, suc, ◌+◌, ◌-◌, ◌*◌, ◌≤◌, ◌<◌, min}
@@ -13,12 +13,14 @@ use lib.Seq.{get_or-set_same, set-set, set-get_or}
 use Rattle.advance.specs.Axis.{start_of, back, inside_goal, tile_goal, goal_of}
 use Rattle.advance.specs.Filled.{filled_above}
 use Rattle.advance.specs.Moves.{Shifts, shifted, moved_at}
-use Rattle.advance.specs.Carry.{Carried, carry_of, next_of, Roomy, Tiled, MovedTo, CarriedTo, WentAhead}
+use Rattle.advance.specs.Carry.{Carried, carry_of, next_of, state_of, Roomy, Tiled, MovedTo, CarriedTo, WentAhead}
 use Rattle.advance.proofs.Axis.{start_start, start_zero, start_tiles}
-use Rattle.advance.proofs.Dot.{roomy_shifts, roomy_moved, start_stays, unmoved_at}
+use Rattle.advance.proofs.Dot.{roomy_shifts, roomy_moved, start_stays, unmoved_plan}
 use Rattle.advance.proofs.Turns.{tiled_set, inner_only}
+use Rattle.strided.specs.declared.Plan.{Plan}
+use Rattle.advance.specs.declared.State.{State}
 use Rattle.walker.specs.declared.Way.{Way}
-use Rattle.walker.specs.Way.{Leads, left_of, onward, MayStride, Strides, LeftFrom, AtEnd, Hopped}
+use Rattle.walker.specs.Way.{Leads, left_of, onward, Strides, LeftFrom, AtEnd, Hopped}
 use Rattle.walker.proofs.Ahead.{last_inside, last_tile, left_inside}
 use Rattle.walker.proofs.Going.{still-axes, whole-axes, left_asks, some_left, inside_by, stands, long, There, moved-there, passed_all}
 
@@ -35,34 +37,33 @@ turn_back b e w (suc m) i d v p a =
     let x : suc m - 1 ≡ m = omega arith in
     rw a (ap₂ (λ (n j : ℕ). carry_of b e w n j (set d i v)) (sym x) (sym (add-one i)))
 
-module _ {y : Way} {rank operands : ℕ} {e w : List ℕ} {s : List ℤ} {t c : List ℕ} {o : List ℤ}
-    (m : MayStride y rank operands e w s t c o) (h : 0 < y.by) where
-  abbrev l : Leads y rank operands e w
+module _ {y : Way} {P : Plan} {w : List ℕ} {at : State} (m : Strides y P w at) (h : 0 < y.by) where
+  abbrev l : Leads y P w
   l = m.leads
 
-  abbrev r : Roomy rank operands e s c o
+  abbrev r : Roomy P at
   r = m.roomy
 
-  abbrev q : Tiled rank w c t
+  abbrev q : Tiled P w at
   q = m.tiled
 
   abbrev a : ℕ
   a = y.axis
 
   abbrev E : ℕ
-  E = get_or e y.axis 0
+  E = get_or P.extents y.axis 0
 
   abbrev Z : ℕ
   Z = get_or w y.axis 0
 
   abbrev A : ℕ
-  A = get_or c y.axis 0
+  A = get_or at.counters y.axis 0
 
   abbrev n : ℕ
-  n = left_of y e w c - 1
+  n = left_of y P w at.counters - 1
 
   abbrev d : List ℕ
-  d = onward y c n
+  d = onward y at.counters n
 
   abbrev home : ℕ
   home = home_of y Z A
@@ -82,20 +83,18 @@ module _ {y : Way} {rank operands : ℕ} {e w : List ℕ} {s : List ℤ} {t c : 
       go false = sym (start_zero Z)
 
   -- what `shift` asks
-  home_shifts : Shifts operands y.axis A home s o
-  home_shifts = roomy_shifts rank operands e s c o r a home (l.there h) home_below
+  home_shifts : Shifts P y.axis A home at.offsets
+  home_shifts = roomy_shifts P at r a home (l.there h) home_below
 
-  abbrev o* : List ℤ
-  o* = shifted operands y.axis A home s o
+  -- the state with the axis at home
+  abbrev at* : State
+  at* = state_of (set at.tile_starts y.axis home) (set at.counters y.axis home) (shifted P y.axis A home at.offsets)
 
-  abbrev c* : List ℕ
-  c* = set c y.axis home
+  home_roomy : Roomy P at*
+  home_roomy = roomy_moved P at r a home (l.there h) home_below (set at.tile_starts y.axis home)
 
-  home_roomy : Roomy rank operands e s c* o*
-  home_roomy = roomy_moved rank operands e s c o r a home (l.there h) home_below
-
-  home_tiled : Tiled rank w c* (set t y.axis home)
-  home_tiled = tiled_set rank w c t r.counted r.axes q a home home (l.there h) home_start
+  home_tiled : Tiled P w at*
+  home_tiled = tiled_set P w at r.counted r.axes q a home home (shifted P y.axis A home at.offsets) (l.there h) home_start
 
   module _ (g : AtEnd y E Z A) where
     goal_last : (b : Bool) → y.inside ≡ b → goal_of b E Z (get_or d a 0) ≡ back (cond b (start_of Z A) 0)
@@ -103,86 +102,83 @@ module _ {y : Way} {rank operands : ℕ} {e w : List ℕ} {s : List ℤ} {t c : 
     goal_last true i =
         let k = left_inside y E Z A h i in
         let p = some_left m in
-        let f : n + 1 ≡ min (Z - (A - start_of Z A)) (E - A) = (let z : n + 1 ≡ left_of y e w c = omega (arith, p) in z) ∙ k in
-        ap (inside_goal E Z) (get_or-set_same c a (A + n * y.by) 0 (long m) ∙ ap (λ (x : ℕ). A + x) (inside_by m h i n))
+        let f : n + 1 ≡ min (Z - (A - start_of Z A)) (E - A) = (let z : n + 1 ≡ left_of y P w at.counters = omega (arith, p) in z) ∙ k in
+        ap (inside_goal E Z) (get_or-set_same at.counters a (A + n * y.by) 0 (long m) ∙ ap (λ (x : ℕ). A + x) (inside_by m h i n))
         ∙ last_inside E Z A n (left_asks m h).0 (left_asks m h).1 f
     goal_last false i =
         let x : n * y.by ≡ n * Z = ap (λ (v : ℕ). n * v) (l.tile_by i h) in
         let z = start_tiles Z A n (left_asks m h).0 (stands m h i) in
-        ap (tile_goal E Z) (get_or-set_same c a (A + n * y.by) 0 (long m) ∙ ap (λ (v : ℕ). A + v) x)
+        ap (tile_goal E Z) (get_or-set_same at.counters a (A + n * y.by) 0 (long m) ∙ ap (λ (v : ℕ). A + v) x)
         ∙ last_tile E Z (A + n * Z) (sym z) (subst (λ (v : ℕ). E - (A + v) ≤ Z) x (g i))
 
-    back-home : (b : Bool) → y.inside ≡ b → carry_of b e w (rank - a) a d ≡ carry_of b e w (rank - (a + 1)) (a + 1) (set c a (cond b (start_of Z A) 0))
+    back-home : (b : Bool) → y.inside ≡ b → carry_of b P.extents w (P.rank - a) a d ≡ carry_of b P.extents w (P.rank - (a + 1)) (a + 1) (set at.counters a (cond b (start_of Z A) 0))
     back-home b i =
         let k = l.there h in
-        let x : rank - a - 1 ≡ rank - (a + 1) = omega arith in
-        turn_back b e w (rank - a) a d (cond b (start_of Z A) 0) (omega (arith, k)) (goal_last b i)
-        ∙ ap₂ (λ (m : ℕ) (f : List ℕ). carry_of b e w m (a + 1) f) x (set-set c a (A + n * y.by) (cond b (start_of Z A) 0))
+        let x : P.rank - a - 1 ≡ P.rank - (a + 1) = omega arith in
+        turn_back b P.extents w (P.rank - a) a d (cond b (start_of Z A) 0) (omega (arith, k)) (goal_last b i)
+        ∙ ap₂ (λ (m : ℕ) (f : List ℕ). carry_of b P.extents w m (a + 1) f) x (set-set at.counters a (A + n * y.by) (cond b (start_of Z A) 0))
 
     -- the block behind the last
-    next_inside : y.inside ≡ true → {X : Carried} → carry_of true e w (rank - (a + 1)) (a + 1) (set c a (start_of Z A)) ≡ X
-        → next_of rank e w d ≡ cond X.more X (carry_of false e w (rank - 0) 0 X.counters)
+    next_inside : y.inside ≡ true → {X : Carried} → carry_of true P.extents w (P.rank - (a + 1)) (a + 1) (set at.counters a (start_of Z A)) ≡ X
+        → next_of P.rank P.extents w d ≡ cond X.more X (carry_of false P.extents w (P.rank - 0) 0 X.counters)
     unfolding next_of
-    next_inside i {X} f = ap (λ (b : Carried). cond b.more b (carry_of false e w (rank - 0) 0 b.counters)) (still-axes m h n i ∙ back-home true i ∙ f)
+    next_inside i {X} f = ap (λ (b : Carried). cond b.more b (carry_of false P.extents w (P.rank - 0) 0 b.counters)) (still-axes m h n i ∙ back-home true i ∙ f)
 
-    next_tile_lem : y.inside ≡ false → next_of rank e w d ≡ carry_of false e w (rank - (a + 1)) (a + 1) (set c a 0)
+    next_tile_lem : y.inside ≡ false → next_of P.rank P.extents w d ≡ carry_of false P.extents w (P.rank - (a + 1)) (a + 1) (set at.counters a 0)
     next_tile_lem i = whole-axes m h n i ∙ back-home false i
 
     -- the moves that lead there from home lead there from the last block
     there : There m n
-    there = moved-there m n (let p = some_left m in let z : n < left_of y e w c = omega (arith, p) in z)
+    there = moved-there m n (let p = some_left m in let z : n < left_of y P w at.counters = omega (arith, p) in z)
 
     abbrev cl : List ℕ
-    cl = there.counters
+    cl = there.stands.counters
 
-    next-there : {X : Carried} → next_of rank e w d ≡ X → next_of rank e w cl ≡ X
-    next-there f = ap (next_of rank e w) there.moved.counters ∙ f
+    next-there : {X : Carried} → next_of P.rank P.extents w d ≡ X → next_of P.rank P.extents w cl ≡ X
+    next-there f = ap (next_of P.rank P.extents w) there.moved.counters ∙ f
 
-    left-from : {more : Bool} {t' c' : List ℕ} {o' : List ℤ} {X : Carried} → next_of rank e w d ≡ X → MovedTo X rank operands e w s c* o* more t' c' o'
-        → LeftFrom y n rank operands e w s c o more t' c' o'
+    left-from : {more : Bool} {at' : State} {X : Carried} → next_of P.rank P.extents w d ≡ X → MovedTo X P w at* more at' → LeftFrom y n P w at more at'
     left-from f m = record {
-      starts = there.starts;
-      counters = cl;
-      offsets = there.offsets;
+      there = there.stands;
       last = there.moved;
       then = record {
         answer = m.answer ∙ ap (λ (b : Carried). b.more) (sym (next-there f));
         counters = m.counters ∙ ap (λ (b : Carried). b.counters) (sym (next-there f));
         roomy = m.roomy;
         tiled = m.tiled;
-        starts = λ k p. m.starts k p ∙ start_stays rank operands e s c o r a home (l.there h) home_below k p ∙ sym (there.moved.starts k p);
-        others = λ k p. m.others k p ∙ filled_above o (moved_at a A home s o) (pos 0) operands k p ∙ sym (there.moved.others k p);
+        starts = λ k p. m.starts k p ∙ start_stays P at r a home (l.there h) home_below k p ∙ sym (there.moved.starts k p);
+        others = λ k p. m.others k p ∙ filled_above at.offsets (moved_at a A home P.strides at.offsets) (pos 0) P.operands k p ∙ sym (there.moved.others k p);
       };
     }
 
     -- an axis behind went ahead inside the tile; or none did, and the tiles carry on
-    module _ (i : y.inside ≡ true) {m₁ : Bool} {t₁ c₁ : List ℕ} {o₁ : List ℤ} (f : CarriedTo true (y.axis + 1) y.inner rank operands e w s c* o* m₁ t₁ c₁ o₁) where
+    module _ (i : y.inside ≡ true) {m₁ : Bool} {at₁ : State} (f : CarriedTo true (y.axis + 1) y.inner P w at* m₁ at₁) where
       abbrev X : Carried
-      X = carry_of true e w (y.inner - (a + 1)) (a + 1) c*
+      X = carry_of true P.extents w (y.inner - (a + 1)) (a + 1) at*.counters
 
       home_inside : home ≡ start_of Z A
       home_inside = ap (λ (b : Bool). cond b (start_of Z A) 0) i
 
-      all : carry_of true e w (rank - (a + 1)) (a + 1) (set c a (start_of Z A)) ≡ X
+      all : carry_of true P.extents w (P.rank - (a + 1)) (a + 1) (set at.counters a (start_of Z A)) ≡ X
       all =
           let u = l.single in
           let p = u.most in
           let k = l.there h in
-          let n : ℕ = (rank - (a + 1)) - (y.inner - (a + 1)) in
-          let z : (y.inner - (a + 1)) + n ≡ rank - (a + 1) = omega (arith, p) in
-          ap (λ (v : ℕ). carry_of true e w (rank - (a + 1)) (a + 1) (set c a v)) (sym home_inside)
-          ∙ sym (inner_only e w (y.inner - (a + 1)) n (a + 1) c* (λ j b g. u.one j (let x : y.inner ≤ j = omega (arith, b) in x) (let x : j < rank = omega (arith, g, p, k) in x))
-          ∙ ap (λ (v : ℕ). carry_of true e w v (a + 1) c*) z)
+          let n : ℕ = (P.rank - (a + 1)) - (y.inner - (a + 1)) in
+          let z : (y.inner - (a + 1)) + n ≡ P.rank - (a + 1) = omega (arith, p) in
+          ap (λ (v : ℕ). carry_of true P.extents w (P.rank - (a + 1)) (a + 1) (set at.counters a v)) (sym home_inside)
+          ∙ sym (inner_only P.extents w (y.inner - (a + 1)) n (a + 1) at*.counters (λ j b g. u.one j (let x : y.inner ≤ j = omega (arith, b) in x) (let x : j < P.rank = omega (arith, g, p, k) in x))
+          ∙ ap (λ (v : ℕ). carry_of true P.extents w v (a + 1) at*.counters) z)
 
-      next_is : {b : Bool} → m₁ ≡ b → next_of rank e w d ≡ cond b X (carry_of false e w (rank - 0) 0 X.counters)
-      next_is g = next_inside i all ∙ ap (λ (b : Bool). cond b X (carry_of false e w (rank - 0) 0 X.counters)) (sym f.answer ∙ g)
+      next_is : {b : Bool} → m₁ ≡ b → next_of P.rank P.extents w d ≡ cond b X (carry_of false P.extents w (P.rank - 0) 0 X.counters)
+      next_is g = next_inside i all ∙ ap (λ (b : Bool). cond b X (carry_of false P.extents w (P.rank - 0) 0 X.counters)) (sym f.answer ∙ g)
 
-      leaves_inside : m₁ ≡ true → LeftFrom y n rank operands e w s c o true t₁ c₁ o₁
-      leaves_inside g = left-from (next_is g) (subst (λ (b : Bool). MovedTo X rank operands e w s c* o* b t₁ c₁ o₁) g f)
+      leaves_inside : m₁ ≡ true → LeftFrom y n P w at true at₁
+      leaves_inside g = left-from (next_is g) (subst (λ (b : Bool). MovedTo X P w at* b at₁) g f)
 
-      leaves_tile : m₁ ≡ false → {m₂ : Bool} {t₂ c₂ : List ℕ} {o₂ : List ℤ} → CarriedTo false 0 rank rank operands e w s c₁ o₁ m₂ t₂ c₂ o₂ → LeftFrom y n rank operands e w s c o m₂ t₂ c₂ o₂
+      leaves_tile : m₁ ≡ false → {m₂ : Bool} {at₂ : State} → CarriedTo false 0 P.rank P w at₁ m₂ at₂ → LeftFrom y n P w at m₂ at₂
       leaves_tile g v =
-          left-from (next_is g ∙ ap (carry_of false e w (rank - 0) 0) (sym f.counters))
+          left-from (next_is g ∙ ap (carry_of false P.extents w (P.rank - 0) 0) (sym f.counters))
           (record {
             answer = v.answer;
             counters = v.counters;
@@ -193,63 +189,65 @@ module _ {y : Way} {rank operands : ℕ} {e w : List ℕ} {s : List ℤ} {t c : 
           })
 
     -- the tiles of the axes behind carry on
-    leaves-whole : y.inside ≡ false → {more : Bool} {t' c' : List ℕ} {o' : List ℤ} → CarriedTo false (y.axis + 1) rank rank operands e w s c* o* more t' c' o'
-        → LeftFrom y n rank operands e w s c o more t' c' o'
+    leaves-whole : y.inside ≡ false → {more : Bool} {at' : State} → CarriedTo false (y.axis + 1) P.rank P w at* more at' → LeftFrom y n P w at more at'
     leaves-whole i m =
-        left-from (next_tile_lem i ∙ ap (λ (v : ℕ). carry_of false e w (rank - (a + 1)) (a + 1) (set c a v)) (sym (ap (λ (b : Bool). cond b (start_of Z A) 0) i))) m
+        left-from (next_tile_lem i ∙ ap (λ (v : ℕ). carry_of false P.extents w (P.rank - (a + 1)) (a + 1) (set at.counters a v)) (sym (ap (λ (b : Bool). cond b (start_of Z A) 0) i))) m
 
   -- as the code has it: x is home, and so on
   module _ {x : ℕ} (x-is : x ≡ home) where
-    pub shifts_there : Shifts operands y.axis A x s o
-    shifts_there = subst (λ (v : ℕ). Shifts operands y.axis A v s o) (sym x-is) home_shifts
+    pub shifts_there : Shifts P y.axis A x at.offsets
+    shifts_there = subst (λ (v : ℕ). Shifts P y.axis A v at.offsets) (sym x-is) home_shifts
 
-    pub tiled_there : Tiled rank w (set c y.axis x) (set t y.axis x)
-    tiled_there = subst (λ (v : ℕ). Tiled rank w (set c y.axis v) (set t y.axis v)) (sym x-is) home_tiled
+    module _ {u : List ℕ} (u-is : u ≡ set at.tile_starts y.axis x) {f : List ℤ} (f-is : f ≡ shifted P y.axis A x at.offsets) where
+      -- the state as it stands then
+      abbrev here : State
+      here = state_of u (set at.counters y.axis x) f
 
-    pub tiled_stays : x ≡ get_or t y.axis 0 → Tiled rank w (set c y.axis x) t
-    tiled_stays e = subst (λ (f : List ℕ). Tiled rank w (set c y.axis x) f) (ap (set t y.axis) e ∙ set-get_or t y.axis 0) tiled_there
+      home-here : at* ≡ here
+      home-here = λ i. state_of (sym (u-is ∙ ap (set at.tile_starts y.axis) x-is) i) (set at.counters y.axis (sym x-is i)) (sym (f-is ∙ ap (λ (v : ℕ). shifted P y.axis A v at.offsets) x-is) i)
 
-    module _ {o₀ : List ℤ} (o₀-is : o₀ ≡ shifted operands y.axis A x s o) where
-      to_home : (P : List ℕ → List ℤ → Type 0) → P (set c y.axis x) o₀ → P c* o*
-      to_home P m = transport (λ i. P (set c y.axis (x-is i)) ((o₀-is ∙ ap (λ (v : ℕ). shifted operands y.axis A v s o) x-is) i)) m
+      pub roomy_there : Roomy P here
+      roomy_there = subst (Roomy P) home-here home_roomy
 
-      pub roomy_there : Roomy rank operands e s (set c y.axis x) o₀
-      roomy_there = transport (λ i. Roomy rank operands e s (set c y.axis (sym x-is i)) (sym (o₀-is ∙ ap (λ (v : ℕ). shifted operands y.axis A v s o) x-is) i)) home_roomy
+      pub tiled_there : Tiled P w here
+      tiled_there = subst (Tiled P w) home-here home_tiled
 
       module _ (g : AtEnd y E Z A) where
-        module _ (i : y.inside ≡ true) {m₁ : Bool} {t₁ c₁ : List ℕ} {o₁ : List ℤ} (f : CarriedTo true (y.axis + 1) y.inner rank operands e w s (set c y.axis x) o₀ m₁ t₁ c₁ o₁) where
-          f* : CarriedTo true (y.axis + 1) y.inner rank operands e w s c* o* m₁ t₁ c₁ o₁
-          f* = to_home (λ v u. CarriedTo true (y.axis + 1) y.inner rank operands e w s v u m₁ t₁ c₁ o₁) f
+        module _ (i : y.inside ≡ true) {m₁ : Bool} {at₁ : State} (k : CarriedTo true (y.axis + 1) y.inner P w here m₁ at₁) where
+          k* : CarriedTo true (y.axis + 1) y.inner P w at* m₁ at₁
+          k* = subst (λ (v : State). CarriedTo true (y.axis + 1) y.inner P w v m₁ at₁) (sym home-here) k
 
-          pub left_inside_at : m₁ ≡ true → LeftFrom y n rank operands e w s c o true t₁ c₁ o₁
-          left_inside_at = leaves_inside g i f*
+          pub left_inside_at : m₁ ≡ true → LeftFrom y n P w at true at₁
+          left_inside_at = leaves_inside g i k*
 
-          pub left_tile_at : m₁ ≡ false → {m₂ : Bool} {t₂ c₂ : List ℕ} {o₂ : List ℤ} → CarriedTo false 0 rank rank operands e w s c₁ o₁ m₂ t₂ c₂ o₂ → LeftFrom y n rank operands e w s c o m₂ t₂ c₂ o₂
-          left_tile_at = leaves_tile g i f*
+          pub left_tile_at : m₁ ≡ false → {m₂ : Bool} {at₂ : State} → CarriedTo false 0 P.rank P w at₁ m₂ at₂ → LeftFrom y n P w at m₂ at₂
+          left_tile_at = leaves_tile g i k*
 
-        pub left-whole-at : y.inside ≡ false → {more : Bool} {t' c' : List ℕ} {o' : List ℤ} → CarriedTo false (y.axis + 1) rank rank operands e w s (set c y.axis x) o₀ more t' c' o'
-            → LeftFrom y n rank operands e w s c o more t' c' o'
-        left-whole-at i {more} {t'} {c'} {o'} m = leaves-whole g i (to_home (λ v f. CarriedTo false (y.axis + 1) rank rank operands e w s v f more t' c' o') m)
+        pub left-whole-at : y.inside ≡ false → {more : Bool} {at' : State} → CarriedTo false (y.axis + 1) P.rank P w here more at' → LeftFrom y n P w at more at'
+        left-whole-at i {more} {at'} v = leaves-whole g i (subst (λ (x : State). CarriedTo false (y.axis + 1) P.rank P w x more at') (sym home-here) v)
 
-  pub home_tile : y.inside ≡ true → get_or t y.axis 0 ≡ home
+  pub home_tile : y.inside ≡ true → get_or at.tile_starts y.axis 0 ≡ home
   home_tile i = (left_asks m h).2 ∙ sym (ap (λ (b : Bool). cond b (start_of Z A) 0) i)
 
   pub home-zero : y.inside ≡ false → 0 ≡ home
   home-zero i = sym (ap (λ (b : Bool). cond b (start_of Z A) 0) i)
 
+  -- what is set to what it was
+  pub start_same : at.tile_starts ≡ set at.tile_starts y.axis (get_or at.tile_starts y.axis 0)
+  start_same = sym (set-get_or at.tile_starts y.axis 0)
+
   -- A HOP: the stretch began with its tile, so that its axis is at home, and the next axis goes ahead inside the tile
-  pub left-ahead : y.inside ≡ true → get_or c y.axis 0 ≡ get_or t y.axis 0 → y.axis + 1 < y.inner
-      → {r : Bool} {t' c' : List ℕ} {o' : List ℤ} → WentAhead (y.axis + 1) rank operands e w s t c o r t' c' o' → r ≡ true → LeftFrom y n rank operands e w s c o true t' c' o'
-  left-ahead i z g {r} {t'} {c'} {o'} f b =
+  pub left-ahead : y.inside ≡ true → get_or at.counters y.axis 0 ≡ get_or at.tile_starts y.axis 0 → y.axis + 1 < y.inner
+      → {b : Bool} {at' : State} → WentAhead (y.axis + 1) P w at b at' → b ≡ true → LeftFrom y n P w at true at'
+  left-ahead i z g {b} {at'} f h =
       let few = m.roomy.few in
       let eight = m.roomy.offered in
-      let same : set c y.axis (get_or t y.axis 0) ≡ c = ap (set c y.axis) (sym z) ∙ set-get_or c y.axis 0 in
-      let k : CarriedTo true (y.axis + 1) y.inner rank operands e w s (set c y.axis (get_or t y.axis 0)) o true t' c' o' =
-      subst (λ (v : List ℕ). CarriedTo true (y.axis + 1) y.inner rank operands e w s v o true t' c' o') (sym same) (f.ahead b y.inner g l.single.most) in
-      left_inside_at (home_tile i) (unmoved_at operands y.axis A (get_or t y.axis 0) s o (omega (arith, few, eight)) z) (λ u. absurd (false≢true (sym u ∙ i))) i k refl
+      let same : set at.counters y.axis (get_or at.tile_starts y.axis 0) ≡ at.counters = ap (set at.counters y.axis) (sym z) ∙ set-get_or at.counters y.axis 0 in
+      let k : CarriedTo true (y.axis + 1) y.inner P w (state_of at.tile_starts (set at.counters y.axis (get_or at.tile_starts y.axis 0)) at.offsets) true at' =
+      subst (λ (v : List ℕ). CarriedTo true (y.axis + 1) y.inner P w (state_of at.tile_starts v at.offsets) true at') (sym same) (f.ahead h y.inner g l.single.most) in
+      left_inside_at (home_tile i) start_same (unmoved_plan P y.axis A (get_or at.tile_starts y.axis 0) at.offsets (omega (arith, few, eight)) z) (λ v. absurd (false≢true (sym v ∙ i))) i k refl
 
 -- what `hop` leaves, by the way it went
-pub hopped : {y : Way} {limit : ℕ} {e w : List ℕ} {s : List ℤ} {t c : List ℕ} {o : List ℤ} (m : Strides y e w s t c o) {left : ℕ} → left ≡ left_of y e w c → 0 < y.by → y.inside ≡ true → left ≤ limit
-    → get_or c y.axis 0 ≡ get_or t y.axis 0 → y.axis + 1 < y.inner → {r : Bool} {t' c' : List ℕ} {o' : List ℤ} → WentAhead (y.axis + 1) y.rank y.operands e w s t c o r t' c' o'
-    → Hopped y limit e w s t c o r t' c' o'
+pub hopped : {y : Way} {limit : ℕ} {P : Plan} {w : List ℕ} {at : State} (m : Strides y P w at) {left : ℕ} → left ≡ left_of y P w at.counters → 0 < y.by → y.inside ≡ true → left ≤ limit
+    → get_or at.counters y.axis 0 ≡ get_or at.tile_starts y.axis 0 → y.axis + 1 < y.inner → {b : Bool} {at' : State} → WentAhead (y.axis + 1) P w at b at' → Hopped y limit P w at b at'
 hopped {limit = limit} m a h i g z k f = record { past = λ b. passed_all m a limit g (left-ahead m h i z k f b); kept = f.kept }

@@ -16,32 +16,33 @@ use Rattle.strided.specs.Step.{walk_after}
 use Rattle.strided.specs.Bulk.{next_blocks}
 use Rattle.strided.specs.declared.Plan.{Plan}
 use Rattle.strided.specs.declared.Walk.{Walk}
-use Rattle.strided.specs.declared.Stepped.{Stepped}
+use Rattle.strided.specs.declared.Block.{Block}
 use Rattle.laws.specs.Base.Lists.{All}
 use Rattle.laws.specs.Walk.Bulk.{walk_more, blocks_more, blocks_short}
 use Rattle.laws.specs.Walk.Placed.{Placed, placed_of, placed_walk, placed_part}
 use Rattle.laws.specs.Walk.Steps.{Ready}
-use Rattle.advance.specs.Axis.{starts_to}
+use Rattle.advance.specs.Axis.{widths, starts_to}
+use Rattle.advance.specs.Carry.{state_of}
 use Rattle.advance.specs.Sized.{Sized}
 use Rattle.walk.specs.Lent.{Taken}
 use Rattle.walk.proofs.Stepping.{begun_taken, taken_after, ended_none, tiled_here}
 use Rattle.walker.specs.declared.Way.{Way}
-use Rattle.walker.specs.Stretch.{laid, sizes, stretch_at, stretches, blocks_in}
+use Rattle.walker.specs.Stretch.{laid, stretch_at, stretches, blocks_in}
 use Rattle.walker.specs.Way.{Leads}
 use Rattle.walker.proofs.Stretching.{At, Lies, some_here, lies_at}
 use Rattle.strided.specs.Begin.{started}
 
 -- a plan, and the way of its walks as `way_of` tells it
-module _ (p : Plan) (y : Way) (l : Leads y p.rank p.operands p.extents (sizes p)) where
-  abbrev placed : List Stepped → List Placed
+module _ (p : Plan) (y : Way) (l : Leads y p (widths p)) where
+  abbrev placed : List Block → List Placed
   placed = map (placed_of p.operands)
 
   module _ (w : Walk) (k : Taken p w) (h : w.ended ≡ false) (limit : ℕ) where
     abbrev t : List ℕ
-    t = starts_to (sizes p) w.counters p.rank
+    t = starts_to (widths p) w.counters p.rank
 
-    a : At p y (sizes p) t w
-    a = record { widths = refl; leads = l; tiles = tiled_here p w k (sizes p) refl t refl; taken = k; runs = h }
+    a : At p y (widths p) t w
+    a = record { widths-are = refl; leads = l; tiles = tiled_here p w k (widths p) refl (state_of t w.counters w.offsets) refl; taken = k; runs = h }
 
     abbrev n : ℕ
     n = (stretch_at y limit p w).count

@@ -15,97 +15,87 @@ use Rattle.strided.specs.Step.{walk_after}
 use Rattle.strided.specs.Bulk.{next_blocks}
 use Rattle.strided.specs.declared.Plan.{Plan}
 use Rattle.strided.specs.declared.Walk.{Walk}
-use Rattle.strided.specs.declared.Stepped.{Stepped}
+use Rattle.strided.specs.declared.Block.{Block}
 use Rattle.laws.specs.Walk.Bulk.{walk_more, blocks_more}
 use Rattle.laws.specs.Walk.Placed.{Placed, placed_of, placed_walk, placed_part, placed-next, placed-over}
 use Rattle.laws.specs.Walk.Steps.{Ready}
-use Rattle.advance.specs.Axis.{starts_to}
-use Rattle.advance.specs.Carry.{Tiled}
+use Rattle.advance.specs.Axis.{widths, starts_to}
+use Rattle.advance.specs.declared.State.{State}
+use Rattle.advance.specs.Carry.{state_of, Tiled}
 use Rattle.advance.specs.Moves.{Shifts}
 use Rattle.strided.specs.Memory.{walk_of}
 use Rattle.walk.specs.Lent.{Taken}
 use Rattle.walk.proofs.Stepping.{operands_few, tiled_here, roomy_here, ended_none}
 use Rattle.walker.specs.declared.Way.{Way}
 use Rattle.walker.specs.declared.Next.{Next}
-use Rattle.walker.specs.Stretch.{Stretch, block_in, laid, told, RowsFit, sizes, stretch_at}
-use Rattle.walker.specs.Way.{Leads, left_of, moves_of, MayStride, Strides, MayTell, StrodeOn, Strode}
+use Rattle.walker.specs.Stretch.{Stretch, block_in, laid, told, RowsFit, stretch_at}
+use Rattle.walker.specs.Way.{Leads, left_of, moves_of, Strides, MayTell, Strode}
 use Rattle.walker.proofs.Going.{may_tell}
 use Rattle.walker.proofs.Leading.{moves_fit}
 use Rattle.walker.proofs.Stretching.{At, Stands, asks, some_here, fits_on, steps_fit, moves_long, strode_stands, strode_stretch}
 use Rattle.strided.specs.Begin.{started}
 
--- n blocks of the walk from u on are done: where the arrays stand
-pub record Walked (p : Plan) (u : Walk) (y : Way) (w : List ℕ) (n : ℕ) (more : Bool) (t c : List ℕ) (o : List ℤ) : Type 0 where
-  pub widths : w ≡ sizes p
-  pub leads : Leads y p.rank p.operands p.extents w
-  pub taken : Taken p (walk_of (not more) c o)
-  pub state : walk_of (not more) c o ≡ walk_after p n u
+-- n blocks of the walk from u on are done: where it stands
+pub record Walked (p : Plan) (u : Walk) (y : Way) (w : List ℕ) (n : ℕ) (more : Bool) (at : State) : Type 0 where
+  pub widths-are : w ≡ widths p
+  pub leads : Leads y p w
+  pub taken : Taken p (walk_of (not more) at.counters at.offsets)
+  pub state : walk_of (not more) at.counters at.offsets ≡ walk_after p n u
   pub full : length (next_blocks n p u) ≡ n
-  pub tiles : Tiled p.rank w c t
+  pub tiles : Tiled p w at
 
 -- at its beginning
-module _ {p : Plan} {y : Way} {w : List ℕ} (is : w ≡ sizes p) (l : Leads y p.rank p.operands p.extents w) {c : List ℕ} {o : List ℤ} (k : Taken p (walk_of false c o)) where
-  pub walked_none : {t : List ℕ} → t ≡ starts_to w c p.rank → Walked p (walk_of false c o) y w 0 true t c o
+module _ {p : Plan} {y : Way} {w : List ℕ} (is : w ≡ widths p) (l : Leads y p w) {c : List ℕ} {o : List ℤ} (k : Taken p (walk_of false c o)) where
+  pub walked_none : {t : List ℕ} → t ≡ starts_to w c p.rank → Walked p (walk_of false c o) y w 0 true (state_of t c o)
   walked_none {t} e = record {
-    widths = is;
+    widths-are = is;
     leads = l;
     taken = k;
     state = refl;
     full = refl;
-    tiles = tiled_here p (walk_of false c o) k w is t e;
+    tiles = tiled_here p (walk_of false c o) k w is (state_of t c o) e;
   }
 
   -- what `moves_of` asks
-  pub may_move : Shifts y.operands y.axis 0 y.by p.strides (replicate 8 (pos 0))
-  may_move = moves_fit (roomy_here p (walk_of false c o) k refl) l
+  pub may_move : Shifts p y.axis 0 y.by (replicate 8 (pos 0))
+  may_move = moves_fit (roomy_here p (walk_of false c o) k refl []) l
 
 -- while it runs
-module _ {p : Plan} {u : Walk} {y : Way} {w : List ℕ} {n : ℕ} {t c : List ℕ} {o : List ℤ} (k : Walked p u y w n true t c o) where
+module _ {p : Plan} {u : Walk} {y : Way} {w : List ℕ} {n : ℕ} {at : State} (k : Walked p u y w n true at) where
   abbrev here : Walk
-  here = walk_of false c o
+  here = walk_of false at.counters at.offsets
 
-  a : At p y w t here
-  a = record { widths = k.widths; leads = k.leads; tiles = k.tiles; taken = k.taken; runs = refl }
+  a : At p y w at.tile_starts here
+  a = record { widths-are = k.widths-are; leads = k.leads; tiles = k.tiles; taken = k.taken; runs = refl }
 
   -- what `take_stretch` asks
-  pub walked_asks : Strides y p.extents w p.strides t c o
-  walked_asks =
-      subst (λ (m : ℕ). MayStride y m y.operands p.extents w p.strides t c o) (sym k.leads.rank_is)
-      (subst (λ (m : ℕ). MayStride y p.rank m p.extents w p.strides t c o) (sym k.leads.operands_is) (asks a))
+  pub walked_asks : Strides y p w at
+  walked_asks = asks a
 
   -- what `stretch_here` asks
-  pub walked_tells : MayTell y p.extents w t c
-  walked_tells = may_tell walked_asks refl
+  pub walked_tells : MayTell y p w at
+  walked_tells = may_tell walked_asks
 
   -- the stretch has a block
-  pub walked_left : 1 ≤ left_of y p.extents w c
+  pub walked_left : 1 ≤ left_of y p w at.counters
   walked_left = some_here a
 
   -- blocks of it, told from the moves as `moves_of` tells them: all offsets fit, and so does the way to each block
-  module _ {d' : List ℤ} (d-is : d' ≡ moves_of y y.operands p.strides) where
-    moves_are : d' ≡ moves_of y p.operands p.strides
-    moves_are = d-is ∙ ap (λ (m : ℕ). moves_of y m p.strides) k.leads.operands_is
+  module _ {d' : List ℤ} (d-is : d' ≡ moves_of y p) {count : ℕ} (h : count ≤ left_of y p w at.counters) where
+    pub rows-here : RowsFit count p.operands d' at.offsets
+    rows-here = record {
+      few = operands_few p here k.taken;
+      moves = ap length d-is ∙ moves_long y p;
+      offered = k.taken.offsets_all;
+      fits = λ j b i f. subst (SFits w64) (ap (λ (q : List ℤ). get_or at.offsets i (pos 0) +ℤ pos j *ℤ get_or q i (pos 0)) (sym d-is)) (fits_on a j (omega (arith, h, b)) i f);
+    }
 
-    module _ {count : ℕ} (h : count ≤ left_of y p.extents w c) where
-      pub rows-here : RowsFit count p.operands d' o
-      rows-here = record {
-        few = operands_few p here k.taken;
-        moves = ap length moves_are ∙ moves_long y p.operands p.strides;
-        offered = k.taken.offsets_all;
-        fits = λ j b i f. subst (SFits w64) (ap (λ (q : List ℤ). get_or o i (pos 0) +ℤ pos j *ℤ get_or q i (pos 0)) (sym moves_are)) (fits_on a j (omega (arith, h, b)) i f);
-      }
+    pub steps_here : (j i : ℕ) → j < count → i < p.operands → SFits w64 (pos j *ℤ get_or d' i (pos 0))
+    steps_here j i b f = subst (SFits w64) (ap (λ (q : List ℤ). pos j *ℤ get_or q i (pos 0)) (sym d-is)) (steps_fit (asks a) j (omega (arith, h, b)) i f)
 
-      pub steps_here : (j i : ℕ) → j < count → i < p.operands → SFits w64 (pos j *ℤ get_or d' i (pos 0))
-      steps_here j i b f = subst (SFits w64) (ap (λ (q : List ℤ). pos j *ℤ get_or q i (pos 0)) (sym moves_are)) (steps_fit (asks a) j (omega (arith, h, b)) i f)
-
-  module _ {limit : ℕ} {r : Next} {first : List ℤ} {t' c' : List ℕ} {o' : List ℤ} (x : Strode y limit p.extents w p.strides c o r first t' c' o') where
-    d : StrodeOn y p.rank p.operands limit p.extents w p.strides c o r first t' c' o'
-    d =
-        subst (λ (m : ℕ). StrodeOn y m p.operands limit p.extents w p.strides c o r first t' c' o') k.leads.rank_is
-        (subst (λ (m : ℕ). StrodeOn y y.rank m limit p.extents w p.strides c o r first t' c' o') k.leads.operands_is x)
-
-    s : Stands a r.count r.more t' c' o'
-    s = strode_stands a d
+  module _ {limit : ℕ} {r : Next} {first : List ℤ} {at' : State} (x : Strode y limit p w at r first at') where
+    s : Stands a r.count r.more at'
+    s = strode_stands a x
 
     -- a stretch has a block, and no more than are asked for
     pub walked_some : 1 ≤ limit → 1 ≤ r.count
@@ -115,12 +105,12 @@ module _ {p : Plan} {u : Walk} {y : Way} {w : List ℕ} {n : ℕ} {t c : List �
     walked_most = let e = x.count in omega (arith, e)
 
     -- its blocks come next
-    pub walked_blocks : next_blocks (n + r.count) p u ≡ next_blocks n p u ++ next_blocks r.count p (walk_of false c o)
+    pub walked_blocks : next_blocks (n + r.count) p u ≡ next_blocks n p u ++ next_blocks r.count p here
     walked_blocks = blocks_more p n r.count u k.full ∙ ap (λ (v : Walk). next_blocks n p u ++ next_blocks r.count p v) (sym k.state)
 
-    pub walked_next : Walked p u y w (n + r.count) r.more t' c' o'
+    pub walked_next : Walked p u y w (n + r.count) r.more at'
     walked_next = record {
-      widths = k.widths;
+      widths-are = k.widths-are;
       leads = k.leads;
       taken = s.taken;
       state = s.state ∙ ap (walk_after p r.count) k.state ∙ sym (walk_more p n r.count u);
@@ -129,12 +119,12 @@ module _ {p : Plan} {u : Walk} {y : Way} {w : List ℕ} {n : ℕ} {t c : List �
     }
 
     -- d' are the moves, as `moves_of` tells them
-    module _ {d' : List ℤ} (d-is : d' ≡ moves_of y y.operands p.strides) where
+    module _ {d' : List ℤ} (d-is : d' ≡ moves_of y p) where
       told_is : told p.operands r first d' ≡ stretch_at y limit p here
-      told_is = ap (told p.operands r first) (moves_are d-is) ∙ strode_stretch a d
+      told_is = ap (told p.operands r first) d-is ∙ strode_stretch a x
 
       -- what was told, laid out, are its blocks
-      pub walked_laid : map (placed_of p.operands) (next_blocks r.count p (walk_of false c o)) ≡ laid (told p.operands r first d')
+      pub walked_laid : map (placed_of p.operands) (next_blocks r.count p here) ≡ laid (told p.operands r first d')
       walked_laid =
           let S = stretch_at y limit p here in
           s.lies.blocks limit ∙ ap (λ (m : ℕ). map (block_in S) (run 0 m)) (ap (λ (z : Stretch). z.count) told_is) ∙ ap laid (sym told_is)
@@ -152,7 +142,7 @@ module _ {p : Plan} {u : Walk} {y : Way} {w : List ℕ} {n : ℕ} {t c : List �
           (ap (λ (v : Walk). map (placed_of p.operands) (next_blocks r.count p v)) (ap (walk_after p n) (sym b) ∙ sym k.state) ∙ walked_laid)
 
 -- in a walk from the starts zs there are as many
-pub walked_within : {p : Plan} {u : Walk} {y : Way} {w : List ℕ} {n : ℕ} {more : Bool} {t c : List ℕ} {o : List ℤ} → Walked p u y w n more t c o → {zs : List ℤ} → Ready p zs → u ≡ (started p zs)
+pub walked_within : {p : Plan} {u : Walk} {y : Way} {w : List ℕ} {n : ℕ} {more : Bool} {at : State} → Walked p u y w n more at → {zs : List ℤ} → Ready p zs → u ≡ (started p zs)
     → n ≤ length (placed_walk p zs)
 walked_within {p} {u} {n = n} k {zs} q b =
     let e : map (placed_of p.operands) (next_blocks n p u) ≡ take n (placed_walk p zs) = ap (λ (v : Walk). map (placed_of p.operands) (next_blocks n p v)) b ∙ placed_part p zs q n 0 in
@@ -160,11 +150,11 @@ walked_within {p} {u} {n = n} k {zs} q b =
     omega (arith, ap length e, length-map (next_blocks n p u) (placed_of p.operands), length-take n (placed_walk p zs), f)
 
 -- at its end no block is left
-module _ {p : Plan} {u : Walk} {y : Way} {w : List ℕ} {n : ℕ} {t c : List ℕ} {o : List ℤ} (k : Walked p u y w n false t c o) where
+module _ {p : Plan} {u : Walk} {y : Way} {w : List ℕ} {n : ℕ} {at : State} (k : Walked p u y w n false at) where
   pub walked_all : (m : ℕ) → next_blocks (n + m) p u ≡ next_blocks n p u
   walked_all m =
       blocks_more p n m u k.full
-      ∙ ap (λ (l : List Stepped). next_blocks n p u ++ l) (ap (next_blocks m p) (sym k.state) ∙ ended_none p (walk_of true c o) k.taken refl m)
+      ∙ ap (λ (l : List Block). next_blocks n p u ++ l) (ap (next_blocks m p) (sym k.state) ∙ ended_none p (walk_of true at.counters at.offsets) k.taken refl m)
       ∙ append-nil (next_blocks n p u)
 
   pub walked_over : {zs : List ℤ} → Ready p zs → u ≡ (started p zs) → drop n (placed_walk p zs) ≡ []

@@ -1,16 +1,17 @@
 -- A STRETCH: blocks of one length that follow each other, each operand moving by the same number from one to the next; and the stretches of
 -- a walk, as lists.
 -- Assumes nothing.
-use Rattle.std.specs.Prelude.{◌≡◌, cond, List, [], ◌∷◌, map, ℕ, ◌≤◌, ◌<◌, min, ℤ, pos, ◌+ℤ◌, ◌*ℤ◌, length, get_or, take}
+use Rattle.std.specs.Prelude.{◌≡◌, cond, List, [], ◌∷◌, map, ℕ, ◌≤◌, ◌<◌, min, ℤ, pos, ◌+ℤ◌, ◌*ℤ◌, length, get_or, take, Option, None, Some}
 use Rattle.std.specs.Int.{w64}
 use Rattle.std.proofs.Common.{SFits}
 use Rattle.strided.specs.Base.{run}
-use Rattle.strided.specs.Step.{stepped, walk_after}
+use Rattle.strided.specs.Step.{stepped, handed_block, walk_after}
 use Rattle.strided.specs.declared.Plan.{Plan}
 use Rattle.strided.specs.declared.Walk.{Walk}
+use Rattle.strided.specs.declared.Block.{Block}
 use Rattle.laws.specs.Base.Sums.{sum}
 use Rattle.laws.specs.Walk.Placed.{Placed}
-use Rattle.advance.specs.Axis.{widths_to}
+use Rattle.advance.specs.Axis.{widths}
 use Rattle.walker.specs.declared.Way.{Way}
 use Rattle.walker.specs.declared.Next.{Next}
 use Rattle.walker.specs.Way.{left_of, moves_of}
@@ -49,17 +50,18 @@ pub record RowsFit (n operands : ℕ) (d o : List ℤ) : Type 0 where
 
 -- ---- the stretches of a walk
 
--- the block sizes in force
-abbrev pub sizes : Plan → List ℕ
-sizes p = widths_to p.rank p.extents p.blocks p.rank
+-- how long the block is that a step hands out
+abbrev pub length_handed : Option Block → ℕ
+length_handed (Some b) = b.length
+length_handed None = 0
 
 -- the stretch at a state, of at most `limit` blocks
 abbrev pub stretch_at : Way → ℕ → Plan → Walk → Stretch
 stretch_at y limit p w = record {
   offsets = take p.operands w.offsets;
-  length = (stepped p w).length;
-  count = min limit (left_of y p.extents (sizes p) w.counters);
-  moves = take p.operands (moves_of y p.operands p.strides);
+  length = length_handed (handed_block (stepped p w));
+  count = min limit (left_of y p (widths p) w.counters);
+  moves = take p.operands (moves_of y p);
 }
 
 -- calls with such limits, each at the state after the blocks of the one before, until the walk has ended

@@ -13,14 +13,13 @@ ghost use Rattle.advance.specs.Blocks.{length_of};
 ghost use Rattle.advance.specs.Moves.{Shifts};
 ghost use Rattle.walker.specs.Way.{Leads, left_in, left_of, moves_of, AtEnd, MayGo, Gone, Strides, Leaves, MayTell, Passed, Hopped, Strode, MayMove, added};
 
-use advance::{advance, carry, go_ahead, inner_axes, length_of, shift};
+use advance::{State, advance, carry, go_ahead, inner_axes, length_of, shift};
+use layout::{LentPlan, first_below};
 
 // The way that the stretches of a walk go, the same all along it: along `axis`, `by` at a time, inside a tile or from tile to tile. `inner`
 // is what `inner_axes` tells.
 #[derive(Clone, Copy)]
 pub struct Way {
-    pub rank: usize,
-    pub operands: usize,
     pub inner: usize,
     pub inside: bool,
     pub axis: usize,
@@ -39,30 +38,15 @@ pub struct Next {
 pub const ALL: u64 = u64::MAX;
 
 // The first axis from 1 on whose blocks are not 1; where there is none, a number from the rank on.
-fn first_cut(rank: usize, w: &[u64; 64]) -> usize
-    requires { rank ≤ 64 }
+fn first_cut(plan: &LentPlan, w: &[u64; 64]) -> usize
     ensures { (1 ≤ result) × ((j : ℕ) → 1 ≤ j → j < result → get_or w.now j 0 ≡ 1) }
 {
-    for i in 1..rank {
+    for i in 1..plan.rank {
         if w[i] != 1 {
             return i;
         }
     }
-    rank.max(1)
-}
-
-// The first axis with more than one tile; the rank where there is none.
-fn first_tiled<'a>(rank: usize, e: &'a [u64; 64], w: &'a [u64; 64]) -> usize
-    requires { rank ≤ 64 }
-    ensures { (result ≤ rank) × ((j : ℕ) → j < result → get_or e.now j 0 ≤ get_or w.now j 0)
-        × (result < rank → get_or w.now result 0 < get_or e.now result 0) }
-{
-    for i in 0..rank {
-        if w[i] < e[i] {
-            return i;
-        }
-    }
-    rank
+    plan.rank.max(1)
 }
 
 // How far it is to the next index of an axis; 0 if there is none.
@@ -73,27 +57,23 @@ fn step_along(extent: u64) -> u64
 }
 
 // The way of a walk's stretches: along the quickest axis that moves inside a tile; where none does, along the quickest that has a second tile.
-pub fn way_of<'a>(rank: usize, operands: usize, e: &'a [u64; 64], w: &'a [u64; 64]) -> Way
-    requires { rank ≤ 64 }
-    ensures { Leads result rank operands e.now w.now }
+pub fn way_of(plan: &LentPlan, w: &[u64; 64]) -> Way
+    ensures { Leads result plan.now w.now }
 {
-    let inner = inner_axes(rank, w);
-    let cut = first_cut(rank, w);
-    if cut < rank {
+    let inner = inner_axes(plan, w);
+    let cut = first_cut(plan, w);
+    if cut < plan.rank {
         return Way {
-            rank,
-            operands,
             inner,
             inside: true,
             axis: cut,
-            by: step_along(e[cut]),
+            by: step_along(plan.extents[cut]),
         };
     }
-    let tiled = first_tiled(rank, e, w);
-    if tiled < rank {
+    // the first axis with more than one tile; the rank where there is none
+    let tiled = first_below(w, plan.extents, plan.rank);
+    if tiled < plan.rank {
         return Way {
-            rank,
-            operands,
             inner,
             inside: false,
             axis: tiled,
@@ -101,8 +81,6 @@ pub fn way_of<'a>(rank: usize, operands: usize, e: &'a [u64; 64], w: &'a [u64; 6
         };
     }
     Way {
-        rank,
-        operands,
         inner,
         inside: false,
         axis: 0,
@@ -111,12 +89,12 @@ pub fn way_of<'a>(rank: usize, operands: usize, e: &'a [u64; 64], w: &'a [u64; 6
 }
 
 // How far each operand moves from block to block.
-pub fn moves_of(y: Way, s: &[i64; 512]) -> [i64; 8]
-    requires { Shifts y.operands y.axis 0 y.by s.now (replicate 8 (pos 0)) }
-    ensures { result ≡ moves_of y y.operands s.now }
+pub fn moves_of(y: Way, plan: &LentPlan) -> [i64; 8]
+    requires { Shifts plan.now y.axis 0 y.by (replicate 8 (pos 0)) }
+    ensures { result ≡ moves_of y plan.now }
 {
     let mut d = [0i64; 8];
-    shift(y.operands, y.axis, 0, y.by, s, &mut d);
+    shift(plan, y.axis, 0, y.by, &mut d);
     d
 }
 
@@ -140,29 +118,22 @@ fn blocks_left(y: Way, extent: u64, width: u64, start: u64, at: u64) -> u64
 }
 
 // Goes on by `steps` blocks along the way.
-fn go_steps(
-    y: Way,
-    steps: u64,
-    s: &[i64; 512],
-    t: &mut [u64; 64],
-    c: &mut [u64; 64],
-    o: &mut [i64; 8],
-)
-    requires { MayGo y steps s.now c.old o.old }
-    ensures { Gone y steps s.now t.old c.old o.old t.new c.new o.new }
+fn go_steps(y: Way, steps: u64, plan: &LentPlan, at: &mut State)
+    requires { MayGo y steps plan.now at.old }
+    ensures { Gone y steps plan.now at.old at.new }
 {
     if steps == 0 {
         return;
     }
     let axis = y.axis;
-    let at = c[axis];
-    let to = at + steps * y.by;
-    shift(y.operands, axis, at, to, s, o);
-    c[axis] = to;
+    let from = at.counters[axis];
+    let to = from + steps * y.by;
+    shift(plan, axis, from, to, &mut at.offsets);
+    at.counters[axis] = to;
     if y.inside {
         return;
     }
-    t[axis] = to;
+    at.tile_starts[axis] = to;
 }
 
 // Whether there is a way, and the last block of the stretch is the axis's last: no shorter tile is behind it.
@@ -174,35 +145,28 @@ fn ends_axis(y: Way, extent: u64, at: u64, left: u64) -> bool
     y.by != 0 && (y.inside || extent - (at + (left - 1) * y.by) <= y.by)
 }
 
+// Kept, here and below: Strides as a clause. It binds a state to a plan, its block sizes and a way, and every stretch makes it anew (crate
+// advance has the same of Roomy and Tiled).
+
 // Leaves the stretch at the counters, all of it: its axis goes home, and the axes behind it carry on. Says whether there is a block.
-fn leave<'a>(
-    y: Way,
-    e: &'a [u64; 64],
-    w: &'a [u64; 64],
-    s: &'a [i64; 512],
-    t: &mut [u64; 64],
-    c: &mut [u64; 64],
-    o: &mut [i64; 8],
-) -> bool
-    requires strides { Strides y e.now w.now s.now t.old c.old o.old }
-    requires by_nonzero { (0 < y.by) × AtEnd y (get_or e.now y.axis 0) (get_or w.now y.axis 0) (get_or c.old y.axis 0) }
-    ensures { Leaves y e.now w.now s.now c.old o.old result t.new c.new o.new }
+fn leave(y: Way, plan: &LentPlan, w: &[u64; 64], at: &mut State) -> bool
+    requires strides { Strides y plan.now w.now at.old }
+    requires by_nonzero { (0 < y.by) × AtEnd y (get_or plan.now.extents y.axis 0) (get_or w.now y.axis 0) (get_or at.old.counters y.axis 0) }
+    ensures { Leaves y plan.now w.now at.old result at.new }
 {
-    let rank = y.rank;
-    let operands = y.operands;
+    let rank = plan.rank;
     let axis = y.axis;
-    let at = c[axis];
+    let from = at.counters[axis];
     if y.inside {
-        let start = t[axis];
-        shift(operands, axis, at, start, s, o);
-        c[axis] = start;
-        return carry(true, axis + 1, y.inner, rank, operands, e, w, s, t, c, o)
-            || carry(false, 0, rank, rank, operands, e, w, s, t, c, o);
+        let start = at.tile_starts[axis];
+        shift(plan, axis, from, start, &mut at.offsets);
+        at.counters[axis] = start;
+        return carry(true, axis + 1, y.inner, plan, w, at) || carry(false, 0, rank, plan, w, at);
     }
-    shift(operands, axis, at, 0, s, o);
-    c[axis] = 0;
-    t[axis] = 0;
-    carry(false, axis + 1, rank, rank, operands, e, w, s, t, c, o)
+    shift(plan, axis, from, 0, &mut at.offsets);
+    at.counters[axis] = 0;
+    at.tile_starts[axis] = 0;
+    carry(false, axis + 1, rank, plan, w, at)
 }
 
 // The stretch at the counters to its end: `left` blocks of `length` cells each.
@@ -213,106 +177,85 @@ pub struct Here {
 }
 
 // Looks at the stretch at the counters; nothing moves.
-pub fn stretch_here<'a>(
-    y: Way,
-    e: &'a [u64; 64],
-    w: &'a [u64; 64],
-    t: &'a [u64; 64],
-    c: &'a [u64; 64],
-) -> Here
-    requires { MayTell y e.now w.now t.now c.now }
-    ensures { (result.left ≡ left_of y e.now w.now c.now)
-        × (result.length ≡ length_of y.rank e.now w.now c.now) × (get_or e.now y.axis 0 < 2 ^ 64) }
+pub fn stretch_here<'a>(y: Way, plan: &LentPlan, w: &'a [u64; 64], at: &'a State) -> Here
+    requires { MayTell y plan.now w.now at.now }
+    ensures { (result.left ≡ left_of y plan.now w.now at.now.counters)
+        × (result.length ≡ length_of plan.now w.now at.now.counters) × (get_or plan.now.extents y.axis 0 < 2 ^ 64) }
 {
     let axis = y.axis;
     Here {
-        left: blocks_left(y, e[axis], w[axis], t[axis], c[axis]),
-        length: length_of(y.rank, e, w, c),
+        left: blocks_left(
+            y,
+            plan.extents[axis],
+            w[axis],
+            at.tile_starts[axis],
+            at.counters[axis],
+        ),
+        length: length_of(plan, w, &at.counters),
     }
-}
-
-// How many blocks of it a limit allows.
-pub fn least(limit: u64, left: u64) -> u64
-    ensures { result ≡ min limit left }
-{
-    limit.min(left)
 }
 
 // Goes past the stretch at the counters, of at most `limit` blocks, in the case that comes most often: it began where its tile does and is
 // taken to its end, and the next axis goes one ahead inside the tile. Nothing else moves. Says whether it was so; if not, nothing has moved.
 // Who calls it calls `go_behind` where it was not: this one is small enough to be compiled into the caller's loop.
-pub fn hop<'a>(
-    y: Way,
-    limit: u64,
-    left: u64,
-    e: &'a [u64; 64],
-    w: &'a [u64; 64],
-    s: &'a [i64; 512],
-    t: &mut [u64; 64],
-    c: &mut [u64; 64],
-    o: &mut [i64; 8],
-) -> bool
-    requires strides { Strides y e.now w.now s.now t.old c.old o.old }
-    requires left_value { left ≡ left_of y e.now w.now c.old }
-    ensures { Hopped y limit e.now w.now s.now t.old c.old o.old
-        result t.new c.new o.new }
+pub fn hop(y: Way, limit: u64, left: u64, plan: &LentPlan, w: &[u64; 64], at: &mut State) -> bool
+    requires strides { Strides y plan.now w.now at.old }
+    requires left_value { left ≡ left_of y plan.now w.now at.old.counters }
+    ensures { Hopped y limit plan.now w.now at.old result at.new }
 {
     let axis = y.axis;
-    if y.by == 0 || !y.inside || y.inner <= axis + 1 || limit < left || c[axis] != t[axis] {
+    if y.by == 0
+        || !y.inside
+        || y.inner <= axis + 1
+        || limit < left
+        || at.counters[axis] != at.tile_starts[axis]
+    {
         return false;
     }
-    go_ahead(axis + 1, y.rank, y.operands, e, w, s, t, c, o)
+    go_ahead(axis + 1, plan, w, at)
 }
 
 // Goes past the stretch at the counters, of at most `limit` blocks, in any case. Says whether there is a block behind it; if not, the
-// counters, the offsets and the starts of the tiles are back at the start.
-pub fn go_behind<'a>(
+// state is back at the start.
+pub fn go_behind(
     y: Way,
     limit: u64,
     left: u64,
-    e: &'a [u64; 64],
-    w: &'a [u64; 64],
-    s: &'a [i64; 512],
-    t: &mut [u64; 64],
-    c: &mut [u64; 64],
-    o: &mut [i64; 8],
+    plan: &LentPlan,
+    w: &[u64; 64],
+    at: &mut State,
 ) -> bool
-    requires strides { Strides y e.now w.now s.now t.old c.old o.old }
-    requires left_value { (left ≡ left_of y e.now w.now c.old) × (get_or e.now y.axis 0 < 2 ^ 64) }
-    ensures { Passed y limit e.now w.now s.now c.old o.old
-        result t.new c.new o.new }
+    requires strides { Strides y plan.now w.now at.old }
+    requires left_value { (left ≡ left_of y plan.now w.now at.old.counters) × (get_or plan.now.extents y.axis 0 < 2 ^ 64) }
+    ensures { Passed y limit plan.now w.now at.old result at.new }
 {
     if limit < left {
-        go_steps(y, limit, s, t, c, o);
+        go_steps(y, limit, plan, at);
         return true;
     }
     let axis = y.axis;
-    if ends_axis(y, e[axis], c[axis], left) {
-        return leave(y, e, w, s, t, c, o);
+    if ends_axis(y, plan.extents[axis], at.counters[axis], left) {
+        return leave(y, plan, w, at);
     }
-    go_steps(y, left - 1, s, t, c, o);
-    advance(y.rank, y.inner, y.operands, e, w, s, t, c, o)
+    go_steps(y, left - 1, plan, at);
+    advance(y.inner, plan, w, at)
 }
 
 // THE STRETCH at the counters, of at most `limit` blocks: the offsets of its first block go to `first`, and the walk goes past it.
-pub fn take_stretch<'a>(
+pub fn take_stretch(
     y: Way,
     limit: u64,
-    e: &'a [u64; 64],
-    w: &'a [u64; 64],
-    s: &'a [i64; 512],
-    t: &mut [u64; 64],
-    c: &mut [u64; 64],
-    o: &mut [i64; 8],
+    plan: &LentPlan,
+    w: &[u64; 64],
+    at: &mut State,
     first: &mut [i64; 8],
 ) -> Next
-    requires { Strides y e.now w.now s.now t.old c.old o.old }
-    ensures { Strode y limit e.now w.now s.now c.old o.old
-        result first.new t.new c.new o.new }
+    requires { Strides y plan.now w.now at.old }
+    ensures { Strode y limit plan.now w.now at.old result first.new at.new }
 {
-    let x = stretch_here(y, e, w, t, c);
-    *first = *o;
-    let more = go_behind(y, limit, x.left, e, w, s, t, c, o);
+    let x = stretch_here(y, plan, w, at);
+    *first = at.offsets;
+    let more = go_behind(y, limit, x.left, plan, w, at);
     Next {
         count: limit.min(x.left),
         length: x.length,
@@ -321,11 +264,11 @@ pub fn take_stretch<'a>(
 }
 
 // From a block of a stretch to the one behind it: each operand's offset moves by its place of `d`.
-pub fn move_by<'a>(operands: usize, d: &'a [i64; 8], o: &mut [i64; 8])
-    requires { MayMove operands d.now o.old }
-    ensures { o.new ≡ added operands d.now o.old }
+pub fn move_by<'a>(plan: &LentPlan, d: &'a [i64; 8], o: &mut [i64; 8])
+    requires { MayMove plan.now.operands d.now o.old }
+    ensures { o.new ≡ added plan.now.operands d.now o.old }
 {
-    for k in 0..operands {
+    for k in 0..plan.operands {
         o[k] += d[k];
     }
 }

@@ -9,6 +9,7 @@ ghost use Rattle.strided.specs.Text.{Prints};
 ghost use Rattle.walklist.specs.Asking.{Asks};
 ghost use Rattle.walklist.specs.Printing.{Received, Printing};
 
+use layout::number;
 use std::env::{Env, FillError};
 use std::fs::File;
 use std::io::{self, Read};
@@ -59,26 +60,29 @@ fn list_text(text: &[u8], out: &mut [u8]) -> usize
     requires { out.old ≡ replicate 65536 0 }
     ensures { Printing text.now result out.new }
 {
-    let answer = text::walklist(text, out);
-    if answer < 0 {
-        return put_refusal(out, 0, answer.unsigned_abs());
+    match text::walklist(text, out) {
+        Ok(n) => n,
+        Err(refusal) => put_refusal(out, 0, number(refusal)),
     }
-    answer as usize
 }
 
 fn complain(rt: &HostRuntime, message: &[u8]) {
     let _ = rt.stderr().write_all(message);
 }
 
-// Hands the lines that are printed for a text to `write`. Nothing else is written to standard output but the lines of help, and a text is
-// asked for so that no other bytes can be handed over.
-fn write_lines<'a>(rt: &HostRuntime, text: &'a [u8], lines: &'a [u8])
-    requires { Prints text.now lines.now }
-{
-    if rt.stdout().write_all(lines).is_ok() {
+// Writes to standard output: lines of help, or by write_lines a listing.
+fn write_out(rt: &HostRuntime, bytes: &[u8]) {
+    if rt.stdout().write_all(bytes).is_ok() {
         return;
     }
     complain(rt, b"walklist: cannot write standard output\n");
+}
+
+// Writes the lines that are printed for a text, which it asks for so that no other bytes are handed over as a listing.
+fn write_lines<'a>(rt: &HostRuntime, text: &'a [u8], lines: &'a [u8])
+    requires { Prints text.now lines.now }
+{
+    write_out(rt, lines);
 }
 
 // Prints what is printed for a text.
@@ -96,21 +100,6 @@ fn print_input<R: Read>(rt: &HostRuntime, reader: &mut R) {
     match read_input(reader, &mut text) {
         Ok(n) => print_text(rt, &text[..n], &mut out),
         Err(_) => complain(rt, b"walklist: cannot read the layout\n"),
-    }
-}
-
-// A line of help on standard output: of what is written there, all that is no listing.
-// Kept: beside write_lines, which does the same with a listing: one function for both would let any bytes be written.
-fn help_line(rt: &HostRuntime, line: &[u8]) {
-    if rt.stdout().write_all(line).is_ok() {
-        return;
-    }
-    complain(rt, b"walklist: cannot write standard output\n");
-}
-
-fn print_help(rt: &HostRuntime) {
-    for line in HELP.split_inclusive(|byte| *byte == b'\n') {
-        help_line(rt, line);
     }
 }
 
@@ -152,7 +141,7 @@ fn print_file(rt: &HostRuntime, name: &[u8]) {
 // Prints what one argument asks for.
 fn print_asked(rt: &HostRuntime, word: &[u8]) {
     if is_help(word) {
-        print_help(rt);
+        write_out(rt, HELP);
         return;
     }
     print_file(rt, word);

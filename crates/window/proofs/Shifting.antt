@@ -3,7 +3,7 @@
 use mathlib.Core.Path.{◌≡◌, sym, ap, ◌∙◌, subst}
 use mathlib.Core.Bool.{Bool, true, false, cond}
 use mathlib.Core.List.{List, map}
-use Prim.Native.Nat.{ℕ, ◌*◌, ◌≤◌, ◌<◌}
+use Prim.Native.Nat.{ℕ, ◌≤◌, ◌<◌}
 use native.Mathlib.Nat.{le_trans}
 use lib.IntN.{ℤ, pos}
 use lib.ListN.{length, replicate}
@@ -15,7 +15,7 @@ use Rattle.laws.specs.Refusals.Zeros.{no_zero_of}
 use Rattle.window.specs.Window.{window_shifts}
 use Rattle.window.specs.Indices.{spread, spread-reach}
 use Rattle.window.specs.Layouts.{WindowTaken, parent_zero}
-use Rattle.window.specs.Counted.{Counted, Few, sum_at}
+use Rattle.window.specs.Counted.{Counted, sum_at}
 
 module _ (fs ns : List ℕ) (ss : List ℤ) (operands : ℕ) where
   -- operand k's shift, where b says whether a count is 0
@@ -39,14 +39,8 @@ module _ (es sizes : List ℕ) (ss : List ℤ) (fs ns : List ℕ) (st : List ℤ
   pub taken_counted : Counted (length es) (length sizes) ns st ss
   taken_counted = record { counts = w.counts; steps = w.steps; strides = w.strides }
 
-  pub taken_few : Few (length es) (length sizes)
-  taken_few = record { axes = w.axes; many = w.few }
-
   pub taken_counts : length ns ≤ 64
   taken_counts = subst (λ (n : ℕ). n ≤ 64) (sym w.counts) w.axes
-
-  pub taken_strides : (length sizes ≤ 8) × (length ss ≡ length fs * length sizes)
-  taken_strides = (w.few, w.strides ∙ ap (λ (n : ℕ). n * length sizes) (sym w.firsts))
 
   -- no sum leaves 64 bits
   pub taken_spread : has_zero ns ≡ false → (k : ℕ) → k < length sizes → spread fs (stride_row ss (length fs) k) ≤ max_i

@@ -20,7 +20,8 @@ use Rattle.laws.specs.Refusals.Reaches.{term_reach}
 use Rattle.window.specs.Window.{stepped_stride, stepped_row, window_strides, stride_over}
 use Rattle.window.specs.Axes.{AxisLies, axis_stride}
 use Rattle.window.specs.Indices.{Lies, lies_at}
-use Rattle.window.specs.Counted.{Counted, Few}
+use Rattle.window.specs.Counted.{Counted}
+use Rattle.layout.specs.Fitting.{Fitting}
 use Rattle.window.specs.Layouts.{length-stepped}
 
 get_d_stepped : (ns : List ℕ) (st ts : List ℤ) (i : ℕ) → i < length ns → length st ≡ length ns → length ts ≡ length ns
@@ -104,10 +105,10 @@ module _ (ns : List ℕ) (st ss : List ℤ) (rank operands : ℕ) (c : Counted r
       axis_next = ap (λ (n : ℕ). (n + 1) % rank) q ∙ mod-add-mod j rank 1
 
 -- so many places as the array has
-pub few_places : (rank operands : ℕ) → Few rank operands → rank * operands ≤ 512
-few_places rank operands f =
-    let a : rank * operands ≤ rank * 8 = mul-le-mul_left rank f.many in
-    omega (arith, a, f.axes)
+pub few_places : (ss : List ℤ) (rank operands : ℕ) → Fitting ss rank operands → length ss ≤ 512
+few_places ss rank operands f =
+    let a : rank * operands ≤ rank * 8 = mul-le-mul_left rank f.operands_few in
+    omega (arith, a, f.rank-few, f.strides_all)
 
 -- ---- a new stride can leave 64 bits only beside an extent of 0
 

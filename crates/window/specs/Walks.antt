@@ -1,6 +1,6 @@
 -- DEMAND 3 FOR A WINDOW'S WALK: "Walks of a window meet the window's own indices once, and no two of these name the same parent index", and
 -- at each place the offsets are those of the parent index. Assumes nothing.
-use Rattle.std.specs.Prelude.{◌≡◌, false, List, ℕ, ◌<◌, ℤ, pos, ◌+ℤ◌, ◌-ℤ◌, ◌*ℤ◌, length, get_or, None, Some, Ok}
+use Rattle.std.specs.Prelude.{◌≡◌, false, List, ℕ, ◌<◌, ℤ, pos, ◌+ℤ◌, ◌-ℤ◌, ◌*ℤ◌, length, get_or, None, Some, Result, Ok}
 use Rattle.std.proofs.Common.{sym, ap, ◌∙◌, subst, arith}
 use Rattle.std.proofs.Math.IntN.{+ℤ_comm, -ℤ-+ℤ_cancel}
 use Rattle.strided.specs.Base.{nth}
@@ -9,10 +9,10 @@ use Rattle.strided.specs.Machine.{Allowed}
 use Rattle.strided.specs.Refusals.{missing, planning_refused}
 use Rattle.strided.specs.Plan.{planned, the_plan}
 use Rattle.strided.specs.Begin.{begin_refused, begun_at, started}
-use Rattle.strided.specs.Demand3.{replaced, steps_from, Meets, Demand3}
+use Rattle.strided.specs.Demand3.{replaced, steps_from, Ends, Meets, Demand3}
 use Rattle.strided.specs.declared.Machine.{Machine}
 use Rattle.strided.specs.declared.Purpose.{Purpose}
-use Rattle.strided.specs.declared.Outcome.TheVariants.{Ended}
+use Rattle.strided.specs.declared.Refusal.{Refusal}
 use Rattle.strided.specs.declared.Plan.{Plan}
 use Rattle.strided.specs.declared.Stepped.{Stepped}
 use Rattle.laws.specs.Base.Integers.{+ℤ-left-comm, +ℤ-less}
@@ -29,7 +29,7 @@ use Rattle.window.specs.Starts.{length-shifted, get_d_shifted, window_offset, wi
 use Rattle.strided.specs.declared.Walk.{Walk}
 
 -- the parent, the window, the purpose and the plan of the window's layout, and the list of steps
-module _ (es sizes : List ℕ) (ss : List ℤ) (fs ns : List ℕ) (st : List ℤ) (u : Purpose) (p : Plan) (steps : List Stepped) where
+module _ (es sizes : List ℕ) (ss : List ℤ) (fs ns : List ℕ) (st : List ℤ) (u : Purpose) (p : Plan) (steps : List (Result Stepped Refusal)) where
   -- "It meets the original index whose plan index is that of cell k": an index of the window's layout
   abbrev pub MeetsWindow : ℕ → ℕ → List ℕ → Type 0
   MeetsWindow m k x = Meets ns sizes (window_strides ns st ss (length es) (length sizes)) u p steps m k x
@@ -46,7 +46,7 @@ module _ (es sizes : List ℕ) (ss : List ℤ) (fs ns : List ℕ) (st : List ℤ
     pub offsets : (m k : ℕ) (x : List ℕ) (q : MeetsWindow m k x) (j : ℕ) → j < length sizes
         → get_or q.by.offsets j (pos 0) +ℤ pos k *ℤ get_or q.by.strides j (pos 0) -ℤ get_or zs j (pos 0) ≡ dot (parent_index fs st x) (stride_row ss (length es) j)
     -- once the walk has ended, each index of the window was met before, so each parent index that the window names
-    pub all : (m : ℕ) (s : Stepped) → nth steps m ≡ Some s → s.answer ≡ Ended → (x : List ℕ) → Within ns x → (i : ℕ) × (k : ℕ) × (i < m) × MeetsWindow i k x
+    pub all : (m : ℕ) (s : Result Stepped Refusal) (end : Walk) → nth steps m ≡ Some s → Ends s end → (x : List ℕ) → Within ns x → (i : ℕ) × (k : ℕ) × (i < m) × MeetsWindow i k x
 
 -- THE STATEMENT: for every window that is served and has no count of 0, every machine and purpose that planning takes, the plan's block sizes left or
 -- replaced by any numbers, every list of parent starts at which, shifted, the window's walk begins, and every number of steps
@@ -79,7 +79,7 @@ window_walk es sizes ss fs ns st v served nz mc u p hp bs zs b hb n =
           unshift (get_or q.by.offsets j (pos 0) +ℤ pos k *ℤ get_or q.by.strides j (pos 0)) (get_or zs j (pos 0)) (get_or ds j (pos 0)) (dot x (stride_row ws (length ns) j))
           (ap (λ (s : ℤ). get_or q.by.offsets j (pos 0) +ℤ pos k *ℤ get_or q.by.strides j (pos 0) -ℤ s) (sym (start j l)) ∙ d.offsets m k x q j l)
           ∙ window_offset es sizes ss fs ns st w x q.inside j l;
-      all = λ m s e h. (d.ends m s e).0 h;
+      all = λ m s end e h. (d.ends m s e).0 (end, h);
     }
   where
     ws : List ℤ
@@ -91,7 +91,7 @@ window_walk es sizes ss fs ns st v served nz mc u p hp bs zs b hb n =
     P : Plan
     P = replaced p bs
 
-    L : List Stepped
+    L : List (Result Stepped Refusal)
     L = steps_from P n b
 
     w : WindowTaken es sizes ss fs ns st

@@ -3,7 +3,10 @@ ghost use Rattle.std.specs.Prelude.{◌≡◌, true, false, not, ◌+◌, ◌%�
 ghost use Rattle.strided.specs.Base.{padded, some_of};
 ghost use Rattle.strided.specs.Layout.{in_i64};
 ghost use Rattle.window.specs.Window.{stepped_stride, window_strides, stride_over};
-ghost use Rattle.window.specs.Counted.{Counted, Few};
+ghost use Rattle.window.specs.Counted.{Counted};
+
+use super::Picks;
+use layout::Layout;
 
 // Whether the stride is kept.
 fn kept(count: u64) -> bool
@@ -37,46 +40,36 @@ fn axis_after(i: usize, rank: usize) -> usize
 }
 
 // Whether some stride of the window leaves 64 bits.
-pub fn some_stride_over<'a>(
-    counts: &'a [u64],
-    steps: &'a [i64],
-    strides: &'a [i64],
-    rank: usize,
-    operands: usize,
-) -> bool
-    requires { Counted rank operands counts.now steps.now strides.now }
-    ensures { result ≡ some_of (stride_over (window_strides counts.now steps.now strides.now rank operands))
-        0 (length (window_strides counts.now steps.now strides.now rank operands)) }
+pub fn some_stride_over(layout: Layout, picks: Picks) -> bool
+    requires { Counted (length layout.extents.now) layout.operands picks.counts.now picks.steps.now layout.strides.now }
+    ensures { let l = layout.entry in
+        let w = picks.entry in
+        let ws = window_strides w.counts.now w.steps.now l.strides.now (length l.extents.now) l.operands in
+        result ≡ some_of (stride_over ws) 0 (length ws) }
 {
     let mut i: usize = 0;
-    for j in 0..strides.len() {
-        if stride_over(counts[i], steps[i], strides[j]) {
+    for stride in layout.strides {
+        if stride_over(picks.counts[i], picks.steps[i], *stride) {
             return true;
         }
-        i = axis_after(i, rank);
+        i = axis_after(i, layout.extents.len());
     }
     false
 }
 
 // The window's strides, written into an array of zeros.
-pub fn strides_into<'a>(
-    counts: &'a [u64],
-    steps: &'a [i64],
-    strides: &'a [i64],
-    rank: usize,
-    operands: usize,
-    table: &mut [i64; 512],
-)
-    requires counted { Counted rank operands counts.now steps.now strides.now }
-    requires few { Few rank operands }
-    requires operands_value { some_of (stride_over (window_strides counts.now steps.now strides.now rank operands))
-        0 (length (window_strides counts.now steps.now strides.now rank operands)) ≡ false }
+pub fn strides_into(layout: Layout, picks: Picks, table: &mut [i64; 512])
+    requires counted { Counted (length layout.extents.now) layout.operands picks.counts.now picks.steps.now layout.strides.now }
+    requires held { let ws = window_strides picks.counts.now picks.steps.now layout.strides.now (length layout.extents.now) layout.operands in
+        some_of (stride_over ws) 0 (length ws) ≡ false }
     requires table_value { table.old ≡ replicate 512 (pos 0) }
-    ensures { table.new ≡ padded 512 (pos 0) (window_strides counts.now steps.now strides.now rank operands) }
+    ensures { let l = layout.entry in
+        let w = picks.entry in
+        table.new ≡ padded 512 (pos 0) (window_strides w.counts.now w.steps.now l.strides.now (length l.extents.now) l.operands) }
 {
     let mut i: usize = 0;
-    for j in 0..strides.len() {
-        table[j] = new_stride(counts[i], steps[i], strides[j]);
-        i = axis_after(i, rank);
+    for j in 0..layout.strides.len() {
+        table[j] = new_stride(picks.counts[i], picks.steps[i], layout.strides[j]);
+        i = axis_after(i, layout.extents.len());
     }
 }

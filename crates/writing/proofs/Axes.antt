@@ -12,13 +12,13 @@ use lib.Seq.{ext_get_or, get_or-take, get_or-drop}
 use borrow.Author.Tests.{lt-ltb, le-ltb}
 use Rattle.strided.specs.Base.{over, run}
 use Rattle.strided.specs.Begin.{plan_row, plan_rows}
-use Rattle.strided.specs.Text.{rank_line, axis_line, axis_of, printed_plan, refusing, filling}
-use Rattle.strided.specs.declared.Refusal.TheVariants.{Room}
+use Rattle.strided.specs.Text.{rank_line, axis_line, axis_of, printed_plan}
 use Rattle.strided.specs.declared.Plan.{Plan}
 use Rattle.laws.specs.Base.Ranges.{below_or}
 use Rattle.laws.specs.Base.Lists.{length_run, get_d_run}
 use Rattle.advance.specs.Filled.{filled_length, filled_at}
-use Rattle.writing.specs.Plan.{measured, stride_on, column_to, axis_at, rest_from, listed_in}
+use Rattle.writing.specs.Plan.{measured, axis_at, rest_from}
+use Rattle.advance.specs.Blocks.{stride_on, column_to}
 use Rattle.std.specs.Prelude.{Option, Some, None}
 
 -- ---- what is answered
@@ -41,14 +41,6 @@ fits_measured n limit k e f =
     (λ h. (let q = measured_fits n limit h in let same : k ≡ n = cc in (h, same)))
     (below_or limit n)
 
--- row 14
-pub listed_full : (p : Plan) (room : List ℕ) → length room < length (printed_plan p) → refusing Room room ≡ listed_in p room
-listed_full p room h = rw (lt-ltb (length room) (length (printed_plan p)) h)
-
-pub listed_filled : (p : Plan) (room : List ℕ) → length (printed_plan p) ≤ length room → {n : ℕ} {new : List ℕ}
-    → n ≡ length (printed_plan p) → new ≡ (filling (printed_plan p) room).room → (pos n ≡ (listed_in p room).answer) × (new ≡ (listed_in p room).room)
-listed_filled p room h e f = rw (le-ltb (length room) (length (printed_plan p)) h) (ap pos e, f)
-
 -- ---- the A lines
 
 column_long : (axis : ℕ) (s : List ℤ) (n : ℕ) → length (column_to axis s n) ≡ 8
@@ -69,19 +61,12 @@ column_counted axis s n h =
     ∙ filled_at (replicate 8 (pos 0)) (stride_on axis s) (pos 0) n j k (omega arith)
     ∙ sym (get_d_run (stride_on axis s) (pos 0) n 0 j k ∙ ap (stride_on axis s) z))
 
--- the part of it that is lent
-pub column_lent : (axis : ℕ) (s : List ℤ) (n : ℕ) {strides : List ℤ} → strides ≡ column_to axis s n → n ≤ 8 → n ≡ length (take n strides)
-column_lent axis s n e h = let l = length-take n (column_to axis s n) in let m = column_long axis s n in rw e (omega arith)
-
--- the line that it makes
-pub axis_lent : (operands : ℕ) (e b : List ℕ) (s : List ℤ) (axis : ℕ) {strides : List ℤ} → strides ≡ column_to axis s operands → operands ≤ 8
-    → axis_line axis (get_or e axis 0) (get_or b axis 0) (take operands strides) ≡ axis_at operands e b s axis
-axis_lent operands e b s axis q h =
-    ap (axis_line axis (get_or e axis 0) (get_or b axis 0)) (ap (take operands) q ∙ column_counted axis s operands h)
-
 module _ (p : Plan) where
-  abbrev pub line_at : ℕ → List ℕ
-  line_at i = axis_at p.operands p.extents p.blocks p.strides i
+  -- the line that it makes
+  pub axis_lent : (axis : ℕ) {strides : List ℤ} → strides ≡ column_to axis p.strides p.operands → p.operands ≤ 8
+      → axis_line axis (get_or p.extents axis 0) (get_or p.blocks axis 0) (take p.operands strides) ≡ axis_at p axis
+  axis_lent axis q h =
+      ap (axis_line axis (get_or p.extents axis 0) (get_or p.blocks axis 0)) (ap (take p.operands) q ∙ column_counted axis p.strides p.operands h)
 
   column_of : (i : ℕ) → i < p.rank → (l : List ℕ) → map (λ ts. get_or ts i (pos 0)) (map (plan_row p) l) ≡ map (stride_on i p.strides) l
   column_of i h [] = refl
@@ -89,21 +74,21 @@ module _ (p : Plan) where
       ap₂ (λ (x : ℤ) (r : List ℤ). x ∷ r)
       (get_or-take p.rank (drop (k * 64) p.strides) i (pos 0) h ∙ get_or-drop (k * 64) p.strides i (pos 0)) (column_of i h l)
 
-  axis_of_lem : (i : ℕ) → i < p.rank → axis_of p i ≡ line_at i
+  axis_of_lem : (i : ℕ) → i < p.rank → axis_of p i ≡ axis_at p i
   axis_of_lem i h =
       ap₂ (λ (e b : ℕ). axis_line i e b (map (λ ts. get_or ts i (pos 0)) (plan_rows p))) (get_or-take p.rank p.extents i 0 h) (get_or-take p.rank p.blocks i 0 h)
       ∙ ap (axis_line i (get_or p.extents i 0) (get_or p.blocks i 0)) (column_of i h (run 0 p.operands))
 
-  axes_of_lem : (n s : ℕ) → s + n ≤ p.rank → over (run s n) (axis_of p) ≡ over (run s n) line_at
+  axes_of_lem : (n s : ℕ) → s + n ≤ p.rank → over (run s n) (axis_of p) ≡ over (run s n) (axis_at p)
   axes_of_lem zero s h = refl
   axes_of_lem (suc n) s h = ap₂ (λ (x r : List ℕ). x ++ r) (axis_of_lem s (omega arith)) (axes_of_lem n (suc s) (omega arith))
 
   -- the whole output, in the order it is written
-  pub printed_parts : printed_plan p ≡ rank_line p.rank ++ (over (run 0 p.rank) line_at ++ rest_from p 0)
+  pub printed_parts : printed_plan p ≡ rank_line p.rank ++ (over (run 0 p.rank) (axis_at p) ++ rest_from p 0)
   unfolding printed_plan rest_from
   printed_parts = ap (λ (l : List ℕ). rank_line p.rank ++ (l ++ rest_from p 0)) (axes_of_lem p.rank 0 (omega arith))
 
-  pub printed-length : length (printed_plan p) ≡ length (rank_line p.rank) + length (over (run 0 p.rank) line_at) + length (rest_from p 0)
+  pub printed-length : length (printed_plan p) ≡ length (rank_line p.rank) + length (over (run 0 p.rank) (axis_at p)) + length (rest_from p 0)
   printed-length = ap length printed_parts ∙ simp length-append (omega arith)
 
 -- ---- a loop from 0 to n, at i

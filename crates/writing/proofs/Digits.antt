@@ -2,9 +2,9 @@
 -- Assumes nothing.
 use Prim.Native.Nat.{ℕ, suc, ◌+◌, ◌-◌, ◌/◌, ◌%◌, ◌≤◌, ◌<◌}
 use native.Mathlib.Omega.{arith}
-use mathlib.Core.List.{List, [], ◌∷◌, ◌++◌, append_assoc, append-nil}
+use mathlib.Core.List.{List, ◌∷◌, ◌++◌, append_assoc}
 use mathlib.Core.Path.{◌≡◌, sym, ap, ◌∙◌}
-use lib.ListN.{length, take, drop, set, length-append, length-take, length-drop, take-append-drop}
+use lib.ListN.{length, take, drop, set, length-append, length-take, length-drop}
 use Rattle.strided.specs.Digits.{digits_of}
 use Rattle.laws.specs.Text.Lengths.{digits_small, digits_big, length_big, length_small}
 use Rattle.writing.specs.Put.{put}
@@ -17,10 +17,6 @@ pub record Writing (old : List ℕ) (at n end : ℕ) (out : List ℕ) (i rest : 
   pub ends : end ≡ at + length (digits_of n)
   pub room : end ≤ length old
   pub list : out ≡ take i old ++ (done ++ drop end old)
-
-pub writing_start : (old : List ℕ) (at n end : ℕ) → end ≡ at + length (digits_of n) → end ≤ length old → Writing old at n end old end n
-writing_start old at n end e h =
-    record { done = []; digits = sym (append-nil (digits_of n)); place = e; ends = e; room = h; list = sym (take-append-drop end old) }
 
 module _ {old : List ℕ} {at n end : ℕ} {out : List ℕ} {i rest : ℕ} (w : Writing old at n end out i rest) where
   fewer : length (digits_of n) ≡ length (digits_of rest) + length w.done

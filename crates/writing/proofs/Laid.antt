@@ -1,12 +1,12 @@
 -- The lines of a stretch, while they are measured and written: what is left of them before block j, and that block's line.
 -- Assumes nothing.
 use mathlib.Core.Path.{◌≡◌, sym, ap, ap₂, ◌∙◌}
-use mathlib.Core.List.{List, [], ◌++◌, map}
+use mathlib.Core.List.{List, ◌++◌, map}
 use Prim.Native.Nat.{ℕ, suc, ◌+◌, ◌-◌, ◌≤◌, ◌<◌}
 use native.Mathlib.Nat.{add-zero}
 use native.Mathlib.Omega.{arith}
 use lib.IntN.{ℤ}
-use lib.ListN.{length, take, length-append, length-take}
+use lib.ListN.{length, take, length-append}
 use Rattle.strided.specs.Base.{run}
 use Rattle.strided.specs.Text.{block_line}
 use Rattle.walker.specs.Stretch.{Stretch, block_in, laid, RowsFit}
@@ -35,22 +35,11 @@ module _ (count size number operands : ℕ) (d o : List ℤ) where
       let c : count - 0 ≡ count = omega arith in
       ap₂ (λ (n m : ℕ). lines_from n (map (block_in (stretch count size operands d o)) (run 0 m))) (add-zero number) c
 
-  pub lines_none : {j : ℕ} → count ≤ j → lines_at count size number operands d o j ≡ []
-  lines_none {j} h = let c : count - j ≡ 0 = omega arith in ap (λ (m : ℕ). lines_from (number + j) (map (block_in (stretch count size operands d o)) (run j m))) c
-
 module _ {count operands : ℕ} {d o₀ : List ℤ} (f : RowsFit count operands d o₀) where
   pub before-first : Before count operands d o₀ 0 o₀
   before-first = record { most = omega arith; row = λ h. row_none f }
 
   module _ {j : ℕ} {o : List ℤ} (k : Before count operands d o₀ j o) (h : j < count) where
-    -- the offsets that are lent
-    pub row_lent : (operands ≤ 8) × (operands ≤ length o) × (operands ≡ length (take operands o))
-    row_lent =
-        let a = f.few in
-        let b = (k.row h).offered in
-        let l = length-take operands o in
-        (a, omega (arith, a, b), omega (arith, a, b, l))
-
     -- its line comes next
     row_line : (size number : ℕ) → lines_at count size number operands d o₀ j ≡ block_line (number + j) size (take operands o) ++ lines_at count size number operands d o₀ (j + 1)
     row_line size number =

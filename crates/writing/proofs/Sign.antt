@@ -1,7 +1,7 @@
 -- A signed number as its size, with `-` in front of one below 0. A signed number that is passed on or tested is held as its bits.
 -- Assumes nothing.
 use mathlib.Core.Path.{◌≡◌, refl, sym, ap, ◌∙◌}
-use mathlib.Core.Bool.{true, false, true≢false}
+use mathlib.Core.Bool.{true}
 use mathlib.Core.List.{◌∷◌}
 use Prim.Native.Nat.{ℕ}
 use native.Mathlib.Nat.{not-suc-le-zero}
@@ -17,10 +17,6 @@ signed_below : (z : ℤ) → lt_z z (pos 0) ≡ true → signed_of z ≡ 45 ∷ 
 signed_below (pos n) e = absurd (not-suc-le-zero (ltb-true n 0 e))
 signed_below (negsuc k) e = refl
 
-signed-from : (z : ℤ) → lt_z z (pos 0) ≡ false → signed_of z ≡ digits_of (nat_abs z)
-signed-from (pos n) e = refl
-signed-from (negsuc k) e = absurd (true≢false e)
-
 -- the code's test, and the size that it was handed
 module _ (z : ℤ) (f : SFits w64 z) {size : ℕ} (s : size ≡ nat_abs (to_z w64 (of_z w64 z))) where
   same : size ≡ nat_abs z
@@ -28,6 +24,3 @@ module _ (z : ℤ) (f : SFits w64 z) {size : ℕ} (s : size ≡ nat_abs (to_z w6
 
   pub signed-neg : lt_z (to_z w64 (of_z w64 z)) (pos 0) ≡ true → signed_of z ≡ 45 ∷ digits_of size
   signed-neg e = signed_below z (rw (to_z-of_z f) at e) ∙ ap (λ (n : ℕ). 45 ∷ digits_of n) (sym same)
-
-  pub signed_pos : lt_z (to_z w64 (of_z w64 z)) (pos 0) ≡ false → signed_of z ≡ digits_of size
-  signed_pos e = signed-from z (rw (to_z-of_z f) at e) ∙ ap digits_of (sym same)

@@ -1,6 +1,6 @@
 -- A plan's walk while its lines are measured and written, stretch by stretch: what is left of the output, and what the loop has counted.
 -- Assumes nothing.
-use mathlib.Core.Path.{◌≡◌, refl, sym, ap, ap₂, ◌∙◌}
+use mathlib.Core.Path.{◌≡◌, refl, sym, ap, ap₂, ◌∙◌, subst}
 use mathlib.Core.Bool.{Bool, true, false}
 use mathlib.Core.List.{List, [], ◌∷◌, ◌++◌, map, append_assoc, append-nil}
 use Rattle.std.specs.Prelude.{None}
@@ -25,7 +25,9 @@ use Rattle.laws.specs.Refusals.Zeros.{row5-total}
 use Rattle.laws.specs.Text.Totals.{walk-cells, walk_blocks}
 use Rattle.laws.specs.Walk.Placed.{Placed, placed_from, placed_walk, placed-over}
 use Rattle.laws.specs.Walk.Steps.{Ready, ready}
-use Rattle.advance.specs.Axis.{widths_to, starts_to}
+use Rattle.advance.specs.Axis.{widths, starts_to}
+use Rattle.advance.specs.Carry.{state_of}
+use Rattle.advance.specs.declared.State.{State}
 use Rattle.advance.proofs.Reached.{widths_pos}
 use Rattle.strided.specs.Memory.{walk_of}
 use Rattle.walk.specs.Lent.{Taken}
@@ -151,35 +153,36 @@ module _ {p : Plan} (h : Printable p) where
     pub first_taken : Taken p (walk_of false (replicate 64 0) (replicate 8 (pos 0)))
     first_taken = rw (begun e) (begun_taken p (zero_starts p) printable_ready h.sized)
 
-    module _ {w : List ℕ} (is : w ≡ widths_to p.rank p.extents p.blocks p.rank) where
+    module _ {w : List ℕ} (is : w ≡ widths p) where
       -- the block sizes in force are 1 or more
       pub widths_some : (i : ℕ) → i < p.rank → 0 < get_or w i 0
       widths_some i l = rw is (widths_pos p (zero_starts p) printable_ready h.sized i l)
 
 -- ---- the walk before block n: `sum` is that of the lengths before it
 
-pub record Walks (p : Plan) (y : Way) (w : List ℕ) (n sum : ℕ) (more : Bool) (t c : List ℕ) (o : List ℤ) : Type 0 where
+pub record Walks (p : Plan) (y : Way) (w : List ℕ) (n sum : ℕ) (more : Bool) (here : State) : Type 0 where
   pub printable : Printable p
   pub some : false ≡ has_zero (plan_extents p)
-  pub walked : Walked p (walk_of false (replicate 64 0) (replicate 8 (pos 0))) y w n more t c o
+  pub walked : Walked p (walk_of false (replicate 64 0) (replicate 8 (pos 0))) y w n more here
   pub counted : sum + cells (drop n (W p)) ≡ cells (W p)
 
 -- the same, once the loop's test is known
-pub walks_while : {p : Plan} {y : Way} {w : List ℕ} {n sum : ℕ} {more b : Bool} {t c : List ℕ} {o : List ℤ} → Walks p y w n sum more t c o → more ≡ b → Walks p y w n sum b t c o
+pub walks_while : {p : Plan} {y : Way} {w : List ℕ} {n sum : ℕ} {more b : Bool} {here : State} → Walks p y w n sum more here → more ≡ b → Walks p y w n sum b here
 walks_while k e = rw e at k
 
-pub walks_start : {p : Plan} (h : Printable p) (e : false ≡ has_zero (plan_extents p)) {w : List ℕ} → w ≡ widths_to p.rank p.extents p.blocks p.rank → {y : Way} → Leads y p.rank p.operands p.extents w
-    → {t : List ℕ} → t ≡ starts_to w (replicate 64 0) p.rank → Walks p y w 0 0 true t (replicate 64 0) (replicate 8 (pos 0))
-walks_start h e is l f = record { printable = h; some = e; walked = walked_none is l (first_taken h e) f; counted = omega arith }
+pub walks_start : {p : Plan} (h : Printable p) (e : false ≡ has_zero (plan_extents p)) {w : List ℕ} → w ≡ widths p → {y : Way} → Leads y p w
+    → {here : State} → here ≡ state_of (starts_to w (replicate 64 0) p.rank) (replicate 64 0) (replicate 8 (pos 0)) → Walks p y w 0 0 true here
+walks_start {p} h e {w} is {y} l f =
+    subst (λ (x : State). Walks p y w 0 0 true x) (sym f) (record { printable = h; some = e; walked = walked_none is l (first_taken h e) refl; counted = omega arith })
 
 -- while it runs
-module _ {p : Plan} {y : Way} {w : List ℕ} {n sum : ℕ} {t c : List ℕ} {o : List ℤ} (k : Walks p y w n sum true t c o) where
-  pub walks_asks : Strides y p.extents w p.strides t c o
+module _ {p : Plan} {y : Way} {w : List ℕ} {n sum : ℕ} {here : State} (k : Walks p y w n sum true here) where
+  pub walks_asks : Strides y p w here
   walks_asks = walked_asks k.walked
 
   -- a stretch of it
-  module _ {limit : ℕ} {r : Next} {first : List ℤ} {t' c' : List ℕ} {o' : List ℤ} (x : Strode y limit p.extents w p.strides c o r first t' c' o')
-      {d : List ℤ} (d-is : d ≡ moves_of y y.operands p.strides) where
+  module _ {limit : ℕ} {r : Next} {first : List ℤ} {there : State} (x : Strode y limit p w here r first there)
+      {d : List ℤ} (d-is : d ≡ moves_of y p) where
     abbrev S : Stretch
     S = told p.operands r first d
 
@@ -234,7 +237,7 @@ module _ {p : Plan} {y : Way} {w : List ℕ} {n sum : ℕ} {t c : List ℕ} {o :
         let g = laid_cells S in
         omega (arith, a, b, e, g)
 
-    pub walks_next : Walks p y w (n + r.count) (sum + r.count * r.length) r.more t' c' o'
+    pub walks_next : Walks p y w (n + r.count) (sum + r.count * r.length) r.more there
     walks_next = record { printable = k.printable; some = k.some; walked = walked_next k.walked x; counted = counted_next }
 
     -- what is counted fits, and there is less to come
@@ -248,7 +251,7 @@ module _ {p : Plan} {y : Way} {w : List ℕ} {n sum : ℕ} {t c : List ℕ} {o :
     walks_less h = let a = within in let b = walked_some k.walked x h in omega (arith, a, b)
 
 -- at its end only the Z line is left
-pub walks_end : {p : Plan} {y : Way} {w : List ℕ} {n sum : ℕ} {t c : List ℕ} {o : List ℤ} → Walks p y w n sum false t c o → rest_from p n ≡ figures_line n sum
+pub walks_end : {p : Plan} {y : Way} {w : List ℕ} {n sum : ℕ} {here : State} → Walks p y w n sum false here → rest_from p n ≡ figures_line n sum
 walks_end {p} {n = n} {sum = sum} k =
     let r = printable_ready k.printable in
     let b = begun k.printable k.some in

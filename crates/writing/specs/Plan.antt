@@ -1,13 +1,13 @@
 -- What the functions on a whole plan ask and answer, and the parts of its output as the plan's arrays have them.
 -- Assumes nothing.
-use Rattle.std.specs.Prelude.{◌≡◌, cond, List, [], ◌∷◌, ◌++◌, map, ℕ, suc, ◌+◌, ◌*◌, ltb, ℤ, pos, length, get_or, drop, replicate, Option, Some, None}
+use Rattle.std.specs.Prelude.{◌≡◌, cond, List, [], ◌∷◌, ◌++◌, map, ℕ, suc, ltb, length, get_or, drop, Option, Some, None}
 use Rattle.strided.specs.Base.{run}
 use Rattle.strided.specs.Begin.{begin_refused}
 use Rattle.strided.specs.Refusals.{refused_by}
 use Rattle.strided.specs.Text.{axis_line, block_line, block_lines, end_line, plan_walk, zero_starts, printed_plan, row14, Listing, listing_or}
 use Rattle.strided.specs.declared.Plan.{Plan}
 use Rattle.laws.specs.Walk.Placed.{Placed}
-use Rattle.advance.specs.Filled.{filled_to}
+use Rattle.advance.specs.Blocks.{stride_on}
 use Rattle.advance.specs.Sized.{Sized}
 
 -- what is asked: a plan as a value has it, whose walk begins at the starts 0. So its axes and operands are within the limits, and every
@@ -26,16 +26,9 @@ listed_in p room = listing_or (refused_by (row14 (printed_plan p) (length room) 
 
 -- ---- the parts
 
--- operand k's stride on an axis; those of the first n operands, in an array of 8 places
-abbrev pub stride_on : ℕ → List ℤ → ℕ → ℤ
-stride_on axis s k = get_or s (k * 64 + axis) (pos 0)
-
-abbrev pub column_to : ℕ → List ℤ → ℕ → List ℤ
-column_to axis s n = filled_to (replicate 8 (pos 0)) (stride_on axis s) n
-
 -- an axis's line, out of the plan's arrays
-abbrev pub axis_at : ℕ → List ℕ → List ℕ → List ℤ → ℕ → List ℕ
-axis_at operands e b s i = axis_line i (get_or e i 0) (get_or b i 0) (map (stride_on i s) (run 0 operands))
+abbrev pub axis_at : Plan → ℕ → List ℕ
+axis_at p i = axis_line i (get_or p.extents i 0) (get_or p.blocks i 0) (map (stride_on i p.strides) (run 0 p.operands))
 
 -- the B lines of blocks, numbered from n on
 abbrev pub lines_from : ℕ → List Placed → List ℕ

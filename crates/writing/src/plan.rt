@@ -1,105 +1,76 @@
 // The whole output of a plan: its K, A, B and Z lines. The walk goes in stretches, on local arrays, and checks no block again: the
 // precondition says that a walk of the plan begins at the starts 0. Measuring ends at the first block whose line passes the limit.
-ghost use Rattle.std.specs.Prelude.{◌≡◌, ◌+◌, ◌*◌, ◌≤◌, ◌<◌, length};
+ghost use Rattle.std.specs.Prelude.{◌≡◌, ℕ, ◌+◌, ◌*◌, ◌≤◌, ◌<◌, length, get_or, replicate, pos};
 ghost use Rattle.strided.specs.Base.{over, run};
 ghost use Rattle.strided.specs.Text.{printed_plan, filling};
-ghost use Rattle.strided.specs.Memory.{plan_of};
+ghost use Rattle.advance.specs.Axis.{starts_to};
+ghost use Rattle.advance.specs.Carry.{state_of};
 ghost use Rattle.writing.specs.Put.{Wrote};
 ghost use Rattle.writing.specs.Line.{figures_line, longest};
-ghost use Rattle.writing.specs.Plan.{Printable, measured, column_to, axis_at, rest_from, listed_in};
+ghost use Rattle.writing.specs.Plan.{Printable, measured, axis_at, rest_from, listed_in};
 
 use super::line::{axis_len, end_len, put_axis, put_end, put_rank, rank_len};
 use super::stretch::{put_stretch, stretch_len};
-use advance::{tile_starts, widths};
-use layout::negated;
+use advance::{State, column, tile_starts, widths};
+use layout::LentPlan;
 use states::no_block;
 use strided::Refusal;
 use walker::{ALL, moves_of, take_stretch, way_of};
 
-// The strides of an axis, one for each operand.
-fn column(axis: usize, operands: usize, s: &[i64; 512]) -> [i64; 8]
-    requires { (axis < 64) × (operands ≤ 8) }
-    ensures { result ≡ column_to axis s.now operands }
-{
-    let mut strides = [0i64; 8];
-    for k in 0..operands {
-        strides[k] = s[k * 64 + axis];
-    }
-    strides
-}
-
-// Kept: rank, operands and the three arrays one by one, here and below: of a struct that lends the arrays a contract has to say at which
-// moment it speaks of each, so it is no plainer.
-
 // The A line of an axis.
-fn axis_at_len<'a>(
-    axis: usize,
-    operands: usize,
-    e: &'a [u64; 64],
-    b: &'a [u64; 64],
-    s: &'a [i64; 512],
-) -> usize
-    requires { (axis < 64) × (operands ≤ 8) }
-    ensures { (result ≡ length (axis_at operands e.now b.now s.now axis)) × (result ≤ longest) }
+fn axis_at_len(axis: usize, plan: &LentPlan) -> usize
+    requires { axis < 64 }
+    ensures { (result ≡ length (axis_at plan.now axis)) × (result ≤ longest) }
 {
-    let strides = column(axis, operands, s);
-    axis_len(axis as u64, e[axis], b[axis], &strides[..operands])
+    let strides = column(plan, axis);
+    axis_len(
+        axis as u64,
+        plan.extents[axis],
+        plan.blocks[axis],
+        &strides[..plan.operands],
+    )
 }
 
-fn put_axis_at<'a>(
-    out: &mut [u8],
-    at: usize,
-    axis: usize,
-    operands: usize,
-    e: &'a [u64; 64],
-    b: &'a [u64; 64],
-    s: &'a [i64; 512],
-) -> usize
-    requires axis_bound { (axis < 64) × (operands ≤ 8) }
-    requires axis_in_bounds { at + length (axis_at operands e.now b.now s.now axis) ≤ length out.old }
-    ensures { Wrote out.old at (axis_at operands e.now b.now s.now axis) out.new result }
+fn put_axis_at(out: &mut [u8], at: usize, axis: usize, plan: &LentPlan) -> usize
+    requires axis_bound { axis < 64 }
+    requires axis_in_bounds { at + length (axis_at plan.now axis) ≤ length out.old }
+    ensures { Wrote out.old at (axis_at plan.now axis) out.new result }
 {
-    let strides = column(axis, operands, s);
-    put_axis(out, at, axis as u64, e[axis], b[axis], &strides[..operands])
+    let strides = column(plan, axis);
+    put_axis(
+        out,
+        at,
+        axis as u64,
+        plan.extents[axis],
+        plan.blocks[axis],
+        &strides[..plan.operands],
+    )
 }
 
 // The A lines of all axes.
-fn axes_len<'a>(
-    rank: usize,
-    operands: usize,
-    e: &'a [u64; 64],
-    b: &'a [u64; 64],
-    s: &'a [i64; 512],
-) -> usize
-    requires { (rank ≤ 64) × (operands ≤ 8) }
-    ensures { (result ≡ length (over (run 0 rank) (axis_at operands e.now b.now s.now))) × (result ≤ longest * rank) }
+fn axes_len(plan: &LentPlan) -> usize
+    ensures { (result ≡ length (over (run 0 plan.now.rank) (axis_at plan.now))) × (result ≤ longest * plan.now.rank) }
 {
     let mut k: usize = 0;
-    for i in 0..rank {
-        k += axis_at_len(i, operands, e, b, s);
+    for i in 0..plan.rank {
+        k += axis_at_len(i, plan);
     }
     k
 }
 
-fn put_axes<'a>(
-    out: &mut [u8],
-    at: usize,
-    rank: usize,
-    operands: usize,
-    e: &'a [u64; 64],
-    b: &'a [u64; 64],
-    s: &'a [i64; 512],
-) -> usize
-    requires rank_bound { (rank ≤ 64) × (operands ≤ 8) }
-    requires s_in_bounds { at + length (over (run 0 rank) (axis_at operands e.now b.now s.now)) ≤ length out.old }
-    ensures { Wrote out.old at (over (run 0 rank) (axis_at operands e.now b.now s.now)) out.new result }
+fn put_axes(out: &mut [u8], at: usize, plan: &LentPlan) -> usize
+    requires { at + length (over (run 0 plan.now.rank) (axis_at plan.now)) ≤ length out.old }
+    ensures { Wrote out.old at (over (run 0 plan.now.rank) (axis_at plan.now)) out.new result }
 {
     let mut next = at;
-    for i in 0..rank {
-        next = put_axis_at(out, next, i, operands, e, b, s);
+    for i in 0..plan.rank {
+        next = put_axis_at(out, next, i, plan);
     }
     next
 }
+
+// Kept, here and below: `used` and `limit` as numbers with a clause, since each line changes the one; and Printable as a clause, since it is
+// what the caller knows of its plan, and nothing here changes it.
 
 // The Z line behind `used` bytes, or that it is more than the limit.
 fn end_within(blocks: u64, cells: u64, used: usize, limit: usize) -> Option<usize>
@@ -113,38 +84,41 @@ fn end_within(blocks: u64, cells: u64, used: usize, limit: usize) -> Option<usiz
     Some(used + line)
 }
 
+// Where the walk from the starts 0 begins, where there is a block.
+fn first_state(plan: &LentPlan, w: &[u64; 64]) -> State
+    requires { (i : ℕ) → i < plan.now.rank → 0 < get_or w.now i 0 }
+    ensures { result ≡ state_of (starts_to w.now (replicate 64 0) plan.now.rank) (replicate 64 0) (replicate 8 (pos 0)) }
+{
+    let counters = [0u64; 64];
+    State {
+        tile_starts: tile_starts(plan, w, &counters),
+        counters,
+        offsets: [0i64; 8],
+    }
+}
+
 // The B and Z lines behind `used` bytes. The Z figures are what the loop has counted. With a zero extent there is no block, and how far a
 // stretch would move need not fit.
-fn walk_len<'a>(
-    rank: usize,
-    operands: usize,
-    e: &'a [u64; 64],
-    b: &'a [u64; 64],
-    s: &'a [i64; 512],
-    used: usize,
-    limit: usize,
-) -> Option<usize>
-    requires printable { Printable (plan_of rank operands e.now b.now s.now) }
+fn walk_len(plan: &LentPlan, used: usize, limit: usize) -> Option<usize>
+    requires printable { Printable plan.now }
     requires used_le_limit { used ≤ limit }
-    ensures { result ≡ measured (used + length (rest_from (plan_of rank operands e.now b.now s.now) 0)) limit }
+    ensures { result ≡ measured (used + length (rest_from plan.now 0)) limit }
 {
-    if no_block(rank, e) {
+    if no_block(plan) {
         return end_within(0, 0, used, limit);
     }
-    let w = widths(rank, e, b);
-    let y = way_of(rank, operands, e, &w);
-    let d = moves_of(y, s);
-    let mut c = [0u64; 64];
-    let mut o = [0i64; 8];
+    let w = widths(plan);
+    let y = way_of(plan, &w);
+    let d = moves_of(y, plan);
+    let mut at = first_state(plan, &w);
     let mut first = [0i64; 8];
-    let mut t = tile_starts(rank, &w, &c);
     let mut more = true;
     let mut total = used;
     let mut blocks: u64 = 0;
     let mut cells: u64 = 0;
     while more {
-        let x = take_stretch(y, ALL, e, &w, s, &mut t, &mut c, &mut o, &mut first);
-        total = stretch_len(x, blocks, operands, &d, first, total, limit)?;
+        let x = take_stretch(y, ALL, plan, &w, &mut at, &mut first);
+        total = stretch_len(plan, x, blocks, &d, first, total, limit)?;
         blocks += x.count;
         cells += x.count * x.length;
         more = x.more;
@@ -152,36 +126,26 @@ fn walk_len<'a>(
     end_within(blocks, cells, total, limit)
 }
 
-fn put_walk<'a>(
-    out: &mut [u8],
-    at: usize,
-    rank: usize,
-    operands: usize,
-    e: &'a [u64; 64],
-    b: &'a [u64; 64],
-    s: &'a [i64; 512],
-) -> usize
-    requires printable { Printable (plan_of rank operands e.now b.now s.now) }
-    requires s_in_bounds { at + length (rest_from (plan_of rank operands e.now b.now s.now) 0) ≤ length out.old }
-    ensures { Wrote out.old at (rest_from (plan_of rank operands e.now b.now s.now) 0) out.new result }
+fn put_walk(out: &mut [u8], at: usize, plan: &LentPlan) -> usize
+    requires printable { Printable plan.now }
+    requires s_in_bounds { at + length (rest_from plan.now 0) ≤ length out.old }
+    ensures { Wrote out.old at (rest_from plan.now 0) out.new result }
 {
-    if no_block(rank, e) {
+    if no_block(plan) {
         return put_end(out, at, 0, 0);
     }
-    let w = widths(rank, e, b);
-    let y = way_of(rank, operands, e, &w);
-    let d = moves_of(y, s);
-    let mut c = [0u64; 64];
-    let mut o = [0i64; 8];
+    let w = widths(plan);
+    let y = way_of(plan, &w);
+    let d = moves_of(y, plan);
+    let mut stands = first_state(plan, &w);
     let mut first = [0i64; 8];
-    let mut t = tile_starts(rank, &w, &c);
     let mut more = true;
     let mut next = at;
     let mut number: u64 = 0;
     let mut cells: u64 = 0;
     while more {
-        let x = take_stretch(y, ALL, e, &w, s, &mut t, &mut c, &mut o, &mut first);
-        next = put_stretch(out, next, x, number, operands, &d, first);
+        let x = take_stretch(y, ALL, plan, &w, &mut stands, &mut first);
+        next = put_stretch(out, next, plan, x, number, &d, first);
         number += x.count;
         cells += x.count * x.length;
         more = x.more;
@@ -190,59 +154,37 @@ fn put_walk<'a>(
 }
 
 // THE LENGTH OF A PLAN'S OUTPUT, if it is at most `limit`.
-pub fn measure<'a>(
-    rank: usize,
-    operands: usize,
-    e: &'a [u64; 64],
-    b: &'a [u64; 64],
-    s: &'a [i64; 512],
-    limit: usize,
-) -> Option<usize>
-    requires { Printable (plan_of rank operands e.now b.now s.now) }
-    ensures { result ≡ measured (length (printed_plan (plan_of rank operands e.now b.now s.now))) limit }
+pub fn measure(plan: &LentPlan, limit: usize) -> Option<usize>
+    requires { Printable plan.now }
+    ensures { result ≡ measured (length (printed_plan plan.now)) limit }
 {
-    let head = rank_len(rank as u64) + axes_len(rank, operands, e, b, s);
+    let head = rank_len(plan.rank as u64) + axes_len(plan);
     if limit < head {
         return None;
     }
-    walk_len(rank, operands, e, b, s, head, limit)
+    walk_len(plan, head, limit)
 }
 
 // THE OUTPUT, in bytes that have room for it; those behind it stay. It answers the output's length.
-pub fn write<'a>(
-    rank: usize,
-    operands: usize,
-    e: &'a [u64; 64],
-    b: &'a [u64; 64],
-    s: &'a [i64; 512],
-    out: &mut [u8],
-) -> usize
-    requires printable { Printable (plan_of rank operands e.now b.now s.now) }
-    requires s_in_bounds { length (printed_plan (plan_of rank operands e.now b.now s.now)) ≤ length out.old }
-    ensures value { result ≡ length (printed_plan (plan_of rank operands e.now b.now s.now)) }
-    ensures out_after { out.new ≡ (filling (printed_plan (plan_of rank operands e.now b.now s.now)) out.old).room }
+pub fn write(plan: &LentPlan, out: &mut [u8]) -> usize
+    requires printable { Printable plan.now }
+    requires s_in_bounds { length (printed_plan plan.now) ≤ length out.old }
+    ensures value { result ≡ length (printed_plan plan.now) }
+    ensures out_after { out.new ≡ (filling (printed_plan plan.now) out.old).room }
 {
-    let first = put_rank(out, 0, rank as u64);
-    let then = put_axes(out, first, rank, operands, e, b, s);
-    put_walk(out, then, rank, operands, e, b, s)
+    let first = put_rank(out, 0, plan.rank as u64);
+    let then = put_axes(out, first, plan);
+    put_walk(out, then, plan)
 }
 
-// THE OUTPUT WHERE IT HAS ROOM: its length, or refusal 14 negated. It is measured before it is written, so a refusal leaves every byte.
-pub fn list<'a>(
-    rank: usize,
-    operands: usize,
-    e: &'a [u64; 64],
-    b: &'a [u64; 64],
-    s: &'a [i64; 512],
-    room: &mut [u8],
-) -> i64
-    requires { Printable (plan_of rank operands e.now b.now s.now) }
-    ensures value { result ≡ (listed_in (plan_of rank operands e.now b.now s.now) room.old).answer }
-    ensures room_after { room.new ≡ (listed_in (plan_of rank operands e.now b.now s.now) room.old).room }
+// THE OUTPUT WHERE IT HAS ROOM: its length, or refusal 14. It is measured before it is written, so a refusal leaves every byte.
+pub fn list(plan: &LentPlan, room: &mut [u8]) -> Result<usize, Refusal>
+    requires { Printable plan.now }
+    ensures { record { answer = result; room = room.new } ≡ listed_in plan.now room.old }
 {
-    let Some(n) = measure(rank, operands, e, b, s, room.len()) else {
-        return negated(Refusal::Room);
+    let Some(n) = measure(plan, room.len()) else {
+        return Err(Refusal::Room);
     };
-    write(rank, operands, e, b, s, room);
-    n as i64
+    write(plan, room);
+    Ok(n)
 }

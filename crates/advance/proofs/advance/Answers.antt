@@ -1,4 +1,8 @@
 -- `advance::advance` meets its contract. Assumes nothing.
+use mathlib.Core.Bool.{false}
+use mathlib.Core.Path.{subst}
+use Rattle.strided.specs.declared.Plan.{Plan}
+use Rattle.advance.specs.Carry.{CarriedTo}
 use Rattle.advance.proofs.Turns.{inside_done, tile_done}
 use Rattle.advance.proofs.advance.Goals as goal
 
@@ -7,4 +11,6 @@ returns-then-carry c = rw c.if-carry.true (inside_done c.requires.single c.carry
 
 pub returns-else-carry : goal.returns-else-carry
 returns-else-carry c =
-    tile_done c.requires.single c.carry.ensures c.if-carry.false c.carry-else-carry.ensures
+    let x = c.carry-else-carry in
+    tile_done c.requires.single c.carry.ensures c.if-carry.false
+    (subst (λ (q : Plan). CarriedTo false 0 q.rank c.args.plan.now c.args.w.now c.carry.new.at x.result x.new.at) c.plan.view_is x.ensures)

@@ -9,15 +9,16 @@ use native.Mathlib.Omega.{arith}
 use borrow.Author.Tests.{eq-eqb}
 use Rattle.advance.proofs.length_of.Goals as goal
 
-pub returns-then-rank-eq0 : goal.returns-then-rank-eq0
+pub returns-then-plan-eq0 : goal.returns-then-plan-eq0
 unfolding length_of
-returns-then-rank-eq0 c = simp (eq-eqb _ _ c.if-rank-eq0.true)
+returns-then-plan-eq0 c = rw (← c.plan.view_is) (simp (eq-eqb _ _ c.if-plan-eq0.true))
 
 pub returns : goal.returns
 returns c =
     let a = c.args in
     let size : ℕ = get_or a.w.now 0 0 in
-    let left : ℕ = get_or a.e.now 0 0 - get_or a.c.now 0 0 in
-    by_lt size left
-    (λ (l : size < left). let m : c.min.result ≡ size = omega (arith, c.min.ensures) in m ∙ length_cut _ _ _ _ c.if-rank-eq0.false l)
-    (λ (l : left ≤ size). let m : c.min.result ≡ left = omega (arith, c.min.ensures) in m ∙ length-left _ _ _ _ c.if-rank-eq0.false l)
+    let left : ℕ = get_or c.plan.inside.extents.now 0 0 - get_or a.c.now 0 0 in
+    rw (← c.plan.view_is)
+    (by_lt size left
+    (λ (l : size < left). let m : c.min.result ≡ size = omega (arith, c.min.ensures) in m ∙ length_cut _ _ _ c.if-plan-eq0.false l)
+    (λ (l : left ≤ size). let m : c.min.result ≡ left = omega (arith, c.min.ensures) in m ∙ length-left _ _ _ c.if-plan-eq0.false l))

@@ -8,9 +8,10 @@ use lib.ListN.{get_or}
 use mathlib.Core.List.{List}
 use mir.Facts.{to_z-of_z}
 use Rattle.advance.proofs.Signed.{moves_read, after_read}
-use Rattle.advance.proofs.Dot.{unmoved_at}
+use Rattle.advance.proofs.Dot.{unmoved_plan}
 use Rattle.advance.specs.Filled.{filled_none, filled_more, filled_above}
-use Prim.Native.Nat.{ℕ, zero-le, ◌≤◌, ◌+◌, ◌*◌}
+use Prim.Native.Nat.{ℕ, zero-le, ◌≤◌, ◌<◌, ◌+◌, ◌*◌}
+use Rattle.strided.specs.declared.Plan.{Plan}
 use Rattle.advance.specs.Moves.{moved_at, after_move, Moves}
 use Rattle.advance.proofs.shift.Goals as goal
 use mir.Syntax.{w64}
@@ -18,7 +19,7 @@ use mir.Syntax.{w64}
 pub returns-then-from-to : goal.returns-then-from-to
 returns-then-from-to c =
     let a = c.args in
-    unmoved_at a.operands a.axis a.from a.to a.s.now a.o.now (subst (λ (n : ℕ). a.operands ≤ n) (sym c.requires.offered) c.requires.few) c.if-from-to.true
+    unmoved_plan a.plan.now a.axis a.from a.to a.o.now (subst (λ (n : ℕ). a.plan.now.operands ≤ n) (sym c.requires.offered) c.requires.few) c.if-from-to.true
 
 pub loop-k-init : goal.loop-k-init
 loop-k-init c = (zero-le, filled_none _ _)
@@ -27,19 +28,24 @@ pub moved-requires : goal.moved-requires
 moved-requires c =
     let a = c.args in
     let k = c.loop-k.k in
+    let p = a.plan.now in
     moves_read _ _ _ _ (search rules) (search rules)
-    (subst (λ (z : ℤ). Moves z (get_or a.s.now (k * 64 + a.axis) (pos 0)) a.from a.to)
-    (sym (ap (λ (l : List ℤ). get_or l k (pos 0)) c.loop-k.invariant.1 ∙ filled_above a.o.now (moved_at a.axis a.from a.to a.s.now a.o.now) (pos 0) k k (le_refl k)))
-    (c.requires.each k c.loop-k-test.true))
+    (subst (λ (z : ℤ). Moves z (get_or c.plan.inside.strides.now (k * 64 + a.axis) (pos 0)) a.from a.to)
+    (sym (ap (λ (l : List ℤ). get_or l k (pos 0)) c.loop-k.invariant.1 ∙ filled_above a.o.now (moved_at a.axis a.from a.to p.strides a.o.now) (pos 0) k k (le_refl k)))
+    (subst (λ (q : Plan). Moves (get_or a.o.now k (pos 0)) (get_or q.strides (k * 64 + a.axis) (pos 0)) a.from a.to) (sym c.plan.view_is)
+    (c.requires.each k (subst (λ (q : Plan). k < q.operands) c.plan.view_is c.loop-k-test.true))))
 
 pub loop-k-preserved : goal.loop-k-preserved
 loop-k-preserved c =
     let a = c.args in
     let k = c.loop-k.k in
+    let p = a.plan.now in
+    let s = c.plan.inside.strides.now in
     let e = c.loop-k.invariant.1 in (
-      omega arith,
-      filled_more a.o.now (moved_at a.axis a.from a.to a.s.now a.o.now) k _ _ e
+      subst (λ (q : Plan). k + 1 ≤ q.operands) c.plan.view_is (omega arith),
+      filled_more a.o.now (moved_at a.axis a.from a.to p.strides a.o.now) k _ _ e
           (to_z-of_z {w = w64} (sfits_of c.moved.type_inv) ∙ c.moved.ensures ∙ after_read _ _ _ _ (search rules) (search rules)
-          ∙ ap (λ (z : ℤ). after_move z (get_or a.s.now (k * 64 + a.axis) (pos 0)) a.from a.to)
-          (ap (λ (l : List ℤ). get_or l k (pos 0)) e ∙ filled_above a.o.now (moved_at a.axis a.from a.to a.s.now a.o.now) (pos 0) k k (le_refl k))),
+          ∙ ap (λ (z : ℤ). after_move z (get_or s (k * 64 + a.axis) (pos 0)) a.from a.to)
+          (ap (λ (l : List ℤ). get_or l k (pos 0)) e ∙ filled_above a.o.now (moved_at a.axis a.from a.to p.strides a.o.now) (pos 0) k k (le_refl k))
+          ∙ ap (λ (q : Plan). after_move (get_or a.o.now k (pos 0)) (get_or q.strides (k * 64 + a.axis) (pos 0)) a.from a.to) c.plan.view_is),
     )

@@ -5,4 +5,4 @@ use mathlib.Core.Path.{◌≡◌}
 use Rattle.advance.proofs.widths_into.Given as goal
 
 abbrev pub invariant-loop-i : goal.invariant-loop-i
-invariant-loop-i l = (l.i ≤ l.rank) × (l.w ≡ widths_to l.rank l.e l.b l.i)
+invariant-loop-i l = (l.i ≤ l.plan.rank) × (l.w ≡ widths_to l.plan l.i)

@@ -2,10 +2,10 @@
 use mathlib.Core.Path.{◌≡◌}
 use mathlib.Core.List.{◌++◌}
 use Prim.Native.Nat.{◌≤◌}
-use lib.ListN.{take, drop}
+use lib.ListN.{length, take, drop}
 use Rattle.strided.specs.Base.{padded}
 use Rattle.strided.specs.Order.{pick}
 use Rattle.arrange.proofs.pick_into.Given as goal
 
 abbrev pub invariant-loop-j : goal.invariant-loop-j
-invariant-loop-j l = (l.j ≤ l.count) × (l.out ≡ padded 64 0 (take l.j (pick 0 l.xs (take l.count l.order)) ++ drop l.j (take l.count l.initial.out)))
+invariant-loop-j l = (l.j ≤ length l.order) × (l.out ≡ padded 64 0 (take l.j (pick 0 l.xs l.order) ++ drop l.j (take (length l.order) l.initial.out)))

@@ -1,10 +1,8 @@
 -- `arrange::pick_strides_into` meets its contract. The invariant: the rows of the first k operands are in the table. Assumes nothing.
 use mathlib.Core.Path.{◌≡◌, ap, ◌∙◌}
-use Prim.Native.Nat.{ℕ, ◌+◌, ◌*◌, ◌≤◌}
-use native.Mathlib.Nat.{mul-le-mul_right}
+use Prim.Native.Nat.{ℕ}
 use native.Mathlib.Omega.{arith}
 use lib.IntN.{pos}
-use lib.ListN.{take}
 use Rattle.strided.specs.Base.{padded}
 use Rattle.laws.specs.Fuse.Arrays.{pick_rows}
 use Rattle.laws.specs.Base.Filling.{fill_none}
@@ -15,12 +13,12 @@ loop-k-init c = (omega arith, c.requires.table ∙ fill_none 512 (pos 0))
 
 pub put_row-requires : goal.put_row-requires
 put_row-requires c =
-    let rows : (c.loop-k.k + 1) * c.args.pitch ≤ c.args.operands * c.args.pitch = mul-le-mul_right c.args.pitch (omega (arith, c.loop-k-test)) in record { table = c.loop-k.invariant.1; operand = (omega (arith, c.loop-k-test, c.requires.operands.0), omega (arith, rows, c.requires.operands.1)); order = c.requires.order; inside = c.requires.inside }
+    record { table = c.loop-k.invariant.1; operand = (omega (arith, c.loop-k-test, c.requires.operands), c.loop-k-test.true); few = c.requires.few; inside = c.requires.inside }
 
 pub loop-k-preserved : goal.loop-k-preserved
 loop-k-preserved c = (omega (arith, c.loop-k-test), c.put_row.ensures)
 
 pub returns : goal.returns
 returns c =
-    let e : c.loop-k.k ≡ c.args.operands = omega (arith, c.loop-k-test) in
-    c.loop-k.invariant.1 ∙ ap (λ (m : ℕ). padded 512 (pos 0) (pick_rows c.args.strides.now c.args.pitch (take c.args.count c.args.order.now) m)) e
+    let e : c.loop-k.k ≡ c.args.rows.operands = omega (arith, c.loop-k-test) in
+    c.loop-k.invariant.1 ∙ ap (λ (m : ℕ). padded 512 (pos 0) (pick_rows c.args.rows.strides.now c.args.rows.pitch c.args.order.now m)) e

@@ -2,11 +2,11 @@
 use mathlib.Core.Path.{◌≡◌}
 use mathlib.Core.List.{◌++◌}
 use Prim.Native.Nat.{◌≤◌}
-use lib.ListN.{take}
+use lib.ListN.{length, take}
 use lib.IntN.{pos}
 use Rattle.strided.specs.Base.{padded}
 use Rattle.laws.specs.Fuse.Arrays.{pick_row, pick_rows}
 use Rattle.arrange.proofs.put_row.Given as goal
 
 abbrev pub invariant-loop-j : goal.invariant-loop-j
-invariant-loop-j l = (l.j ≤ l.count) × (l.table ≡ padded 512 (pos 0) (pick_rows l.strides l.pitch (take l.count l.order) l.k ++ take l.j (pick_row l.strides l.pitch (take l.count l.order) l.k)))
+invariant-loop-j l = (l.j ≤ length l.order) × (l.table ≡ padded 512 (pos 0) (pick_rows l.rows.strides.now l.rows.pitch l.order l.k ++ take l.j (pick_row l.rows.strides.now l.rows.pitch l.order l.k)))

@@ -11,31 +11,31 @@ use Rattle.block.proofs.+compute_blocks_at.Goals as goal
 pub returns-then-tail : goal.returns-then-tail
 returns-then-tail t c =
     let a = c.args in
-    sym (cut_empty a.machine.numbers a.bytes.now a.tail.operands a.costs.now a.table.now a.tail.offset a.tail.rank a.blocks.now c.if-tail.true)
+    sym (cut_empty a.tail.machine.numbers a.tail.bytes.now a.tail.operands a.costs.now a.ranks.now a.tail.offset a.tail.rank a.blocks.now c.if-tail.true)
 
-pub returns-then-memory_region-machine : goal.returns-then-memory_region-machine
-returns-then-memory_region-machine t c =
+pub returns-then-memory_region-tail : goal.returns-then-memory_region-tail
+returns-then-memory_region-tail t c =
     let a = c.args in
-    let small : region a.machine.numbers a.bytes.now a.tail.operands a.blocks.now a.tail.offset (axes a.tail) ≤ a.machine.numbers.cache = omega arith in
-    sym (cut_fits a.machine.numbers a.bytes.now a.tail.operands a.costs.now a.table.now a.tail.offset a.tail.rank a.blocks.now (omega arith) small)
+    let small : region a.tail.machine.numbers a.tail.bytes.now a.tail.operands a.blocks.now a.tail.offset (axes a.tail) ≤ a.tail.machine.numbers.cache = omega arith in
+    sym (cut_fits a.tail.machine.numbers a.tail.bytes.now a.tail.operands a.costs.now a.ranks.now a.tail.offset a.tail.rank a.blocks.now (omega arith) small)
 
 pub returns-then-keeps_first : goal.returns-then-keeps_first
 returns-then-keeps_first t c =
     let a = c.args in
     c.compute_blocks_at.ensures
-    ∙ sym (cut_keeps a.machine.numbers a.bytes.now a.tail.operands a.costs.now a.table.now a.tail.offset a.tail.rank a.blocks.now (omega arith) (omega arith)
+    ∙ sym (cut_keeps a.tail.machine.numbers a.tail.bytes.now a.tail.operands a.costs.now a.ranks.now a.tail.offset a.tail.rank a.blocks.now (omega arith) (omega arith)
     (sym c.keeps_first.ensures ∙ c.if-keeps_first.true))
 
-pub returns-then-machine-from : goal.returns-then-machine-from
-returns-then-machine-from t c =
+pub returns-then-tail-from : goal.returns-then-tail-from
+returns-then-tail-from t c =
     let a = c.args in
     c.set_ones.ensures
-    ∙ sym (cut_flat a.machine.numbers a.bytes.now a.tail.operands a.costs.now a.table.now a.tail.offset a.tail.rank a.blocks.now (omega arith) (omega arith)
-    (sym c.keeps_first.ensures ∙ c.if-keeps_first.false) (subst (λ (x : ℕ). a.machine.numbers.cache < x) (c.from.ensures ∙ c.least_byte.ensures) c.if-machine-from.true))
+    ∙ sym (cut_flat a.tail.machine.numbers a.tail.bytes.now a.tail.operands a.costs.now a.ranks.now a.tail.offset a.tail.rank a.blocks.now (omega arith) (omega arith)
+    (sym c.keeps_first.ensures ∙ c.if-keeps_first.false) (subst (λ (x : ℕ). a.tail.machine.numbers.cache < x) (c.from.ensures ∙ c.least_byte.ensures) c.if-tail-from.true))
 
 pub returns : goal.returns
 returns t c =
     let a = c.args in
     c.shrink.ensures
-    ∙ sym (cut_less a.machine.numbers a.bytes.now a.tail.operands a.costs.now a.table.now a.tail.offset a.tail.rank a.blocks.now (omega arith) (omega arith)
-    (sym c.keeps_first.ensures ∙ c.if-keeps_first.false) (subst (λ (x : ℕ). x ≤ a.machine.numbers.cache) (c.from.ensures ∙ c.least_byte.ensures) c.if-machine-from.false))
+    ∙ sym (cut_less a.tail.machine.numbers a.tail.bytes.now a.tail.operands a.costs.now a.ranks.now a.tail.offset a.tail.rank a.blocks.now (omega arith) (omega arith)
+    (sym c.keeps_first.ensures ∙ c.if-keeps_first.false) (subst (λ (x : ℕ). x ≤ a.tail.machine.numbers.cache) (c.from.ensures ∙ c.least_byte.ensures) c.if-tail-from.false))

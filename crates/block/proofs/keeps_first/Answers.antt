@@ -13,25 +13,25 @@ use Rattle.block.proofs.keeps_first.Invariants.{firstIs}
 pub loop-k-init : goal.loop-k-init
 loop-k-init c = every_none _
 
-pub returns-then-table-k : goal.returns-then-table-k
+pub returns-then-ranked-k : goal.returns-then-ranked-k
 unfolding keeps_first
-returns-then-table-k c = let a = c.args in
+returns-then-ranked-k c = let a = c.args in
     let l = c.loop-k in
     let q = c.least_rank-m in
-    sym (ap (λ (m : ℕ). every (firstIs a.table.now a.tail.offset m) 0 a.tail.operands) (sym q.ensures)
-    ∙ every_fails_at (firstIs a.table.now a.tail.offset q.result) 0 l.k a.tail.operands (omega arith) (omega arith) (ne_eqb _ _ c.if-table-k.true))
+    sym (ap (λ (m : ℕ). every (firstIs a.ranked.ranks.now a.ranked.tail.offset m) 0 a.ranked.tail.operands) (sym q.ensures)
+    ∙ every_fails_at (firstIs a.ranked.ranks.now a.ranked.tail.offset q.result) 0 l.k a.ranked.tail.operands (omega arith) (omega arith) (ne_eqb _ _ c.if-ranked-k.true))
 
 pub loop-k-preserved : goal.loop-k-preserved
 loop-k-preserved c = let a = c.args in
     let l = c.loop-k in
     let m : ℕ = c.least_rank-m.result in
-    every_more (firstIs a.table.now a.tail.offset m) l.k (eq-eqb _ _ c.if-table-k.false) ∙ l.invariant
+    every_more (firstIs a.ranked.ranks.now a.ranked.tail.offset m) l.k (eq-eqb _ _ c.if-ranked-k.false) ∙ l.invariant
 
 pub returns : goal.returns
 unfolding keeps_first
 returns c = let a = c.args in
     let l = c.loop-k in
     let q = c.least_rank-m in
-    let e : l.k ≡ a.tail.operands = omega arith in
-    sym (ap (λ (m : ℕ). every (firstIs a.table.now a.tail.offset m) 0 a.tail.operands) (sym q.ensures)
-    ∙ ap (every (firstIs a.table.now a.tail.offset q.result) 0) (sym e) ∙ l.invariant)
+    let e : l.k ≡ a.ranked.tail.operands = omega arith in
+    sym (ap (λ (m : ℕ). every (firstIs a.ranked.ranks.now a.ranked.tail.offset m) 0 a.ranked.tail.operands) (sym q.ensures)
+    ∙ ap (every (firstIs a.ranked.ranks.now a.ranked.tail.offset q.result) 0) (sym e) ∙ l.invariant)

@@ -14,12 +14,12 @@ loop-k-init c = c.least_byte_at-m.ensures ∙ sym (least_first _)
 pub loop-k-preserved : goal.loop-k-preserved
 loop-k-preserved c = let a = c.args in
     let l = c.loop-k in
-    let st = least_more (leastOf a.bytes.now a.tail.offset a.tail.rank) l.k l.auto.k in
+    let st = least_more (leastOf a.ranked.tail.bytes.now a.ranked.tail.offset a.ranked.tail.rank) l.k l.auto.k in
     omega (arith, c.min-m.ensures, c.least_byte_at.ensures)
 
 pub returns : goal.returns
 unfolding least_byte
 returns c = let a = c.args in
     let l = c.loop-k in
-    let e : l.k ≡ a.tail.operands = omega arith in
-    l.invariant ∙ ap (least (leastOf a.bytes.now a.tail.offset a.tail.rank) 0) e
+    let e : l.k ≡ a.ranked.tail.operands = omega arith in
+    l.invariant ∙ ap (least (leastOf a.ranked.tail.bytes.now a.ranked.tail.offset a.ranked.tail.rank) 0) e

@@ -11,4 +11,4 @@ abbrev pub leastOf : List ℕ → ℕ → ℕ → ℕ → ℕ
 leastOf bytes offset rank j = least (byte_at bytes j) offset (rank - offset)
 
 abbrev pub invariant-loop-k : goal.invariant-loop-k
-invariant-loop-k l = (l.m ≡ least (leastOf l.bytes l.fn.tail.offset l.fn.tail.rank) 0 l.k)
+invariant-loop-k l = (l.m ≡ least (leastOf l.fn.ranked.tail.bytes.now l.fn.ranked.tail.offset l.fn.ranked.tail.rank) 0 l.k)

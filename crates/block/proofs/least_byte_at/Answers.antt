@@ -14,11 +14,11 @@ loop-i-init c = sym (least-one _ _)
 pub loop-i-preserved : goal.loop-i-preserved
 loop-i-preserved c = let a = c.args in
     let l = c.loop-i in
-    let st = least_step (byte_at a.bytes.now a.k) a.tail.offset l.i (omega arith) in
+    let st = least_step (byte_at a.ranked.tail.bytes.now a.k) a.ranked.tail.offset l.i (omega arith) in
     omega (arith, c.min-m.ensures)
 
 pub returns : goal.returns
 returns c = let a = c.args in
     let l = c.loop-i in
-    let e : l.i ≡ a.tail.rank = omega arith in
-    l.invariant ∙ ap (λ (i : ℕ). least (byte_at a.bytes.now a.k) a.tail.offset (i - a.tail.offset)) e
+    let e : l.i ≡ a.ranked.tail.rank = omega arith in
+    l.invariant ∙ ap (λ (i : ℕ). least (byte_at a.ranked.tail.bytes.now a.k) a.ranked.tail.offset (i - a.ranked.tail.offset)) e

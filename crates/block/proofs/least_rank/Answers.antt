@@ -9,17 +9,17 @@ use Rattle.block.proofs.least_rank.Goals as goal
 use Rattle.block.proofs.least_rank.Invariants.{leastOf}
 
 pub loop-k-init : goal.loop-k-init
-loop-k-init c = c.least_in_row-m.ensures ∙ sym (least_first _)
+loop-k-init c = c.least_rank_at-m.ensures ∙ sym (least_first _)
 
 pub loop-k-preserved : goal.loop-k-preserved
 loop-k-preserved c = let a = c.args in
     let l = c.loop-k in
-    let st = least_more (leastOf a.table.now a.tail.offset a.tail.rank) l.k l.auto.k in
-    omega (arith, c.min-m.ensures, c.least_in_row.ensures)
+    let st = least_more (leastOf a.ranked.ranks.now a.ranked.tail.offset a.ranked.tail.rank) l.k l.auto.k in
+    omega (arith, c.min-m.ensures, c.least_rank_at.ensures)
 
 pub returns : goal.returns
 unfolding least_rank
 returns c = let a = c.args in
     let l = c.loop-k in
-    let e : l.k ≡ a.tail.operands = omega arith in
-    l.invariant ∙ ap (least (leastOf a.table.now a.tail.offset a.tail.rank) 0) e
+    let e : l.k ≡ a.ranked.tail.operands = omega arith in
+    l.invariant ∙ ap (least (leastOf a.ranked.ranks.now a.ranked.tail.offset a.ranked.tail.rank) 0) e

@@ -11,4 +11,4 @@ abbrev pub leastOf : List (List ℕ) → ℕ → ℕ → ℕ → ℕ
 leastOf ranks offset rank j = least (rank_at ranks j) offset (rank - offset)
 
 abbrev pub invariant-loop-k : goal.invariant-loop-k
-invariant-loop-k l = (l.m ≡ least (leastOf l.table l.fn.tail.offset l.fn.tail.rank) 0 l.k)
+invariant-loop-k l = (l.m ≡ least (leastOf l.fn.ranked.ranks.now l.fn.ranked.tail.offset l.fn.ranked.tail.rank) 0 l.k)

@@ -1,6 +1,6 @@
 -- `bulk::put_blocks` meets its contract. Assumes nothing.
 use Rattle.bulk.proofs.Turns.{turned_none, count_some, count_fits, may-put, turned-next, wrote_last, wrote_full, strode_past, kept_asks, kept_passed}
-use Rattle.walk.proofs.Stepping.{axes-few, widths_here}
+use Rattle.walk.proofs.Stepping.{widths_here}
 use Rattle.walker.proofs.Walked.{may_move, walked_asks, walked_tells}
 use native.Mathlib.Nat.{le_antisymm}
 use native.Mathlib.Omega.{arith}
@@ -13,14 +13,12 @@ use Rattle.bulk.proofs.put_blocks.Goals.{else-not-hop-via-then-not-hop+else-not-
 pub moves_of-d-requires : goal.moves_of-d-requires
 moves_of-d-requires c = may_move c.widths-w.ensures c.way_of-y.ensures c.requires.taken
 
-pub tile_starts-t-requires : goal.tile_starts-t-requires
-tile_starts-t-requires c =
-    let k = c.requires.taken in
-    (axes-few _ _ k, widths_here _ _ k _ c.widths-w.ensures)
+pub tile_starts-requires : goal.tile_starts-requires
+tile_starts-requires c = widths_here _ _ c.requires.taken _ c.widths-w.ensures
 
 pub loop-n-init : goal.loop-n-init
 loop-n-init c =
-    (omega arith, turned_none c.widths-w.ensures c.way_of-y.ensures c.requires.taken c.tile_starts-t.ensures)
+    (omega arith, turned_none c.widths-w.ensures c.way_of-y.ensures c.requires.taken c.tile_starts.ensures)
 
 pub stretch_here-x-requires : goal.stretch_here-x-requires
 stretch_here-x-requires c = walked_tells c.loop-n.invariant.1.walked
@@ -54,9 +52,9 @@ loop-n-preserved c =
     let n = count_fits c.loop-n.invariant.1 c.requires.has_room c.loop-n-test.true a.0 c.min-count.ensures in
     elim c.else-not-hop.branch [
       | else-not-hop-via-then-not-hop+else-not-go_behind w ↦
-          rw (w.t-is, w.c-is, w.o-is) (n, turned-next c.loop-n.invariant.1 c.requires.has_room c.loop-n-test.true (strode_past a.0 a.1 c.min-count.ensures (kept_passed (w.if-not-hop.ensures.kept refl) w.if-not-go_behind.ensures)) c.moves_of-d.ensures c.put_lengths.ensures c.put_rows.ensures refl)
+          rw w.at-is (n, turned-next c.loop-n.invariant.1 c.requires.has_room c.loop-n-test.true (strode_past a.0 a.1 c.min-count.ensures (kept_passed (w.if-not-hop.ensures.kept refl) w.if-not-go_behind.ensures)) c.moves_of-d.ensures c.put_lengths.ensures c.put_rows.ensures refl)
       | else-not-hop-via-else-not-hop w ↦
-          rw (w.t-is, w.c-is, w.o-is) (n, turned-next c.loop-n.invariant.1 c.requires.has_room c.loop-n-test.true (strode_past a.0 a.1 c.min-count.ensures (w.if-not-hop.ensures.past refl)) c.moves_of-d.ensures c.put_lengths.ensures c.put_rows.ensures refl)
+          rw w.at-is (n, turned-next c.loop-n.invariant.1 c.requires.has_room c.loop-n-test.true (strode_past a.0 a.1 c.min-count.ensures (w.if-not-hop.ensures.past refl)) c.moves_of-d.ensures c.put_lengths.ensures c.put_rows.ensures refl)
     ]
 
 pub returns : goal.returns

@@ -1,13 +1,13 @@
 -- The invariants of `put_blocks`.
 use Rattle.bulk.proofs.Turns.{Turned}
-use Rattle.strided.specs.Memory.{plan_of, walk_of}
+use Rattle.strided.specs.Memory.{walk_of}
 use Prim.Native.Nat.{◌-◌, ◌≤◌}
 use mathlib.Core.Bool.{false}
 use Rattle.bulk.proofs.put_blocks.Given as goal
 
 abbrev pub invariant-loop-n : goal.invariant-loop-n
 invariant-loop-n l =
-    (l.n ≤ l.most) × Turned (plan_of l.rank l.operands l.e l.b l.s) (walk_of false l.initial.c l.initial.o) l.y l.w l.initial.lengths l.initial.offsets l.n l.t l.c l.o l.lengths l.offsets
+    (l.n ≤ l.most) × Turned l.plan (walk_of false l.initial.at.counters l.initial.at.offsets) l.y l.w l.initial.lengths l.initial.offsets l.n l.at l.lengths l.offsets
 
 abbrev pub decreases-loop-n : goal.decreases-loop-n
 decreases-loop-n l = l.most - l.n

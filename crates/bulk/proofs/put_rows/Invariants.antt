@@ -8,4 +8,4 @@ use Rattle.bulk.proofs.put_rows.Given as goal
 
 abbrev pub invariant-loop-j : goal.invariant-loop-j
 invariant-loop-j l =
-    (l.j ≤ l.count) × (length l.offsets ≡ length l.initial.offsets) × (l.offsets ≡ paste l.initial.offsets (l.at * l.operands) (rows_for l.j l.operands l.d l.o) (l.j * l.operands))
+    (l.j ≤ l.blocks) × (length l.offsets ≡ length l.initial.offsets) × (l.offsets ≡ paste l.initial.offsets (l.at * l.plan.operands) (rows_for l.j l.plan.operands l.d l.o) (l.j * l.plan.operands))

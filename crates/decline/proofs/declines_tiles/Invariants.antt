@@ -6,4 +6,4 @@ use Rattle.decline.proofs.Passes.{unshared}
 use Rattle.decline.proofs.declines_tiles.Given as goal
 
 abbrev pub invariant-loop-k : goal.invariant-loop-k
-invariant-loop-k l = (every (unshared l.machine.numbers l.sizes l.strides l.extents l.cut l.rank) 0 l.k ≡ true)
+invariant-loop-k l = (every (unshared l.machine.numbers l.axes l.cut) 0 l.k ≡ true)

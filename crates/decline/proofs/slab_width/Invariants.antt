@@ -7,4 +7,4 @@ use Rattle.laws.specs.Cut.Tables.{stride_size}
 use Rattle.decline.proofs.slab_width.Given as goal
 
 abbrev pub invariant-loop-i : goal.invariant-loop-i
-invariant-loop-i l = (l.w ≡ 1 + sum (way_of (stride_size l.strides l.k) l.extents) 0 l.i)
+invariant-loop-i l = (l.w ≡ 1 + sum (way_of (stride_size l.operand.axes.strides.now l.operand.k) l.operand.axes.extents.now) 0 l.i)

@@ -9,10 +9,10 @@ use Rattle.decline.proofs.way_at.Goals as goal
 pub overflow_mul-result : goal.overflow_mul-result
 overflow_mul-result c =
     -- the product is what the axis spans
-    let the-way : let a = c.args in c.saturating_sub.result * c.stride_size.result ≡ way_of (stride_size a.strides.now a.k) a.extents.now a.i = ap₂ (λ (x y : ℕ). x * y) c.saturating_sub.ensures c.stride_size.ensures in
+    let the-way : let a = c.args in c.saturating_sub.result * c.stride_size.result ≡ way_of (stride_size a.operand.axes.strides.now a.operand.k) a.operand.axes.extents.now a.i = ap₂ (λ (x y : ℕ). x * y) c.saturating_sub.ensures c.stride_size.ensures in
     omega (arith, the-way, c.requires.1)
 
 pub returns : goal.returns
 returns c =
-    let the-way : let a = c.args in c.saturating_sub.result * c.stride_size.result ≡ way_of (stride_size a.strides.now a.k) a.extents.now a.i = ap₂ (λ (x y : ℕ). x * y) c.saturating_sub.ensures c.stride_size.ensures in
+    let the-way : let a = c.args in c.saturating_sub.result * c.stride_size.result ≡ way_of (stride_size a.operand.axes.strides.now a.operand.k) a.operand.axes.extents.now a.i = ap₂ (λ (x y : ℕ). x * y) c.saturating_sub.ensures c.stride_size.ensures in
     the-way

@@ -5,26 +5,26 @@ use native.Mathlib.Omega.{arith}
 use lib.IntN.{pos, nat_abs}
 use lib.ListN.{get_or, replicate, length-replicate}
 use Rattle.std.proofs.Common.{rules}
+use Rattle.laws.specs.Refusals.Zeros.{no_zero_of}
 use Rattle.distinct.proofs.Layouts.{behind_starts, behind_ready, behind_more, behind_one, behind_folds, behind_ends, shared_true, shared_false}
 use Rattle.distinct.proofs.many_repeat.Goals as goal
 use Rattle.distinct.proofs.many_repeat.Goals.{After-unsigned_abs}
 
 -- the size of the axis's stride
-size_is : (c : After-unsigned_abs) → c.unsigned_abs.result ≡ nat_abs (get_or c.args.strides.now (c.loop-i.i - 1) (pos 0))
+size_is : (c : After-unsigned_abs) → c.unsigned_abs.result ≡ nat_abs (get_or c.args.operand.strides.now (c.loop-i.i - 1) (pos 0))
 size_is c = search rules
 
 pub loop-i-init : goal.loop-i-init
 loop-i-init c =
     let long = length-replicate {A = ℕ} 4096 0 in
-    (behind_starts 4096 c.args.extents.now c.args.strides.now (replicate 4096 0) c.requires.strides_len.0 long refl, long, ((λ y q. absurd q), tt))
+    (behind_starts 4096 c.args.operand.extents.now c.args.operand.strides.now (replicate 4096 0) c.args.operand.sound.paired long refl, long, ((λ y q. absurd q), tt))
 
 pub spread-requires : goal.spread-requires
 spread-requires c =
-    let s = c.requires.strides_len in
-    let b = c.requires.extents_bound in
+    let s = c.args.operand.sound in
     let v = c.loop-i.invariant in
     let size = size_is (goal.at.spread-requires c).After-unsigned_abs in
-    let r = behind_ready 4096 _ _ s.0 s.1 b.0 b.1 _ _ _ v.0 c.loop-i-test.true in
+    let r = behind_ready 4096 _ _ s.paired (no_zero_of _ s.some) c.requires s.near _ _ _ v.0 c.loop-i-test.true in
     record {
       extent_nonzero = (r.some, r.room, rw size r.high, record { long = omega (arith, r.long, v.0.long); rising = v.2; below = rw size r.low });
       list_len = (v.0.long, v.1);
@@ -32,11 +32,10 @@ spread-requires c =
 
 pub loop-i-preserved-then-extent-gt1 : goal.loop-i-preserved-then-extent-gt1
 loop-i-preserved-then-extent-gt1 c =
-    let s = c.requires.strides_len in
-    let b = c.requires.extents_bound in
+    let s = c.args.operand.sound in
     let k = c.spread in
     let size = size_is (goal.at.loop-i-preserved-then-extent-gt1 c).After-unsigned_abs in (
-      behind_more 4096 _ _ s.0 s.1 b.0 b.1 _ _ _ c.loop-i.invariant.0 c.loop-i-test.true k.new.list k.ensures.list_len_2.0
+      behind_more 4096 _ _ s.paired (no_zero_of _ s.some) c.requires s.near _ _ _ c.loop-i.invariant.0 c.loop-i-test.true k.new.list k.ensures.list_len_2.0
           (rw size at (k.ensures.spreading.listed c.if-not-spread.false)),
       k.ensures.list_len_2.1,
       k.ensures.rising c.if-not-spread.false,
@@ -44,20 +43,17 @@ loop-i-preserved-then-extent-gt1 c =
 
 pub returns-then-not-spread : goal.returns-then-not-spread
 returns-then-not-spread c =
-    let s = c.requires.strides_len in
-    let b = c.requires.extents_bound in
+    let s = c.args.operand.sound in
     let size = size_is (goal.at.returns-then-not-spread c).After-unsigned_abs in
-    shared_true (behind_folds 4096 _ _ s.0 s.1 b.0 b.1 _ _ _ c.loop-i.invariant.0 c.loop-i-test.true (rw size at (c.spread.ensures.spreading.fold c.if-not-spread.true)))
+    shared_true (behind_folds 4096 _ _ s.paired (no_zero_of _ s.some) c.requires s.near _ _ _ c.loop-i.invariant.0 c.loop-i-test.true (rw size at (c.spread.ensures.spreading.fold c.if-not-spread.true)))
 
 pub loop-i-preserved : goal.loop-i-preserved
 loop-i-preserved c =
-    let s = c.requires.strides_len in
-    let b = c.requires.extents_bound in
+    let s = c.args.operand.sound in
     let v = c.loop-i.invariant in
-    (behind_one 4096 _ _ s.0 s.1 b.0 b.1 _ _ _ v.0 c.loop-i-test.true c.if-extent-gt1.false, v.1, v.2)
+    (behind_one 4096 _ _ s.paired (no_zero_of _ s.some) c.requires s.near _ _ _ v.0 c.loop-i-test.true c.if-extent-gt1.false, v.1, v.2)
 
 pub returns : goal.returns
 returns c =
-    let s = c.requires.strides_len in
-    let b = c.requires.extents_bound in
-    shared_false (behind_ends 4096 _ _ s.0 s.1 b.0 b.1 _ _ _ c.loop-i.invariant.0 c.loop-i-test.false)
+    let s = c.args.operand.sound in
+    shared_false (behind_ends 4096 _ _ s.paired (no_zero_of _ s.some) c.requires s.near _ _ _ c.loop-i.invariant.0 c.loop-i-test.false)

@@ -6,4 +6,4 @@ use Rattle.distinct.proofs.Layouts.{Behind}
 use Rattle.distinct.proofs.many_repeat.Given as goal
 
 abbrev pub invariant-loop-i : goal.invariant-loop-i
-invariant-loop-i l = Behind 4096 l.extents l.strides l.list l.n l.i × (length l.spare ≡ 4096) × Rising (take l.n l.list)
+invariant-loop-i l = Behind 4096 l.operand.extents.now l.operand.strides.now l.list l.n l.i × (length l.spare ≡ 4096) × Rising (take l.n l.list)

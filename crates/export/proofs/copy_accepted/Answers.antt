@@ -14,15 +14,8 @@ use Rattle.cells.specs.Copy.{moved}
 use Rattle.cells.specs.Offsets.{place_at}
 use Rattle.export.specs.Export.{width_of}
 use Rattle.export.proofs.Plains.{out_sign, into_bytes, out-bytes}
-use Rattle.export.proofs.Ways.{planned_taken, plain_done}
+use Rattle.export.proofs.Ways.{plain_done}
 use Rattle.export.proofs.copy_accepted.Goals as goal
-
-pub plain_cells-requires : goal.plain_cells-requires
-plain_cells-requires c =
-    -- no slice is longer than 2^63 - 1 bytes
-    let into-short : length c.args.destination.now < 2 ^ 63 = omega arith in
-    let out-short : length c.args.source.now < 2 ^ 63 = omega arith in
-    let a = c.args in record { accepted = planned_taken a.machine a.extents.now a.sizes.now a.strides.now a.starts.now a.destination.now a.source.now c.requires; to_bound = (into-short, out-short) }
 
 pub first_byte-s-requires : goal.first_byte-s-requires
 first_byte-s-requires c =
@@ -30,22 +23,22 @@ first_byte-s-requires c =
     let p = c.in-Some.ensures in
     let b = out-bytes p in
     let f = p.out_fits in
-    subst (λ (z : ℤ). T (non_neg z) × (place_at (width_of a.sizes.now) z < 2 ^ 63)) (sym (to_z-of_z {w = w64} (let f : SFits w64 (get_or a.starts.now 1 (pos 0)) = search rules in f))) (out_sign p, omega (arith, b, f))
+    subst (λ (z : ℤ). T (non_neg z) × (place_at (width_of a.asked.sizes.now) z < 2 ^ 63)) (sym (to_z-of_z {w = w64} (let f : SFits w64 (get_or a.asked.starts.now 1 (pos 0)) = search rules in f))) (out_sign p, omega (arith, b, f))
 
 pub move_pieces-requires : goal.move_pieces-requires
 move_pieces-requires c =
     -- where the bytes begin
     let a = c.args in
-    let into-at = c.first_byte-d.ensures ∙ ap (place_at (width_of a.sizes.now)) (to_z-of_z {w = w64} (let f : SFits w64 (get_or a.starts.now 0 (pos 0)) = search rules in f)) in
-    let out_at = c.first_byte-s.ensures ∙ ap (place_at (width_of a.sizes.now)) (to_z-of_z {w = w64} (let f : SFits w64 (get_or a.starts.now 1 (pos 0)) = search rules in f)) in
+    let into-at = c.first_byte-d.ensures ∙ ap (place_at (width_of a.asked.sizes.now)) (to_z-of_z {w = w64} (let f : SFits w64 (get_or a.asked.starts.now 0 (pos 0)) = search rules in f)) in
+    let out_at = c.first_byte-s.ensures ∙ ap (place_at (width_of a.asked.sizes.now)) (to_z-of_z {w = w64} (let f : SFits w64 (get_or a.asked.starts.now 1 (pos 0)) = search rules in f)) in
     let p = c.in-Some.ensures in
-    let n : ℕ = c.in-Some.cells * width_of a.sizes.now in record { n_in_bounds = subst (λ (x : ℕ). x + n ≤ length a.destination.now) (sym into-at) (into_bytes p); n_in_bounds_2 = subst (λ (x : ℕ). x + n ≤ length a.source.now) (sym out_at) (out-bytes p) }
+    let n : ℕ = c.in-Some.cells * width_of a.asked.sizes.now in record { n_in_bounds = subst (λ (x : ℕ). x + n ≤ length a.destination.now) (sym into-at) (into_bytes p); n_in_bounds_2 = subst (λ (x : ℕ). x + n ≤ length a.source.now) (sym out_at) (out-bytes p) }
 
 pub returns : goal.returns
 returns c =
     let a = c.args in
-    let into-at = c.first_byte-d.ensures ∙ ap (place_at (width_of a.sizes.now)) (to_z-of_z {w = w64} (let f : SFits w64 (get_or a.starts.now 0 (pos 0)) = search rules in f)) in
-    let out_at = c.first_byte-s.ensures ∙ ap (place_at (width_of a.sizes.now)) (to_z-of_z {w = w64} (let f : SFits w64 (get_or a.starts.now 1 (pos 0)) = search rules in f)) in
-    let n : ℕ = c.in-Some.cells * width_of a.sizes.now in
-    plain_done a.machine a.extents.now a.sizes.now a.strides.now a.starts.now a.destination.now a.source.now c.requires c.in-Some.ensures _
+    let into-at = c.first_byte-d.ensures ∙ ap (place_at (width_of a.asked.sizes.now)) (to_z-of_z {w = w64} (let f : SFits w64 (get_or a.asked.starts.now 0 (pos 0)) = search rules in f)) in
+    let out_at = c.first_byte-s.ensures ∙ ap (place_at (width_of a.asked.sizes.now)) (to_z-of_z {w = w64} (let f : SFits w64 (get_or a.asked.starts.now 1 (pos 0)) = search rules in f)) in
+    let n : ℕ = c.in-Some.cells * width_of a.asked.sizes.now in
+    plain_done a.machine a.asked.extents.now a.asked.sizes.now a.asked.strides.now a.asked.starts.now a.destination.now a.source.now c.requires c.in-Some.ensures _
     (c.move_pieces.ensures ∙ ap₂ (λ (x y : ℕ). moved a.destination.now x a.source.now y n) into-at out_at)

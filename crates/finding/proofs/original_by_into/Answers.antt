@@ -9,24 +9,21 @@ use Rattle.finding.proofs.Turns.{unraveled_long}
 use Rattle.finding.proofs.Answers.{leaves, leaves_none}
 use Rattle.finding.proofs.original_by_into.Goals as goal
 
-pub plan_within-requires : goal.plan_within-requires
-plan_within-requires c = (c.requires.fused_long, c.requires.few-axes)
-
 pub unravel_index-requires : goal.unravel_index-requires
 unravel_index-requires c =
     -- the plan's extents, and what is to be told
-    let K : List ℕ = kept_extents (take (length c.args.extents.now) c.args.fused.now) in
-    record { arrays = c.requires; extents = c.requires.positive c.args.counters.now (true_within K c.args.counters.now (sym c.if-not-plan_within.ensures)); zeros = refl }
+    let K : List ℕ = kept_extents (take (length c.args.map.extents.now) c.args.map.fused.now) in
+    record { extents = c.args.map.sound.positive c.args.counters.now (true_within K c.args.counters.now (sym c.if-not-plan_within.ensures)); zeros = refl }
 
 pub returns : goal.returns
 returns c =
-    let K : List ℕ = kept_extents (take (length c.args.extents.now) c.args.fused.now) in
-    let X : List ℕ = unraveled c.args.extents.now c.args.order.now c.args.fused.now c.args.counters.now in
+    let K : List ℕ = kept_extents (take (length c.args.map.extents.now) c.args.map.fused.now) in
+    let X : List ℕ = unraveled c.args.map.extents.now c.args.map.order.now c.args.map.fused.now c.args.counters.now in
     let a = c.args in
-    leaves K a.counters.now X c.if-not-plan_within.ensures refl (length a.extents.now) _ (unraveled_long c.requires a.counters.now) c.unravel_index.ensures
+    leaves K a.counters.now X c.if-not-plan_within.ensures refl (length a.map.extents.now) _ (unraveled_long c.args.map.sound a.counters.now) c.unravel_index.ensures
 
 pub returns-then-not-plan_within : goal.returns-then-not-plan_within
 returns-then-not-plan_within c =
-    let K : List ℕ = kept_extents (take (length c.args.extents.now) c.args.fused.now) in
-    let X : List ℕ = unraveled c.args.extents.now c.args.order.now c.args.fused.now c.args.counters.now in
+    let K : List ℕ = kept_extents (take (length c.args.map.extents.now) c.args.map.fused.now) in
+    let X : List ℕ = unraveled c.args.map.extents.now c.args.map.order.now c.args.map.fused.now c.args.counters.now in
     leaves_none K c.args.counters.now X c.if-not-plan_within.ensures refl

@@ -13,11 +13,16 @@ returns-in_err-check_layout c =
     let p = err_from_is_err_and c.from_residual.result c.from_residual.ensures.1 in
     rw (p.1, p.2) (original_refused a.extents.now a.sizes.now a.strides.now a.purpose a.counters.now _ (refused_some _ _ (sym c.check_layout.ensures ∙ c.in_err-check_layout.was)))
 
+-- rows 1 to 6 let the layout through
+pub invariant_of-layout : goal.invariant_of-layout
+invariant_of-layout c =
+    let a = c.args in
+    record { fits = fitting a.extents.now a.sizes.now a.strides.now a.purpose (served_none _ _ (sym c.check_layout.ensures ∙ c.in_ok-check_layout.was)) }
+
 pub original_of_into-requires : goal.original_of_into-requires
 original_of_into-requires c =
-    -- rows 1 to 6 let the layout through
-    let passed : let a = c.args in layout_refused a.extents.now a.sizes.now a.strides.now a.purpose ≡ None = served_none _ _ (sym c.check_layout.ensures ∙ c.in_ok-check_layout.was) in
-    let a = c.args in record { layout = fitting a.extents.now a.sizes.now a.strides.now a.purpose passed; total = cells-few a.extents.now a.sizes.now a.strides.now a.purpose passed }
+    let a = c.args in
+    cells-few a.extents.now a.sizes.now a.strides.now a.purpose (served_none _ _ (sym c.check_layout.ensures ∙ c.in_ok-check_layout.was))
 
 pub returns : goal.returns
 returns c =

@@ -2,9 +2,6 @@
 use Rattle.finding.proofs.Answers.{same-told, tells_original}
 use Rattle.finding.proofs.original_into.Goals as goal
 
-pub original_by_into-requires : goal.original_by_into-requires
-original_by_into-requires c = c.requires.arrays
-
 pub returns : goal.returns
 returns c m ss u t =
     same-told (tells_original c.requires.arrays t.arrays c.args.counters.now) c.original_by_into.ensures

@@ -10,15 +10,15 @@ use Rattle.finding.proofs.plan_by_into.Goals as goal
 
 pub ravel_index-requires : goal.ravel_index-requires
 ravel_index-requires c =
-    let a = c.args in record { arrays = c.requires.arrays; rank = c.requires.rank; inside = true_within a.extents.now a.original.now (sym c.if-not-within.ensures); zeros = refl }
+    let a = c.args in record { rank = c.requires; inside = true_within a.map.extents.now a.original.now (sym c.if-not-within.ensures); zeros = refl }
 
 pub returns : goal.returns
 returns c =
-    let X : List ℕ = raveled c.args.extents.now c.args.order.now c.args.fused.now c.args.original.now in
+    let X : List ℕ = raveled c.args.map.extents.now c.args.map.order.now c.args.map.fused.now c.args.original.now in
     let a = c.args in
-    leaves a.extents.now a.original.now X c.if-not-within.ensures refl a.rank _ (c.requires.rank ∙ raveled_long c.requires.arrays a.original.now) c.ravel_index.ensures
+    leaves a.map.extents.now a.original.now X c.if-not-within.ensures refl a.rank _ (c.requires ∙ raveled_long c.args.map.sound a.original.now) c.ravel_index.ensures
 
 pub returns-then-not-within : goal.returns-then-not-within
 returns-then-not-within c =
-    let X : List ℕ = raveled c.args.extents.now c.args.order.now c.args.fused.now c.args.original.now in
-    leaves_none c.args.extents.now c.args.original.now X c.if-not-within.ensures refl
+    let X : List ℕ = raveled c.args.map.extents.now c.args.map.order.now c.args.map.fused.now c.args.original.now in
+    leaves_none c.args.map.extents.now c.args.original.now X c.if-not-within.ensures refl

@@ -1,10 +1,11 @@
 -- `fuse::compress_by` meets its contract: picking the places that stay is dropping the others. Assumes nothing.
-use mathlib.Core.Path.{refl}
+use mathlib.Core.Path.{refl, sym}
 use Prim.Native.Nat.{ℕ, ◌≤◌, ◌<◌}
 use native.Mathlib.Omega.{arith}
-use lib.ListN.{take}
+use lib.ListN.{length}
+use lib.Seq.{length-take-le}
 use Rattle.fuse.specs.Kept.{stays}
-use Rattle.fuse.proofs.Keeping.{Stand, stand_few, stand_long, stand_inside, stand_rank, stand_extents, stand_strides}
+use Rattle.fuse.proofs.Keeping.{Stand, stand_count, stand_few, stand_inside, stand_rank, stand_extents, stand_strides}
 use Rattle.fuse.proofs.compress_by.Goals as goal
 
 below-256 : {x n : ℕ} → x < n → n ≤ 64 → x < 256
@@ -13,24 +14,47 @@ below-256 h k = omega arith
 pub kept_by-count-requires : goal.kept_by-count-requires
 kept_by-count-requires g c =
     let t = c.requires.layout in
-    let l = c.requires.fused in record { order = c.requires.order; arrays = (l.0, t.few-axes); inside = (λ j h. below-256 (t.inside j h) l.1); zeros = (c.requires.zeros.0, refl) }
+    let l = c.requires.fused in
+    record { arrays = (l.0, omega (arith, l.0, t.few-axes)); inside = (λ j h. below-256 (t.inside j (omega (arith, l.0))) l.1); zeros = (c.requires.zeros.0, refl) }
+
+pub slice_bounds-axes-end : goal.slice_bounds-axes-end
+slice_bounds-axes-end g c =
+    let r = c.args.rows in
+    let k = c.kept_by-count in
+    let F = c.args.fused.now in
+    let few : length c.args.fused.now ≤ 64 = omega (arith, c.requires.fused.0, c.requires.layout.few-axes) in
+    let count = stand_count r.strides.now r.pitch r.operands (g.O.Order.names c.args.order) F few (k.ensures.count, (k.ensures.extents, k.ensures.axes)) in
+    omega (arith, count, k.array_long, k.array_long2)
+
+pub slice_bounds-pick_strides_into-end : goal.slice_bounds-pick_strides_into-end
+slice_bounds-pick_strides_into-end g c =
+    let r = c.args.rows in
+    let k = c.kept_by-count in
+    let F = c.args.fused.now in
+    let few : length c.args.fused.now ≤ 64 = omega (arith, c.requires.fused.0, c.requires.layout.few-axes) in
+    let count = stand_count r.strides.now r.pitch r.operands (g.O.Order.names c.args.order) F few (k.ensures.count, (k.ensures.extents, k.ensures.axes)) in
+    sym (length-take-le _ k.new.axes (omega (arith, count, k.array_long2)))
 
 pub pick_strides_into-requires : goal.pick_strides_into-requires
 pick_strides_into-requires g c =
-    let a = c.args in
+    let r = c.args.rows in
     let t = c.requires.layout in
     let l = c.requires.fused.0 in
     let k = c.kept_by-count in
-    let w : Stand a.fused.now (g.O.Order.names c.args.order.now) (stays (take a.rank a.fused.now)) k.new.extents k.new.axes k.result = (k.ensures.count, (k.ensures.extents, k.ensures.axes)) in
-    let ss = a.strides.now in
-    let F = a.fused.now in record { operands = (t.few_operands, t.rows); order = (stand_long ss a.pitch a.operands (g.O.Order.names c.args.order.now) F a.rank l t.few-axes w, stand_few ss a.pitch a.operands (g.O.Order.names c.args.order.now) F a.rank l t.few-axes w); inside = stand_inside ss a.pitch a.operands (g.O.Order.names c.args.order.now) F a.rank l t.few-axes w t.inside; table = c.requires.zeros.1 }
+    let O = g.O.Order.names c.args.order in
+    let F = c.args.fused.now in
+    let few : length c.args.fused.now ≤ 64 = omega (arith, l, t.few-axes) in
+    let w : Stand F O (stays F) k.new.extents k.new.axes k.result = (k.ensures.count, (k.ensures.extents, k.ensures.axes)) in
+    record { operands = t.few_operands; few = stand_few r.strides.now r.pitch r.operands O F few w; inside = stand_inside r.strides.now r.pitch r.operands O F few w (λ j h. t.inside j (omega (arith, l))); table = c.requires.zeros.1 }
 
 pub returns : goal.returns
 returns g c =
-    let a = c.args in
+    let r = c.args.rows in
     let t = c.requires.layout in
     let l = c.requires.fused.0 in
     let k = c.kept_by-count in
-    let w : Stand a.fused.now (g.O.Order.names c.args.order.now) (stays (take a.rank a.fused.now)) k.new.extents k.new.axes k.result = (k.ensures.count, (k.ensures.extents, k.ensures.axes)) in
-    let ss = a.strides.now in
-    let F = a.fused.now in record { rank = stand_rank ss a.pitch a.operands (g.O.Order.names c.args.order.now) F a.rank l t.few-axes w; extents = stand_extents ss a.pitch a.operands (g.O.Order.names c.args.order.now) F a.rank l t.few-axes w; strides = stand_strides ss a.pitch a.operands (g.O.Order.names c.args.order.now) F a.rank l t.few-axes w c.pick_strides_into.ensures }
+    let O = g.O.Order.names c.args.order in
+    let F = c.args.fused.now in
+    let few : length c.args.fused.now ≤ 64 = omega (arith, l, t.few-axes) in
+    let w : Stand F O (stays F) k.new.extents k.new.axes k.result = (k.ensures.count, (k.ensures.extents, k.ensures.axes)) in
+    record { rank = stand_rank r.strides.now r.pitch r.operands O F few w; extents = stand_extents r.strides.now r.pitch r.operands O F few w; strides = stand_strides r.strides.now r.pitch r.operands O F few w c.pick_strides_into.ensures }

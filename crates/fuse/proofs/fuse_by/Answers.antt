@@ -14,18 +14,18 @@ loop-i-init g c =
     let t = c.requires.layout in
     let e = c.requires.extents in
     -- the strides at each place, and the extents at first
-    let col : ℕ → List ℤ = column_by c.args.strides.now c.args.pitch c.args.operands (g.O.Order.names c.args.order.now) in
-    let E : List ℕ = take c.args.rank c.args.extents.now in
-    e.1 ∙ done_first col E (c.args.rank - 1) (omega (arith, as_many t c.args.extents.now e.0))
+    let col : ℕ → List ℤ = column_by c.args.rows.strides.now c.args.rows.pitch c.args.rows.operands (g.O.Order.names c.args.order) in
+    let E : List ℕ = take (length (g.O.Order.names c.args.order)) c.args.extents.now in
+    e.1 ∙ done_first col E (c.len-rank.result - 1) (omega (arith, c.len-rank.ensures, as_many t c.args.extents.now e.0))
 
 pub can_fuse-requires : goal.can_fuse-requires
 can_fuse-requires g c =
     let i : ℕ = c.loop-i.i - 1 in
     let t = c.requires.layout in
     -- which axes stand at places i and i - 1
-    let outer : c.axis-outer.result ≡ get_or (g.O.Order.names c.args.order.now) i 0 = c.axis-outer.ensures in
-    let inner : c.axis-inner.result ≡ get_or (g.O.Order.names c.args.order.now) (i - 1) 0 = c.axis-inner.ensures in
-    record { operands = t.rows; axes = (omega (arith, t.inside (i - 1) (omega arith)), omega (arith, t.inside i (omega arith))) }
+    let outer : c.axis-outer.result ≡ get_or (g.O.Order.names c.args.order) i 0 = c.axis-outer.ensures in
+    let inner : c.axis-inner.result ≡ get_or (g.O.Order.names c.args.order) (i - 1) 0 = c.axis-inner.ensures in
+    (omega (arith, t.inside (i - 1) (omega (arith, c.len-rank.ensures))), omega (arith, t.inside i (omega (arith, c.len-rank.ensures))))
 
 pub overflow_mul-extents : goal.overflow_mul-extents
 overflow_mul-extents g c = record { fits = joined_fits _ c.can_fuse.result _ _ c.can_fuse.ensures c.if-can_fuse.true }
@@ -34,27 +34,27 @@ pub loop-i-preserved-then-can_fuse : goal.loop-i-preserved-then-can_fuse
 loop-i-preserved-then-can_fuse g c =
     let i : ℕ = c.loop-i.i - 1 in
     let t = c.requires.layout in
-    let col : ℕ → List ℤ = column_by c.args.strides.now c.args.pitch c.args.operands (g.O.Order.names c.args.order.now) in
-    let E : List ℕ = take c.args.rank c.args.extents.now in
-    let long : length E ≡ c.args.rank = as_many t c.args.extents.now c.requires.extents.0 in
-    let outer : c.axis-outer.result ≡ get_or (g.O.Order.names c.args.order.now) i 0 = c.axis-outer.ensures in
-    let inner : c.axis-inner.result ≡ get_or (g.O.Order.names c.args.order.now) (i - 1) 0 = c.axis-inner.ensures in
+    let col : ℕ → List ℤ = column_by c.args.rows.strides.now c.args.rows.pitch c.args.rows.operands (g.O.Order.names c.args.order) in
+    let E : List ℕ = take (length (g.O.Order.names c.args.order)) c.args.extents.now in
+    let long : length E ≡ length (g.O.Order.names c.args.order) = as_many t c.args.extents.now c.requires.extents.0 in
+    let outer : c.axis-outer.result ≡ get_or (g.O.Order.names c.args.order) i 0 = c.axis-outer.ensures in
+    let inner : c.axis-inner.result ≡ get_or (g.O.Order.names c.args.order) (i - 1) 0 = c.axis-inner.ensures in
     turn_taken col E i (omega arith) (omega (arith, long)) (omega (arith, long, t.few-axes)) c.loop-i.extents c.loop-i.invariant _ c.can_fuse.result
-    (tests_places c.args.strides.now c.args.pitch c.args.operands (g.O.Order.names c.args.order.now) (i - 1) i _ _ _ _ _ inner outer c.can_fuse.ensures) c.if-can_fuse.true refl
+    (tests_places c.args.rows.strides.now c.args.rows.pitch c.args.rows.operands (g.O.Order.names c.args.order) (i - 1) i _ _ _ _ _ inner outer c.can_fuse.ensures) c.if-can_fuse.true refl
 
 pub loop-i-preserved : goal.loop-i-preserved
 loop-i-preserved g c =
     let i : ℕ = c.loop-i.i - 1 in
     let t = c.requires.layout in
-    let col : ℕ → List ℤ = column_by c.args.strides.now c.args.pitch c.args.operands (g.O.Order.names c.args.order.now) in
-    let E : List ℕ = take c.args.rank c.args.extents.now in
-    let long : length E ≡ c.args.rank = as_many t c.args.extents.now c.requires.extents.0 in
-    let outer : c.axis-outer.result ≡ get_or (g.O.Order.names c.args.order.now) i 0 = c.axis-outer.ensures in
-    let inner : c.axis-inner.result ≡ get_or (g.O.Order.names c.args.order.now) (i - 1) 0 = c.axis-inner.ensures in
+    let col : ℕ → List ℤ = column_by c.args.rows.strides.now c.args.rows.pitch c.args.rows.operands (g.O.Order.names c.args.order) in
+    let E : List ℕ = take (length (g.O.Order.names c.args.order)) c.args.extents.now in
+    let long : length E ≡ length (g.O.Order.names c.args.order) = as_many t c.args.extents.now c.requires.extents.0 in
+    let outer : c.axis-outer.result ≡ get_or (g.O.Order.names c.args.order) i 0 = c.axis-outer.ensures in
+    let inner : c.axis-inner.result ≡ get_or (g.O.Order.names c.args.order) (i - 1) 0 = c.axis-inner.ensures in
     turn_left col E i (omega arith) (omega (arith, long)) (omega (arith, long, t.few-axes)) c.loop-i.extents c.loop-i.invariant c.loop-i.extents c.can_fuse.result
-    (tests_places c.args.strides.now c.args.pitch c.args.operands (g.O.Order.names c.args.order.now) (i - 1) i _ _ _ _ _ inner outer c.can_fuse.ensures) c.if-can_fuse.false refl
+    (tests_places c.args.rows.strides.now c.args.rows.pitch c.args.rows.operands (g.O.Order.names c.args.order) (i - 1) i _ _ _ _ _ inner outer c.can_fuse.ensures) c.if-can_fuse.false refl
 
 pub returns : goal.returns
 returns g c =
     let z : c.loop-i.i - 1 ≡ 0 = omega arith in
-    subst (λ (i : ℕ). Done (column_by c.args.strides.now c.args.pitch c.args.operands (g.O.Order.names c.args.order.now)) (take c.args.rank c.args.extents.now) i c.loop-i.extents) z c.loop-i.invariant
+    subst (λ (i : ℕ). Done (column_by c.args.rows.strides.now c.args.rows.pitch c.args.rows.operands (g.O.Order.names c.args.order)) (take (length (g.O.Order.names c.args.order)) c.args.extents.now) i c.loop-i.extents) z c.loop-i.invariant

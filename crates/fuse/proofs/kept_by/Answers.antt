@@ -15,7 +15,7 @@ loop-i-init g c =
 
 pub overflow_cast-axes : goal.overflow_cast-axes
 overflow_cast-axes g c =
-    let at : c.axis.result ≡ get_or (g.O.Order.names c.args.order.now) c.loop-i.i 0 = c.axis.ensures in
+    let at : c.axis.result ≡ get_or (g.O.Order.names c.args.order) c.loop-i.i 0 = c.axis.ensures in
     omega (arith, c.requires.inside c.loop-i.i c.loop-i-test.true)
 
 pub loop-i-preserved : goal.loop-i-preserved
@@ -27,7 +27,7 @@ loop-i-preserved g c =
     let s : i < 64 = omega (arith, c.requires.arrays) in
     elim k.branch [
       | then-f-ne1 w ↦
-          let at : w.axis.result ≡ get_or (g.O.Order.names c.args.order.now) i 0 = w.axis.ensures in
-          found_other F (g.O.Order.names c.args.order.now) c.loop-i.extents c.loop-i.axes i c.loop-i.count h s c.loop-i.invariant k.extents k.axes k.count w.if-f-ne1.true w.extents-is (w.axes-is ∙ ap (set c.loop-i.axes c.loop-i.count) at) w.count-is
-      | else-f-ne1 w ↦ found_one F (g.O.Order.names c.args.order.now) c.loop-i.extents c.loop-i.axes i c.loop-i.count h s c.loop-i.invariant k.extents k.axes k.count w.if-f-ne1.false w.extents-is w.axes-is w.count-is
+          let at : w.axis.result ≡ get_or (g.O.Order.names c.args.order) i 0 = w.axis.ensures in
+          found_other F (g.O.Order.names c.args.order) c.loop-i.extents c.loop-i.axes i c.loop-i.count h s c.loop-i.invariant k.extents k.axes k.count w.if-f-ne1.true w.extents-is (w.axes-is ∙ ap (set c.loop-i.axes c.loop-i.count) at) w.count-is
+      | else-f-ne1 w ↦ found_one F (g.O.Order.names c.args.order) c.loop-i.extents c.loop-i.axes i c.loop-i.count h s c.loop-i.invariant k.extents k.axes k.count w.if-f-ne1.false w.extents-is w.axes-is w.count-is
     ]

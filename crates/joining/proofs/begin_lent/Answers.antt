@@ -19,11 +19,14 @@ lay-requires c =
     record { list_in_bounds = (taken_of G passed).axes; out_value = refl }
 
 pub lay_operands-requires : goal.lay_operands-requires
-lay_operands-requires c =
+lay_operands-requires c = record { operands = refl; table_value = refl }
+
+pub invariant_of-layout : goal.invariant_of-layout
+invariant_of-layout c =
     let G : Given = let a = c.args in given a.aim.machine a.layout_extents.now a.layout_sizes.now a.layout_strides.now a.aim.purpose in
     let told : c.check_planning.result ≡ Ok tt = c.in_ok-check_planning.was in
     let passed : refused_of G ≡ None = served_none _ tt (sym c.check_planning.ensures ∙ told) in
-    let t = taken_of G passed in record { fitting = record { rank-few = t.axes; operands_few = t.few; strides_all = t.strides }; table_value = refl }
+    let t = taken_of G passed in record { fits = record { rank-few = t.axes; operands_few = t.few; strides_all = t.strides } }
 
 pub keep-requires : goal.keep-requires
 keep-requires c =

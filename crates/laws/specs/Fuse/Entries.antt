@@ -5,9 +5,9 @@ use Rattle.std.specs.Prelude.{◌≡◌, refl, Bool, true, false, List, [], ◌�
 use Rattle.std.proofs.Common.{ap, ◌∙◌, arith}
 use Rattle.strided.specs.Base.{padded, first}
 use Rattle.strided.specs.Layout.{Within, within, extents}
-use Rattle.strided.specs.Refusals.{layout_refused, refused_by, row11}
+use Rattle.strided.specs.Refusals.{layout_refused, refused_by, row11, served_unless}
 use Rattle.strided.specs.Fuse.{plan_axes}
-use Rattle.strided.specs.Index.{original_index, index_in_plan, told_or, told_original, told_plan, told}
+use Rattle.strided.specs.Index.{original_index, index_in_plan, told_original, told_plan, told}
 use Rattle.strided.specs.declared.Purpose.{Purpose}
 use Rattle.strided.specs.declared.Told.{Told}
 use Rattle.laws.specs.Base.Arrays.{take_counted}
@@ -25,10 +25,10 @@ abbrev pub Undone : (List ℕ → Result Told Refusal) → (List ℕ → Result 
 Undone f g = (x : List ℕ) (t : Told) → f x ≡ Ok t → g (take t.count t.index) ≡ tells x
 
 -- an index within the extents is told, and no other
-told-within : (es x y : List ℕ) → Within es x → told_or (first None (refused_by (row11 es x ∷ []))) y ≡ tells y
+told-within : (es x y : List ℕ) → Within es x → served_unless (first None (refused_by (row11 es x ∷ []))) (told y) ≡ tells y
 told-within es x y h = rw (within_true es x h)
 
-within-told : (es x y : List ℕ) (t : Told) → told_or (first None (refused_by (row11 es x ∷ []))) y ≡ Ok t → Within es x
+within-told : (es x y : List ℕ) (t : Told) → served_unless (first None (refused_by (row11 es x ∷ []))) (told y) ≡ Ok t → Within es x
 within-told es x y t h = true_within es x (go (within es x) refl)
   where
     go : (b : Bool) → within es x ≡ b → within es x ≡ true

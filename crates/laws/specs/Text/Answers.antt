@@ -1,10 +1,11 @@
--- The signed answer of the text entry: a refusal's is below 0, and an output lies within the lent bytes.
+-- The answer of the text entry: an output lies within the lent bytes. And as C gets it: a refusal's is below 0.
 -- Assumes nothing.
-use Rattle.std.specs.Prelude.{◌≡◌, refl, ◌⊎◌, Bool, true, false, List, [], ◌∷◌, ℕ, suc, ◌≤◌, pos, negsuc, neg_ℤ, length, Option, None, Some}
+use Rattle.std.specs.Prelude.{◌≡◌, refl, ◌⊎◌, Bool, true, false, List, [], ◌∷◌, ℕ, suc, ◌≤◌, ℤ, pos, negsuc, neg_ℤ, length, Option, None, Some, Ok, Err, Result}
 use Rattle.std.proofs.Common.{sym, ap, ◌∙◌, inl, inr, arith, ltb-false}
 use Rattle.strided.specs.Base.{first}
 use Rattle.strided.specs.Refusals.{Row, refused_by, number, negated}
 use Rattle.strided.specs.Text.{Parsed, InForm, NotInForm, Listing, Lists, layout_rows_of, printed_of, row13, row14, text_refused, listing_or, listed}
+use Rattle.strided.specs.Memory.{code_of, ListsMemory}
 use Rattle.strided.specs.declared.Refusal.{Refusal}
 use Rattle.strided.specs.declared.Refusal.TheVariants.{Rank, Operands, StrideCount, Chosen, Total, Reach, StartCount, Offsets, State, Index, Form, TextTotal, Room, Window, CopySizes, Buffer, Repeats, ByteStrides, Ninth, Leaving, Slice, Visits, Record}
 
@@ -54,21 +55,34 @@ last_row r s e = go r.applies s.applies e
     go false true q = let z : ◌≡◌ {A = ℕ} 0 1 = cc in absurd (omega arith)
     go false false q = refl
 
-listed-within : (p : Parsed) (room : List ℕ) (n : ℕ) → (listed p room).answer ≡ pos n → n ≤ length room
+-- a listing's output is within the lent bytes, where they have room for it or something refuses
+pub filled_within : (o : Option Refusal) (out room : List ℕ) → (o ≡ None → length out ≤ length room) → (n : ℕ) → (listing_or o out room).answer ≡ Ok n → n ≤ length room
+filled_within None out room fits n e = let l : length out ≡ n = cc in omega (arith, l, fits refl)
+filled_within (Some r) out room fits n e = let z : ◌≡◌ {A = ℕ} 0 1 = cc in absurd (omega arith)
+
+listed-within : (p : Parsed) (room : List ℕ) (n : ℕ) → (listed p room).answer ≡ Ok n → n ≤ length room
 unfolding listed text_refused
-listed-within p room n e = go (text_refused p (length room)) refl e
-  where
-    go : (o : Option Refusal) → text_refused p (length room) ≡ o → (listing_or o (printed_of p) room).answer ≡ pos n → n ≤ length room
-    go None q f =
-        let l : length (printed_of p) ≡ n = cc in
-        let fits = ltb-false (length room) (length (printed_of p)) (last_row (row13 p.extents) (row14 (printed_of p) (length room)) (behind (refused_by (layout_rows_of p)) _ q)) in
-        omega (arith, l, fits)
-    go (Some r) q f = absurd (negated-below r n f)
+listed-within p room =
+    let out : List ℕ = printed_of p in
+    filled_within (text_refused p (length room)) out room
+    (λ q. ltb-false (length room) (length out) (last_row (row13 p.extents) (row14 out (length room)) (behind (refused_by (layout_rows_of p)) _ q)))
 
 -- an output is no longer than the bytes lent
-pub lists_within : {text room : List ℕ} {l : Listing} → Lists text room l → (n : ℕ) → l.answer ≡ pos n → n ≤ length room
+pub lists_within : {text room : List ℕ} {l : Listing} → Lists text room l → (n : ℕ) → l.answer ≡ Ok n → n ≤ length room
 lists_within {text} {room} {l} h n e = go h.either
   where
     go : ((p : Parsed) × InForm text p) ⊎ NotInForm text → n ≤ length room
     go (inl q) = listed-within q.0 room n (sym (ap (λ (x : Listing). x.answer) (h.formed q.0 q.1)) ∙ e)
-    go (inr q) = absurd (negated-below Form n (sym (ap (λ (x : Listing). x.answer) (h.unformed q)) ∙ e))
+    go (inr q) =
+        let f : ◌≡◌ {A = Result ℕ Refusal} (Err Form) (Ok n) = sym (ap (λ (x : Listing). x.answer) (h.unformed q)) ∙ e in
+        let z : ◌≡◌ {A = ℕ} 0 1 = cc in
+        absurd (omega arith)
+
+-- a number of 0 or more that C gets is a length
+pub code_length : (answer : Result ℕ Refusal) (n : ℕ) → code_of pos answer ≡ pos n → answer ≡ Ok n
+code_length (Ok m) n e = let q : m ≡ n = cc in ap Ok q
+code_length (Err r) n e = absurd (negated-below r n e)
+
+-- so C's number is below 0, or within the lent bytes
+pub code_within : {text old new : List ℕ} {r : ℤ} → ListsMemory text old new r → (n : ℕ) → r ≡ pos n → n ≤ length old
+code_within h n e = lists_within h.lists n (code_length h.listing.answer n (sym h.fills.code ∙ e))

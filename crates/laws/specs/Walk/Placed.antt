@@ -12,22 +12,22 @@ use Rattle.strided.specs.Step.{offsets_from, plan_cut_axes, packed, walk_after}
 use Rattle.strided.specs.Bulk.{next_blocks}
 use Rattle.strided.specs.declared.Plan.{Plan}
 use Rattle.strided.specs.declared.Walk.{Walk}
-use Rattle.strided.specs.declared.Stepped.{Stepped}
+use Rattle.strided.specs.declared.Block.{Block}
 use Rattle.laws.specs.Base.Arrays.{take_counted}
 use Rattle.laws.specs.Base.Lists.{nth_none, map-take, map-drop}
 use Rattle.laws.specs.Walk.States.{state_after}
 use Rattle.laws.specs.Walk.Reach.{state-nth}
 use Rattle.laws.specs.Walk.Machine.{length_offsets}
-use Rattle.laws.specs.Walk.Steps.{Ready, wide, rows-many, as_many, at, walk-state}
-use Rattle.laws.specs.Walk.Bulk.{made, blocks_from}
+use Rattle.laws.specs.Walk.Steps.{Ready, wide, rows-many, as_many, at, made, walk-state}
+use Rattle.laws.specs.Walk.Bulk.{blocks_from}
 
 pub record Placed : Type 0 where
   pub offsets : List ℤ
   pub length : ℕ
 
 -- what a step hands out
-abbrev pub placed_of : ℕ → Stepped → Placed
-placed_of operands s = record { offsets = take operands s.offsets; length = s.length }
+abbrev pub placed_of : ℕ → Block → Placed
+placed_of operands b = record { offsets = take operands b.offsets; length = b.length }
 
 -- the plan's block at the index c
 abbrev pub placed_from : Plan → List ℤ → List ℕ → Placed

@@ -2,7 +2,7 @@
 -- Assumes nothing.
 use Rattle.std.proofs.Math.Path.{◌≡◌, refl, sym, ap}
 use Rattle.std.proofs.Common.{◌∙◌, ⊎_elim}
-use Rattle.std.specs.Prelude.{◌↔◌, ◌⊎◌, Bool, ℕ, ◌≤◌, pos, length, take, drop, Option, None, Some}
+use Rattle.std.specs.Prelude.{◌↔◌, ◌⊎◌, Bool, ℕ, ◌≤◌, pos, length, take, drop, Option, None, Some, Err}
 use Rattle.std.proofs.Math.Logic.{inl, inr}
 use Rattle.std.proofs.Math.Bool.{true, false, not, not-not}
 use mathlib.Core.List.{List}
@@ -15,10 +15,8 @@ use Rattle.strided.specs.Refusals.{refused_by}
 use Rattle.strided.specs.Begin.{plan_extents, plan_rows, begin_refused, begun_at, started}
 use Rattle.strided.specs.Step.{reachable, plan_cut_axes, unpacked, packed, tidy, blank, blank_z, may_begin, handed_out, step_rows, stepped, Reached, walk_after}
 use Rattle.strided.specs.declared.Refusal.TheVariants.{State}
-use Rattle.strided.specs.declared.Outcome.TheVariants.{Rejected}
 use Rattle.strided.specs.declared.Plan.{Plan}
 use Rattle.strided.specs.declared.Walk.{Walk}
-use Rattle.strided.specs.declared.Stepped.{Stepped}
 use Rattle.laws.specs.Refusals.Rows.{served_none, served_is}
 use Rattle.laws.specs.Base.Tests.{and_both}
 use Rattle.laws.specs.Base.Arrays.{blank-ℕ, blank-ℤ, padded-take}
@@ -44,7 +42,7 @@ module _ (p : Plan) (w : Walk) (z : Sized p w) (ok : refused_by (step_rows p) �
       omega (arith, length-take p.rank p.extents)
 
   -- a reached state is not refused
-  reached_taken : Reached p w → (stepped p w).answer ≡ Rejected State → ⊥
+  reached_taken : Reached p w → stepped p w ≡ Err State → ⊥
   unfolding begun_at
   reached_taken q h =
       let zs : List ℤ = q.starts in
@@ -52,9 +50,9 @@ module _ (p : Plan) (w : Walk) (z : Sized p w) (ok : refused_by (step_rows p) �
       let r : Ready p zs = ready p zs all-axes b in
       let o : Option (List ℕ) = state_after (plan_cut_axes p) q.steps in
       let e : stepped p w ≡ handed_out (raw p zs r o) = ap (stepped p) (q.comes ∙ ap (walk_after p q.steps) (served_is (begin_refused p zs) _ q.begins) ∙ walk-state p zs r q.steps) ∙ step-at p zs r q.steps o refl in
-      differ o zs r (sym (ap (λ (s : Stepped). s.answer) e) ∙ h)
+      differ o zs r (sym e ∙ h)
     where
-      differ : (o : Option (List ℕ)) (zs : List ℤ) (r : Ready p zs) → (handed_out (raw p zs r o)).answer ≡ Rejected State → ⊥
+      differ : (o : Option (List ℕ)) (zs : List ℤ) (r : Ready p zs) → handed_out (raw p zs r o) ≡ Err State → ⊥
       differ None zs r h = let y : ◌≡◌ {A = ℕ} 0 1 = cc h in omega arith
       differ (Some c) zs r h = let y : ◌≡◌ {A = ℕ} 0 1 = cc h in omega arith
 
@@ -80,20 +78,20 @@ module _ (p : Plan) (w : Walk) (z : Sized p w) (ok : refused_by (step_rows p) �
       }
 
   -- and one that does not is refused
-  either : ((stepped p w).answer ≡ Rejected State) ⊎ Reached p w
+  either : (stepped p w ≡ Err State) ⊎ Reached p w
   unfolding stepped
   either = go (tidy p w) refl (reachable (plan_cut_axes p) (plan_rows p) (may_begin p) (unpacked p w)) refl
     where
       go : (a : Bool) → tidy p w ≡ a → (b : Bool) → reachable (plan_cut_axes p) (plan_rows p) (may_begin p) (unpacked p w) ≡ b
-          → ((stepped p w).answer ≡ Rejected State) ⊎ Reached p w
+          → (stepped p w ≡ Err State) ⊎ Reached p w
       go true t true c = inr (tested_reached t c)
       go true t false c = inl (rw (ok, t, c))
       go false t b c = inl (rw (ok, t))
 
 -- ROW 10, where rows 1 and 2 pass: a state is refused with 10 exactly if no begun walk of the plan reaches it; and taken exactly if one does
 module _ (p : Plan) (w : Walk) (z : Sized p w) (ok : refused_by (step_rows p) ≡ None) where
-  pub row10-refused : ((stepped p w).answer ≡ Rejected State) ↔ (Reached p w → ⊥)
+  pub row10-refused : (stepped p w ≡ Err State) ↔ (Reached p w → ⊥)
   row10-refused = (λ h q. reached_taken p w z ok q h, λ n. ⊎_elim (λ h. h) (λ q. absurd (n q)) (either p w z ok))
 
-  pub row10_exact : ((stepped p w).answer ≡ Rejected State → ⊥) ↔ Reached p w
+  pub row10_exact : (stepped p w ≡ Err State → ⊥) ↔ Reached p w
   row10_exact = (λ n. ⊎_elim (λ h. absurd (n h)) (λ q. q) (either p w z ok), reached_taken p w z ok)

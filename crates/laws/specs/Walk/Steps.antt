@@ -1,7 +1,7 @@
 -- THE STEPS OF A WALK, by value: from a beginning that is not refused, step n hands out block n of the machine on lists, then "ended" for
 -- ever, and none is refused.
 -- Assumes nothing.
-use Rattle.std.specs.Prelude.{◌≡◌, refl, Bool, true, false, cond, not, List, [], ◌∷◌, ℕ, zero, suc, ◌+◌, ◌≤◌, ◌<◌, eqb, ltb, ℤ, pos, ◌+ℤ◌, length, take, Option, None, Some}
+use Rattle.std.specs.Prelude.{◌≡◌, refl, Bool, true, false, cond, not, List, [], ◌∷◌, ℕ, zero, suc, ◌+◌, ◌≤◌, ◌<◌, eqb, ltb, ℤ, pos, ◌+ℤ◌, length, take, Option, None, Some, Result}
 use Rattle.std.proofs.Math.Path.{sym}
 use Rattle.std.proofs.Common.{ap, ap₂, ◌∙◌, add-zero, zero-add, arith, ltb-false, eqb-true}
 use Rattle.std.proofs.lemmas.Bool.{false≢true, not-false}
@@ -14,11 +14,12 @@ use Rattle.strided.specs.Layout.{has_zero}
 use Rattle.strided.specs.Refusals.{refused_by}
 use Rattle.strided.specs.Walk.{CutAxis, zeros, next, length_at, run_strides}
 use Rattle.strided.specs.Begin.{plan_extents, plan_blocks, plan_row, plan_rows, begin_rows, begin_refused, started}
-use Rattle.strided.specs.Step.{WalkState, Step, gave, over, state_of, offsets_from, step, plan_cut_axes, unpacked, packed, tidy, is_none, may_begin, handed_out, step_rows, stepped, walk_after}
+use Rattle.strided.specs.Step.{WalkState, Step, gave, over, state_of, offsets_from, step, plan_cut_axes, unpacked, packed, packed_block, tidy, is_none, may_begin, handed_out, step_rows, stepped, left, walk_after}
 use Rattle.strided.specs.Demand3.{steps_from}
 use Rattle.strided.specs.declared.Refusal.{Refusal}
 use Rattle.strided.specs.declared.Plan.{Plan}
 use Rattle.strided.specs.declared.Walk.{Walk}
+use Rattle.strided.specs.declared.Block.{Block}
 use Rattle.strided.specs.declared.Stepped.{Stepped}
 use Rattle.laws.specs.Base.Tests.{both_and, or_none}
 use Rattle.laws.specs.Base.Lists.{length_run}
@@ -113,6 +114,10 @@ module _ (p : Plan) (zs : List ℤ) (r : Ready p zs) where
   step-packed g a b =
       rw (r.taken, tidy_pack g a b) (ap (λ (h : WalkState). handed_out (step (plan_cut_axes p) (plan_rows p) (may_begin p) h)) (unpack_pack g a b))
 
+  -- the block at the counters c
+  abbrev pub made : List ℕ → Block
+  made c = packed_block c (length_at (plan_cut_axes p) c) (offsets_from (plan_rows p) zs c) (run_strides (plan_cut_axes p) (plan_rows p))
+
   -- what the machine gives at a reached state
   abbrev pub raw : Option (List ℕ) → Step
   raw None = over (at None)
@@ -128,9 +133,9 @@ module _ (p : Plan) (zs : List ℤ) (r : Ready p zs) where
   pub step-at : (n : ℕ) (m : Option (List ℕ)) → state_after (plan_cut_axes p) n ≡ m → stepped p (packed (at m)) ≡ handed_out (raw m)
   step-at n m e = step-packed (at m) (counters-many n m e) (offsets_many n m e) ∙ ap handed_out (step-raw n m e)
 
-  pub raw-walk : (m : Option (List ℕ)) → (handed_out (raw m)).walk ≡ packed (at (and_then (next (plan_cut_axes p)) m))
-  raw-walk None = refl
-  raw-walk (Some c) = refl
+  pub raw-walk : (m : Option (List ℕ)) (w : Walk) → left (handed_out (raw m)) w ≡ packed (at (and_then (next (plan_cut_axes p)) m))
+  raw-walk None w = refl
+  raw-walk (Some c) w = refl
 
   -- step m of a list of steps
   steps_nth : (n m i : ℕ) (o : Option (List ℕ)) → state_after (plan_cut_axes p) i ≡ o → m < n
@@ -140,7 +145,7 @@ module _ (p : Plan) (zs : List ℤ) (r : Ready p zs) where
       ap Some (step-at i o e ∙ ap (λ (q : Option (List ℕ)). handed_out (raw q)) (sym e ∙ ap (state_after (plan_cut_axes p)) (sym (add-zero i))))
   steps_nth (suc n) (suc m) i o e h =
       let k : suc i + m ≡ i + suc m = omega arith in
-      ap (λ (w : Walk). nth (steps_from p n w) m) (ap (λ (s : Stepped). s.walk) (step-at i o e) ∙ raw-walk o)
+      ap (λ (w : Walk). nth (steps_from p n w) m) (ap (λ (s : Result Stepped Refusal). left s (packed (at o))) (step-at i o e) ∙ raw-walk o (packed (at o)))
       ∙ steps_nth n m (suc i) (and_then (next (plan_cut_axes p)) o) (after-suc (next (plan_cut_axes p)) i (begin (plan_cut_axes p)) ∙ ap (and_then (next (plan_cut_axes p))) e) (omega arith)
       ∙ ap (λ (j : ℕ). Some (handed_out (raw (state_after (plan_cut_axes p) j)))) k
 
@@ -164,12 +169,12 @@ module _ (p : Plan) (zs : List ℤ) (r : Ready p zs) where
       ap (λ (w : Walk). nth (steps_from p n w) m) begun-walk ∙ steps_nth n m 0 (begin (plan_cut_axes p)) refl h
       ∙ ap (λ (j : ℕ). Some (handed_out (raw (state_after (plan_cut_axes p) j)))) (zero-add m)
 
-  pub walk-below : (n m : ℕ) (w : Walk) (s : Stepped) → nth (steps_from p n w) m ≡ Some s → m < n
+  pub walk-below : (n m : ℕ) (w : Walk) (s : Result Stepped Refusal) → nth (steps_from p n w) m ≡ Some s → m < n
   walk-below zero m w s e = let z : ◌≡◌ {A = ℕ} 0 1 = cc in absurd (omega arith)
   walk-below (suc n) zero w s e = omega arith
-  walk-below (suc n) (suc m) w s e = omega (arith, walk-below n m (stepped p w).walk s e)
+  walk-below (suc n) (suc m) w s e = omega (arith, walk-below n m (left (stepped p w) w) s e)
 
-  pub walk_is : (n m : ℕ) (s : Stepped) → nth (steps_from p n (started p zs)) m ≡ Some s → s ≡ handed_out (raw (state_after (plan_cut_axes p) m))
+  pub walk_is : (n m : ℕ) (s : Result Stepped Refusal) → nth (steps_from p n (started p zs)) m ≡ Some s → s ≡ handed_out (raw (state_after (plan_cut_axes p) m))
   walk_is n m s e = let h = walk-nth n m (walk-below n m (started p zs) s e) in cc (h, e)
 
   -- the state after n steps
@@ -177,7 +182,7 @@ module _ (p : Plan) (zs : List ℤ) (r : Ready p zs) where
   walk_from zero i o e = ap (λ (q : Option (List ℕ)). packed (at q)) (sym e ∙ ap (state_after (plan_cut_axes p)) (sym (add-zero i)))
   walk_from (suc n) i o e =
       let k : suc i + n ≡ i + suc n = omega arith in
-      ap (walk_after p n) (ap (λ (s : Stepped). s.walk) (step-at i o e) ∙ raw-walk o)
+      ap (walk_after p n) (ap (λ (s : Result Stepped Refusal). left s (packed (at o))) (step-at i o e) ∙ raw-walk o (packed (at o)))
       ∙ walk_from n (suc i) (and_then (next (plan_cut_axes p)) o) (after-suc (next (plan_cut_axes p)) i (begin (plan_cut_axes p)) ∙ ap (and_then (next (plan_cut_axes p))) e)
       ∙ ap (λ (j : ℕ). packed (at (state_after (plan_cut_axes p) j))) k
 

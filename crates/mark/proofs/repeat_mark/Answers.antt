@@ -8,11 +8,14 @@ use lib.Dec.{eqb}
 use lib.IntN.{ℤ}
 use lib.ListN.{length}
 use borrow.Author.Tests.{ltb-false, eqb-true, not-false}
+use Rattle.strided.specs.Layout.{has_zero}
 use Rattle.strided.specs.Refusals.{refused_by, answered, row3, row5, row6}
 use Rattle.strided.specs.Mark.{mark_rows, mark_refused, mark_of, marked}
 use Rattle.strided.specs.declared.Mark.{Mark}
+use Rattle.strided.specs.declared.Mark.TheVariants.{No}
 use Rattle.strided.specs.declared.Refusal.{Refusal}
 use Rattle.laws.specs.Refusals.Rows.{Past, past_none, past_next, past_refused, past_served, refused_too, served_too}
+use Rattle.laws.specs.Mark.Marks.{zero_mark}
 use Rattle.mark.proofs.Tests.{row6-one, row6-within}
 use Rattle.std.specs.Prelude.{Ok, Err}
 use Rattle.mark.proofs.repeat_mark.Goals as goal
@@ -68,13 +71,27 @@ returns-then-reach_over c =
     c.reach_over.ensures ∙ row6-one a.extents.now a.strides.now as_many (length a.extents.now) in
     refuses _ _ (past_refused passed-3 row-6 c.if-reach_over.true)
 
-pub mark_of-requires : goal.mark_of-requires
-mark_of-requires c =
+pub returns-then-has_zero : goal.returns-then-has_zero
+returns-then-has_zero c =
+    let passed-1 : let a = c.args in Past (mark_rows a.extents.now a.strides.now) (row3 (length a.extents.now) 1 a.strides.now ∷ row5 a.extents.now ∷ row6 a.extents.now 1 (λ k. a.strides.now) ∷ []) = past_next (past_none _) c.rank_over.ensures c.if-rank_over.false in
+    let passed-2 : let a = c.args in Past (mark_rows a.extents.now a.strides.now) (row5 a.extents.now ∷ row6 a.extents.now 1 (λ k. a.strides.now) ∷ []) = past_next passed-1 c.strides_wrong.ensures c.if-strides_wrong.false in
+    let passed-3 : let a = c.args in Past (mark_rows a.extents.now a.strides.now) (row6 a.extents.now 1 (λ k. a.strides.now) ∷ []) = past_next passed-2 c.total_over.ensures c.if-total_over.false in
     let as_many : let a = c.args in length a.strides.now ≡ length a.extents.now = let a = c.args in
     one-row a.extents.now a.strides.now c.strides_wrong.ensures c.if-strides_wrong.false in
     let row-6 : let a = c.args in c.reach_over.result ≡ (row6 a.extents.now 1 (λ k. a.strides.now)).applies = let a = c.args in
     c.reach_over.ensures ∙ row6-one a.extents.now a.strides.now as_many (length a.extents.now) in
-    let a = c.args in record { strides_len = as_many; strides_bound = row6-within a.extents.now a.strides.now as_many (sym row-6 ∙ c.if-reach_over.false) }
+    let a = c.args in
+    serves _ _ No (past_served (past_next passed-3 row-6 c.if-reach_over.false)) (zero_mark a.extents.now a.strides.now (sym c.has_zero.ensures ∙ c.if-has_zero.true))
+
+pub invariant_of-mark_of : goal.invariant_of-mark_of
+invariant_of-mark_of c =
+    let as_many : let a = c.args in length a.strides.now ≡ length a.extents.now = let a = c.args in
+    one-row a.extents.now a.strides.now c.strides_wrong.ensures c.if-strides_wrong.false in
+    let row-6 : let a = c.args in c.reach_over.result ≡ (row6 a.extents.now 1 (λ k. a.strides.now)).applies = let a = c.args in
+    c.reach_over.ensures ∙ row6-one a.extents.now a.strides.now as_many (length a.extents.now) in
+    let a = c.args in
+    let some : has_zero a.extents.now ≡ false = sym c.has_zero.ensures ∙ c.if-has_zero.false in
+    record { sound = record { paired = as_many; some = some; near = row6-within a.extents.now a.strides.now as_many (sym row-6 ∙ c.if-reach_over.false) some } }
 
 pub returns : goal.returns
 returns c =

@@ -6,4 +6,4 @@ use Rattle.strided.specs.Plan.{grows}
 use Rattle.model.proofs.all_grow.Given as goal
 
 abbrev pub invariant-loop-k : goal.invariant-loop-k
-invariant-loop-k l = (every (grows l.sizes l.strides l.rank) 0 l.k ≡ true)
+invariant-loop-k l = (every (grows l.axes.sizes.now l.axes.strides.now l.axes.rank) 0 l.k ≡ true)

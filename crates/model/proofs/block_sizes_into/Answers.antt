@@ -7,35 +7,30 @@ use Rattle.model.proofs.Filled.{rows_read}
 use Rattle.strided.specs.Region.{byte_table}
 use Rattle.laws.specs.Cut.Image.{Images}
 use Rattle.model.specs.Exits.{exits}
-use Rattle.model.proofs.Rooms.{within-reach}
 use Rattle.model.proofs.Whole.{whole_in_order, whole-exits, exits_fits, exits-not, whole-declined, whole-fitted}
 use Rattle.model.proofs.block_sizes_into.Goals as goal
 
 pub returns-then-keeps_order : goal.returns-then-keeps_order
 returns-then-keeps_order c =
     let a = c.args in
-    sym (whole_in_order a.machine a.sizes.now a.es.now a.table.now a.rank a.purpose (sym c.keeps_order.ensures ∙ c.if-keeps_order.true))
-
-pub byte_table_into-requires : goal.byte_table_into-requires
-byte_table_into-requires c =
-    let p = c.requires.plannable in record { sizes_len_bound = (p.few, p.axes); table_value = refl }
+    sym (whole_in_order a.machine a.axes.sizes.now a.axes.extents.now a.axes.strides.now a.axes.rank a.purpose (sym c.keeps_order.ensures ∙ c.if-keeps_order.true))
 
 pub returns-then-fits_whole : goal.returns-then-fits_whole
 returns-then-fits_whole c =
     -- what the table of byte strides has
-    let bytes-are : let a = c.args in Images a.machine (length a.sizes.now) a.rank c.byte_table_into.new.table (byte_table a.sizes.now a.table.now) = let a = c.args in
-    rows_read a.machine a.sizes.now a.table.now a.rank (length a.sizes.now) _ refl c.requires.plannable.few c.requires.plannable.axes c.byte_table_into.ensures in
+    let bytes-are : let a = c.args in Images a.machine (length a.axes.sizes.now) a.axes.rank c.byte_table_into.new.table (byte_table a.axes.sizes.now a.axes.strides.now) = let a = c.args in
+    rows_read a.machine a.axes.sizes.now a.axes.strides.now a.axes.rank (length a.axes.sizes.now) _ refl c.requires.plannable.few c.requires.plannable.axes c.byte_table_into.ensures in
     let a = c.args in
-    let es = a.es.now in
+    let es = a.axes.extents.now in
     let t = c.byte_table_into.new.table in
-    sym (whole-exits a.machine a.sizes.now es a.table.now a.rank a.purpose c.requires.allowed t bytes-are
-    (exits_fits a.machine t a.sizes.now es a.table.now a.rank (sym c.fits_whole.ensures ∙ c.if-fits_whole.true)))
+    sym (whole-exits a.machine a.axes.sizes.now es a.axes.strides.now a.axes.rank a.purpose c.requires.allowed t bytes-are
+    (exits_fits a.machine t a.axes.sizes.now es a.axes.strides.now a.axes.rank (sym c.fits_whole.ensures ∙ c.if-fits_whole.true)))
 
 -- what no purpose changes
 pub cut_axes-requires : goal.cut_axes-requires
 cut_axes-requires c =
-    let bytes-are : let a = c.args in Images a.machine (length a.sizes.now) a.rank c.byte_table_into.new.table (byte_table a.sizes.now a.table.now) = let a = c.args in
-    rows_read a.machine a.sizes.now a.table.now a.rank (length a.sizes.now) _ refl c.requires.plannable.few c.requires.plannable.axes c.byte_table_into.ensures in
+    let bytes-are : let a = c.args in Images a.machine (length a.axes.sizes.now) a.axes.rank c.byte_table_into.new.table (byte_table a.axes.sizes.now a.axes.strides.now) = let a = c.args in
+    rows_read a.machine a.axes.sizes.now a.axes.strides.now a.axes.rank (length a.axes.sizes.now) _ refl c.requires.plannable.few c.requires.plannable.axes c.byte_table_into.ensures in
     let n = c.requires.plannable in record {
       plannable = record {
         axes = n.axes;
@@ -52,25 +47,25 @@ cut_axes-requires c =
 
 pub declines_tiles-requires : goal.declines_tiles-requires
 declines_tiles-requires c =
-    let a = c.args in within-reach a.sizes.now a.es.now a.table.now a.rank a.purpose c.requires.plannable
+    c.requires.plannable.near
 
 pub returns-then-declines_tiles : goal.returns-then-declines_tiles
 returns-then-declines_tiles c =
-    let bytes-are : let a = c.args in Images a.machine (length a.sizes.now) a.rank c.byte_table_into.new.table (byte_table a.sizes.now a.table.now) = let a = c.args in
-    rows_read a.machine a.sizes.now a.table.now a.rank (length a.sizes.now) _ refl c.requires.plannable.few c.requires.plannable.axes c.byte_table_into.ensures in
+    let bytes-are : let a = c.args in Images a.machine (length a.axes.sizes.now) a.axes.rank c.byte_table_into.new.table (byte_table a.axes.sizes.now a.axes.strides.now) = let a = c.args in
+    rows_read a.machine a.axes.sizes.now a.axes.strides.now a.axes.rank (length a.axes.sizes.now) _ refl c.requires.plannable.few c.requires.plannable.axes c.byte_table_into.ensures in
     -- where the axes are cut there is no exit
-    let on : let a = c.args in exits a.machine c.byte_table_into.new.table a.sizes.now a.es.now a.table.now a.rank ≡ false = let a = c.args in
-    exits-not a.machine _ a.sizes.now a.es.now a.table.now a.rank (sym c.keeps_order.ensures ∙ c.if-keeps_order.false) (sym c.fits_whole.ensures ∙ c.if-fits_whole.false) in
+    let on : let a = c.args in exits a.machine c.byte_table_into.new.table a.axes.sizes.now a.axes.extents.now a.axes.strides.now a.axes.rank ≡ false = let a = c.args in
+    exits-not a.machine _ a.axes.sizes.now a.axes.extents.now a.axes.strides.now a.axes.rank (sym c.keeps_order.ensures ∙ c.if-keeps_order.false) (sym c.fits_whole.ensures ∙ c.if-fits_whole.false) in
     let a = c.args in
-    whole-declined a.machine a.sizes.now a.es.now a.table.now a.rank a.purpose c.requires.allowed _ bytes-are _ c.cut_axes.ensures on
+    whole-declined a.machine a.axes.sizes.now a.axes.extents.now a.axes.strides.now a.axes.rank a.purpose c.requires.allowed _ bytes-are _ c.cut_axes.ensures on
     (sym c.declines_tiles.ensures ∙ c.if-declines_tiles.true)
 
 pub returns : goal.returns
 returns c =
-    let bytes-are : let a = c.args in Images a.machine (length a.sizes.now) a.rank c.byte_table_into.new.table (byte_table a.sizes.now a.table.now) = let a = c.args in
-    rows_read a.machine a.sizes.now a.table.now a.rank (length a.sizes.now) _ refl c.requires.plannable.few c.requires.plannable.axes c.byte_table_into.ensures in
-    let on : let a = c.args in exits a.machine c.byte_table_into.new.table a.sizes.now a.es.now a.table.now a.rank ≡ false = let a = c.args in
-    exits-not a.machine _ a.sizes.now a.es.now a.table.now a.rank (sym c.keeps_order.ensures ∙ c.if-keeps_order.false) (sym c.fits_whole.ensures ∙ c.if-fits_whole.false) in
+    let bytes-are : let a = c.args in Images a.machine (length a.axes.sizes.now) a.axes.rank c.byte_table_into.new.table (byte_table a.axes.sizes.now a.axes.strides.now) = let a = c.args in
+    rows_read a.machine a.axes.sizes.now a.axes.strides.now a.axes.rank (length a.axes.sizes.now) _ refl c.requires.plannable.few c.requires.plannable.axes c.byte_table_into.ensures in
+    let on : let a = c.args in exits a.machine c.byte_table_into.new.table a.axes.sizes.now a.axes.extents.now a.axes.strides.now a.axes.rank ≡ false = let a = c.args in
+    exits-not a.machine _ a.axes.sizes.now a.axes.extents.now a.axes.strides.now a.axes.rank (sym c.keeps_order.ensures ∙ c.if-keeps_order.false) (sym c.fits_whole.ensures ∙ c.if-fits_whole.false) in
     let a = c.args in
-    whole-fitted a.machine a.sizes.now a.es.now a.table.now a.rank a.purpose c.requires.allowed _ bytes-are _ c.cut_axes.ensures on
+    whole-fitted a.machine a.axes.sizes.now a.axes.extents.now a.axes.strides.now a.axes.rank a.purpose c.requires.allowed _ bytes-are _ c.cut_axes.ensures on
     (sym c.declines_tiles.ensures ∙ c.if-declines_tiles.false) c.fit_for.ensures

@@ -10,10 +10,7 @@ use Rattle.model.proofs.byte_table_into.Goals as goal
 pub loop-k-init : goal.loop-k-init
 loop-k-init c =
     let a = c.args in
-    rows_none a.machine.numbers a.sizes.now a.strides.now a.rank a.table.now (c.requires.table_value ∙ fill_none 512 0)
-
-pub put_bytes-requires : goal.put_bytes-requires
-put_bytes-requires c = record { k_in_bounds = (c.loop-k-test.true, (omega (arith, c.loop-k-test, c.requires.sizes_len_bound.0), c.requires.sizes_len_bound.1)); table_value = c.loop-k.invariant }
+    rows_none a.machine.numbers a.axes.sizes.now a.axes.strides.now a.axes.rank a.table.now (c.requires ∙ fill_none 512 0)
 
 pub loop-k-preserved : goal.loop-k-preserved
 loop-k-preserved c = c.put_bytes.ensures
@@ -21,5 +18,5 @@ loop-k-preserved c = c.put_bytes.ensures
 pub returns : goal.returns
 returns c =
     let a = c.args in
-    let e : c.loop-k.k ≡ length a.sizes.now = omega arith in
-    c.loop-k.invariant ∙ ap (byte_rows a.machine.numbers a.sizes.now a.strides.now a.rank) e
+    let e : c.loop-k.k ≡ length a.axes.sizes.now = omega arith in
+    c.loop-k.invariant ∙ ap (byte_rows a.machine.numbers a.axes.sizes.now a.axes.strides.now a.axes.rank) e

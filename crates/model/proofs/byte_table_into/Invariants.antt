@@ -4,4 +4,4 @@ use Rattle.model.specs.ByteRows.{byte_rows}
 use Rattle.model.proofs.byte_table_into.Given as goal
 
 abbrev pub invariant-loop-k : goal.invariant-loop-k
-invariant-loop-k l = (l.table ≡ byte_rows l.machine.numbers l.sizes l.strides l.rank l.k)
+invariant-loop-k l = (l.table ≡ byte_rows l.machine.numbers l.axes.sizes.now l.axes.strides.now l.axes.rank l.k)

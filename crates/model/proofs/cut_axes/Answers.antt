@@ -19,20 +19,20 @@ use Rattle.model.proofs.cut_axes.Goals as goal
 pub compute_blocks_at-requires : goal.compute_blocks_at-requires
 compute_blocks_at-requires c =
     -- the costs and the ranks that are worked out
-    let costed : let a = c.args in SameCosts a.rank c.compute_costs-costs.result (costs a.strides.now (length a.sizes.now) a.rank) = let a = c.args in
-    λ i h. ap (λ (l : List ℕ). get_or l i 0) c.compute_costs-costs.ensures ∙ get_d_padded 0 64 (costs a.strides.now (length a.sizes.now) a.rank) i (omega (arith, c.requires.plannable.axes)) in
+    let costed : let a = c.args in SameCosts a.axes.rank c.compute_costs-costs.result (costs a.axes.strides.now (length a.axes.sizes.now) a.axes.rank) = let a = c.args in
+    λ i h. ap (λ (l : List ℕ). get_or l i 0) c.compute_costs-costs.ensures ∙ get_d_padded 0 64 (costs a.axes.strides.now (length a.axes.sizes.now) a.axes.rank) i (omega (arith, c.requires.plannable.axes)) in
     let a = c.args in
-    let p = c.requires.plannable in (p.one, scores a.sizes.now a.blocks.now a.strides.now a.rank Pointwise p c.compute_costs-costs.result costed)
+    let p = c.requires.plannable in (p.one, scores a.axes.sizes.now a.blocks.now a.axes.strides.now a.axes.rank Pointwise p c.compute_costs-costs.result costed)
 
 pub returns : goal.returns
 returns c =
-    let costed : let a = c.args in SameCosts a.rank c.compute_costs-costs.result (costs a.strides.now (length a.sizes.now) a.rank) = let a = c.args in
-    λ i h. ap (λ (l : List ℕ). get_or l i 0) c.compute_costs-costs.ensures ∙ get_d_padded 0 64 (costs a.strides.now (length a.sizes.now) a.rank) i (omega (arith, c.requires.plannable.axes)) in
+    let costed : let a = c.args in SameCosts a.axes.rank c.compute_costs-costs.result (costs a.axes.strides.now (length a.axes.sizes.now) a.axes.rank) = let a = c.args in
+    λ i h. ap (λ (l : List ℕ). get_or l i 0) c.compute_costs-costs.ensures ∙ get_d_padded 0 64 (costs a.axes.strides.now (length a.axes.sizes.now) a.axes.rank) i (omega (arith, c.requires.plannable.axes)) in
     let a = c.args in
     let p = c.requires.plannable in
     let ranks = c.plan_ranks_into.new.table in
-    let ranked = ranks-same a.sizes.now a.strides.now a.rank (replicate 64 0) p.few p.axes _ c.plan_ranks_into.ensures in
+    let ranked = ranks-same a.axes.sizes.now a.axes.strides.now a.axes.rank (replicate 64 0) p.few p.axes _ c.plan_ranks_into.ensures in
     c.compute_blocks_at.ensures
-    ∙ ap (λ (n : ℕ). cutting a.machine.numbers a.bytes.now (length a.sizes.now) c.compute_costs-costs.result ranks 0 n a.blocks.now) (sub-zero a.rank)
-    ∙ ruled_is a.machine.numbers a.sizes.now a.blocks.now a.strides.now a.rank Pointwise c.args.machine.allowed a.bytes.now c.requires.images
+    ∙ ap (λ (n : ℕ). cutting a.machine.numbers a.bytes.now (length a.axes.sizes.now) c.compute_costs-costs.result ranks 0 n a.blocks.now) (sub-zero a.axes.rank)
+    ∙ ruled_is a.machine.numbers a.axes.sizes.now a.blocks.now a.axes.strides.now a.axes.rank Pointwise c.args.machine.allowed a.bytes.now c.requires.images
     c.compute_costs-costs.result costed ranks ranked

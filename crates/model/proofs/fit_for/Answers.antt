@@ -6,6 +6,7 @@ use mathlib.Core.Bool.{false}
 use Prim.Native.Nat.{ℕ, ◌<◌}
 use lib.ListN.{length}
 use borrow.Author.Tests.{leb-false, eq-eqb, ne_eqb}
+use Rattle.std.proofs.Common.{⊎_elim}
 use Rattle.strided.specs.Layout.{chosen}
 use Rattle.strided.specs.Refusals.{missing}
 use Rattle.strided.specs.declared.Purpose.{Purpose}
@@ -18,23 +19,20 @@ fit-requires c =
     let into : c.args.purpose ≡ PointwiseInto c.in-PointwiseInto.c = c.in-PointwiseInto.is in
     let a = c.args in
     let k : ℕ = c.in-PointwiseInto.c in
-    let two : length a.sizes.now ≡ 2 = c.if-sizes-eq2.true in
-    let there : missing (length a.sizes.now) (chosen (PointwiseInto k)) ≡ false =
-    subst (λ (v : Purpose). missing (length a.sizes.now) (chosen v) ≡ false) into c.requires.1 in
-    let below : k < length a.sizes.now = leb-false (length a.sizes.now) k there in ((c.requires.0, omega arith), two)
+    let two : length a.axes.sizes.now ≡ 2 = c.if-axes-eq2.true in
+    let there : missing (length a.axes.sizes.now) (chosen (PointwiseInto k)) ≡ false =
+    subst (λ (v : Purpose). missing (length a.axes.sizes.now) (chosen v) ≡ false) into c.requires in
+    let below : k < length a.axes.sizes.now = leb-false (length a.axes.sizes.now) k there in (omega (arith, a.axes.few), two)
 
 pub returns-in-Pointwise : goal.returns-in-Pointwise
-returns-in-Pointwise c = rw c.in-Pointwise.is
+returns-in-Pointwise c = ⊎_elim (λ e. rw e) (λ e. rw e.1) c.in-Pointwise.is
 
-pub returns-in-Fold : goal.returns-in-Fold
-returns-in-Fold c = rw c.in-Fold.is
-
-pub returns-then-sizes-eq2 : goal.returns-then-sizes-eq2
-returns-then-sizes-eq2 c =
+pub returns-then-axes-eq2 : goal.returns-then-axes-eq2
+returns-then-axes-eq2 c =
     let into : c.args.purpose ≡ PointwiseInto c.in-PointwiseInto.c = c.in-PointwiseInto.is in
-    rw (into, eq-eqb _ _ c.if-sizes-eq2.true) c.fit.ensures
+    rw (into, eq-eqb _ _ c.if-axes-eq2.true) c.fit.ensures
 
-pub returns-else-sizes-eq2 : goal.returns-else-sizes-eq2
-returns-else-sizes-eq2 c =
+pub returns-else-axes-eq2 : goal.returns-else-axes-eq2
+returns-else-axes-eq2 c =
     let into : c.args.purpose ≡ PointwiseInto c.in-PointwiseInto.c = c.in-PointwiseInto.is in
-    rw (into, ne_eqb _ _ c.if-sizes-eq2.false)
+    rw (into, ne_eqb _ _ c.if-axes-eq2.false)

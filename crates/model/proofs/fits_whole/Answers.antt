@@ -5,6 +5,7 @@ use mathlib.Core.Bool.{Bool, true, false}
 use Prim.Native.Nat.{ℕ, ◌<◌, min}
 use native.Mathlib.Nat.{sub-zero}
 use lib.Dec.{leb}
+use lib.ListN.{length}
 use borrow.Author.Tests.{leb-true, leb-false, le-leb, lt-leb}
 use Rattle.strided.specs.Region.{region}
 use Rattle.laws.specs.Cut.Saturate.{cap}
@@ -19,5 +20,5 @@ tested r x n m h e = go (leb x n) refl
 
 pub returns : goal.returns
 returns c = let a = c.args in
-    tested c.memory_region.result (region a.machine.numbers a.bytes.now a.operands a.extents.now 0 a.rank) a.machine.numbers.cache (cap a.machine.numbers) (omega arith)
-    (c.memory_region.ensures ∙ ap (λ (n : ℕ). min (region a.machine.numbers a.bytes.now a.operands a.extents.now 0 n) (cap a.machine.numbers)) (sub-zero a.rank))
+    tested c.memory_region.result (region a.machine.numbers a.bytes.now (length a.axes.sizes.now) a.axes.extents.now 0 a.axes.rank) a.machine.numbers.cache (cap a.machine.numbers) (omega arith)
+    (c.memory_region.ensures ∙ ap (λ (n : ℕ). min (region a.machine.numbers a.bytes.now (length a.axes.sizes.now) a.axes.extents.now 0 n) (cap a.machine.numbers)) (sub-zero a.axes.rank))

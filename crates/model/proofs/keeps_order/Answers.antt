@@ -4,10 +4,10 @@ use borrow.Author.Tests.{eq-eqb}
 use Rattle.model.proofs.Whole.{in_order_none, in_order_some}
 use Rattle.model.proofs.keeps_order.Goals as goal
 
-pub returns-then-rank-eq0 : goal.returns-then-rank-eq0
-returns-then-rank-eq0 c = let a = c.args in
-    eq-eqb _ _ c.if-rank-eq0.true ∙ sym (in_order_none a.sizes.now a.strides.now a.rank c.if-rank-eq0.true)
+pub returns-then-axes-eq0 : goal.returns-then-axes-eq0
+returns-then-axes-eq0 c = let a = c.args in
+    eq-eqb _ _ c.if-axes-eq0.true ∙ sym (in_order_none a.axes.sizes.now a.axes.strides.now a.axes.rank c.if-axes-eq0.true)
 
-pub returns-else-rank-eq0 : goal.returns-else-rank-eq0
-returns-else-rank-eq0 c = let a = c.args in
-    c.all_grow.ensures ∙ sym (in_order_some a.sizes.now a.strides.now a.rank c.if-rank-eq0.false)
+pub returns-else-axes-eq0 : goal.returns-else-axes-eq0
+returns-else-axes-eq0 c = let a = c.args in
+    c.all_grow.ensures ∙ sym (in_order_some a.axes.sizes.now a.axes.strides.now a.axes.rank c.if-axes-eq0.false)

@@ -15,19 +15,19 @@ use Rattle.model.proofs.put_bytes.Goals as goal
 pub loop-i-init : goal.loop-i-init
 loop-i-init c =
     let a = c.args in
-    row_first a.machine.numbers a.sizes.now a.strides.now a.rank a.k a.table.now c.requires.table_value
+    row_first a.machine.numbers a.operand.axes.sizes.now a.operand.axes.strides.now a.operand.axes.rank a.operand.k a.table.now c.requires
 
 pub loop-i-preserved : goal.loop-i-preserved
 loop-i-preserved c =
     -- what is stored
-    let stored : let a = c.args in c.byte_image.result ≡ byte_of a.machine.numbers a.sizes.now a.strides.now a.k c.loop-i.i = let a = c.args in
-    let z : ℤ = get_or a.strides.now (a.k * 64 + c.loop-i.i) (pos 0) in
+    let stored : let a = c.args in c.byte_image.result ≡ byte_of a.machine.numbers a.operand.axes.sizes.now a.operand.axes.strides.now a.operand.k c.loop-i.i = let a = c.args in
+    let z : ℤ = get_or a.operand.axes.strides.now (a.operand.k * 64 + c.loop-i.i) (pos 0) in
     c.byte_image.ensures
-    ∙ ap (λ (x : ℕ). image a.machine.numbers (x * get_or a.sizes.now a.k 0)) (c.unsigned_abs.ensures.value ∙ ap nat_abs (read_back z (search rules))) in
+    ∙ ap (λ (x : ℕ). image a.machine.numbers (x * get_or a.operand.axes.sizes.now a.operand.k 0)) (c.unsigned_abs.ensures.value ∙ ap nat_abs (read_back z (search rules))) in
     let a = c.args in
-    row_turn a.machine.numbers a.sizes.now a.strides.now a.rank a.k c.loop-i.i c.loop-i.table _ c.requires.k_in_bounds.1.0 c.loop-i-test.true c.requires.k_in_bounds.1.1 c.loop-i.invariant stored
+    row_turn a.machine.numbers a.operand.axes.sizes.now a.operand.axes.strides.now a.operand.axes.rank a.operand.k c.loop-i.i c.loop-i.table _ (omega (arith, a.operand.there, a.operand.axes.few)) c.loop-i-test.true a.operand.axes.to c.loop-i.invariant stored
 
 pub returns : goal.returns
 returns c =
     let a = c.args in
-    row_done a.machine.numbers a.sizes.now a.strides.now a.rank a.k c.loop-i.i c.loop-i.table c.requires.k_in_bounds.1.0 c.requires.k_in_bounds.1.1 (omega arith) c.loop-i.invariant
+    row_done a.machine.numbers a.operand.axes.sizes.now a.operand.axes.strides.now a.operand.axes.rank a.operand.k c.loop-i.i c.loop-i.table (omega (arith, a.operand.there, a.operand.axes.few)) a.operand.axes.to (omega arith) c.loop-i.invariant

@@ -3,4 +3,4 @@ use Rattle.model.proofs.Filled.{Filling}
 use Rattle.model.proofs.put_bytes.Given as goal
 
 abbrev pub invariant-loop-i : goal.invariant-loop-i
-invariant-loop-i l = Filling l.machine.numbers l.sizes l.strides l.rank l.k l.i l.table
+invariant-loop-i l = Filling l.machine.numbers l.operand.axes.sizes.now l.operand.axes.strides.now l.operand.axes.rank l.operand.k l.i l.table

@@ -20,45 +20,45 @@ use Rattle.model.proofs.strictly_increasing.Goals as goal
 pub returns-then-last-eq0 : goal.returns-then-last-eq0
 returns-then-last-eq0 c =
     let a = c.args in
-    let f : SFits w64 (get_or a.strides.now (a.k * 64) (pos 0)) = search rules in
-    let first : c.unsigned_abs-last.result ≡ stride_size a.strides.now a.k 0 = c.unsigned_abs-last.ensures.value ∙ ap nat_abs (to_z-of_z f) ∙ first_stride a.strides.now a.k in
-    sym (increasing-zero a.strides.now a.rank a.k (omega (arith, first, c.if-last-eq0.true)))
+    let f : SFits w64 (get_or a.operand.axes.strides.now (a.operand.k * 64) (pos 0)) = search rules in
+    let first : c.unsigned_abs-last.result ≡ stride_size a.operand.axes.strides.now a.operand.k 0 = c.unsigned_abs-last.ensures.value ∙ ap nat_abs (to_z-of_z f) ∙ first_stride a.operand.axes.strides.now a.operand.k in
+    sym (increasing-zero a.operand.axes.strides.now a.operand.axes.rank a.operand.k (omega (arith, first, c.if-last-eq0.true)))
 
 pub loop-i-init : goal.loop-i-init
 loop-i-init c =
     let a = c.args in
-    let f : SFits w64 (get_or a.strides.now (a.k * 64) (pos 0)) = search rules in
-    let first : c.unsigned_abs-last.result ≡ stride_size a.strides.now a.k 0 = c.unsigned_abs-last.ensures.value ∙ ap nat_abs (to_z-of_z f) ∙ first_stride a.strides.now a.k in
+    let f : SFits w64 (get_or a.operand.axes.strides.now (a.operand.k * 64) (pos 0)) = search rules in
+    let first : c.unsigned_abs-last.result ≡ stride_size a.operand.axes.strides.now a.operand.k 0 = c.unsigned_abs-last.ensures.value ∙ ap nat_abs (to_z-of_z f) ∙ first_stride a.operand.axes.strides.now a.operand.k in
     (first, every_none _)
 
 pub returns-then-m-last : goal.returns-then-m-last
 returns-then-m-last c =
     let a = c.args in
-    let f : SFits w64 (get_or a.strides.now (a.k * 64) (pos 0)) = search rules in
-    let first : c.unsigned_abs-last.result ≡ stride_size a.strides.now a.k 0 = c.unsigned_abs-last.ensures.value ∙ ap nat_abs (to_z-of_z f) ∙ first_stride a.strides.now a.k in
+    let f : SFits w64 (get_or a.operand.axes.strides.now (a.operand.k * 64) (pos 0)) = search rules in
+    let first : c.unsigned_abs-last.result ≡ stride_size a.operand.axes.strides.now a.operand.k 0 = c.unsigned_abs-last.ensures.value ∙ ap nat_abs (to_z-of_z f) ∙ first_stride a.operand.axes.strides.now a.operand.k in
     let i : ℕ = c.loop-i.i in
-    let g : SFits w64 (get_or a.strides.now (a.k * 64 + i) (pos 0)) = search rules in
-    let next : c.unsigned_abs-m.result ≡ stride_size a.strides.now a.k i = c.unsigned_abs-m.ensures.value ∙ ap nat_abs (to_z-of_z g) in
-    let above : 0 < stride_size a.strides.now a.k 0 = omega (arith, first, c.if-last-eq0.false) in
-    sym (increasing-rest a.strides.now a.rank a.k false above
-    (rises-not a.strides.now a.rank a.k i c.loop-i.auto.i (omega arith) (omega (arith, next, c.loop-i.invariant.0, c.if-m-last.true))))
+    let g : SFits w64 (get_or a.operand.axes.strides.now (a.operand.k * 64 + i) (pos 0)) = search rules in
+    let next : c.unsigned_abs-m.result ≡ stride_size a.operand.axes.strides.now a.operand.k i = c.unsigned_abs-m.ensures.value ∙ ap nat_abs (to_z-of_z g) in
+    let above : 0 < stride_size a.operand.axes.strides.now a.operand.k 0 = omega (arith, first, c.if-last-eq0.false) in
+    sym (increasing-rest a.operand.axes.strides.now a.operand.axes.rank a.operand.k false above
+    (rises-not a.operand.axes.strides.now a.operand.axes.rank a.operand.k i c.loop-i.auto.i (omega arith) (omega (arith, next, c.loop-i.invariant.0, c.if-m-last.true))))
 
 pub loop-i-preserved : goal.loop-i-preserved
 loop-i-preserved c =
     let a = c.args in
     let i : ℕ = c.loop-i.i in
-    let g : SFits w64 (get_or a.strides.now (a.k * 64 + i) (pos 0)) = search rules in
-    let next : c.unsigned_abs-m.result ≡ stride_size a.strides.now a.k i = c.unsigned_abs-m.ensures.value ∙ ap nat_abs (to_z-of_z g) in
+    let g : SFits w64 (get_or a.operand.axes.strides.now (a.operand.k * 64 + i) (pos 0)) = search rules in
+    let next : c.unsigned_abs-m.result ≡ stride_size a.operand.axes.strides.now a.operand.k i = c.unsigned_abs-m.ensures.value ∙ ap nat_abs (to_z-of_z g) in
     let e : i ≡ i + 1 - 1 = omega arith in (
-      next ∙ ap (stride_size a.strides.now a.k) e,
-      rises_on a.strides.now a.rank a.k i c.loop-i.auto.i (omega (arith, next, c.loop-i.invariant.0, c.if-m-last.false)) c.loop-i.invariant.1,
+      next ∙ ap (stride_size a.operand.axes.strides.now a.operand.k) e,
+      rises_on a.operand.axes.strides.now a.operand.axes.rank a.operand.k i c.loop-i.auto.i (omega (arith, next, c.loop-i.invariant.0, c.if-m-last.false)) c.loop-i.invariant.1,
     )
 
 pub returns : goal.returns
 returns c =
     let a = c.args in
-    let f : SFits w64 (get_or a.strides.now (a.k * 64) (pos 0)) = search rules in
-    let first : c.unsigned_abs-last.result ≡ stride_size a.strides.now a.k 0 = c.unsigned_abs-last.ensures.value ∙ ap nat_abs (to_z-of_z f) ∙ first_stride a.strides.now a.k in
-    let above : 0 < stride_size a.strides.now a.k 0 = omega (arith, first, c.if-last-eq0.false) in
-    let e : a.rank - 1 ≡ c.loop-i.i - 1 = omega arith in
-    sym (increasing-rest a.strides.now a.rank a.k true above (ap (every (rises a.strides.now a.k) 0) e ∙ c.loop-i.invariant.1))
+    let f : SFits w64 (get_or a.operand.axes.strides.now (a.operand.k * 64) (pos 0)) = search rules in
+    let first : c.unsigned_abs-last.result ≡ stride_size a.operand.axes.strides.now a.operand.k 0 = c.unsigned_abs-last.ensures.value ∙ ap nat_abs (to_z-of_z f) ∙ first_stride a.operand.axes.strides.now a.operand.k in
+    let above : 0 < stride_size a.operand.axes.strides.now a.operand.k 0 = omega (arith, first, c.if-last-eq0.false) in
+    let e : a.operand.axes.rank - 1 ≡ c.loop-i.i - 1 = omega arith in
+    sym (increasing-rest a.operand.axes.strides.now a.operand.axes.rank a.operand.k true above (ap (every (rises a.operand.axes.strides.now a.operand.k) 0) e ∙ c.loop-i.invariant.1))

@@ -8,4 +8,4 @@ use Rattle.model.specs.Exits.{rises}
 use Rattle.model.proofs.strictly_increasing.Given as goal
 
 abbrev pub invariant-loop-i : goal.invariant-loop-i
-invariant-loop-i l = (l.last ≡ stride_size l.strides l.k (l.i - 1)) × (every (rises l.strides l.k) 0 (l.i - 1) ≡ true)
+invariant-loop-i l = (l.last ≡ stride_size l.operand.axes.strides.now l.operand.k (l.i - 1)) × (every (rises l.operand.axes.strides.now l.operand.k) 0 (l.i - 1) ≡ true)

@@ -13,7 +13,8 @@ use Rattle.strided.specs.Digits.{digits_of}
 use Rattle.strided.specs.Text.{FitU}
 use Rattle.laws.specs.Refusals.Rows.{few-axes}
 use Rattle.reading.specs.Rows.{RowHere}
-use Rattle.numpy.specs.Numpy.{reversed, any_of, too_far, packed}
+use Rattle.std.specs.List.{list_any}
+use Rattle.numpy.specs.Numpy.{reversed, too_far, packed}
 use Rattle.numpy.specs.Packed.{packed_strides}
 use Rattle.numpy.specs.Readers.{saying}
 use Rattle.numpy.specs.Reversing.{length-reversed}
@@ -37,7 +38,7 @@ packed_strides-strides-requires c =
     let made : let a = c.args in (vs : List ℕ) → length vs ≡ a.rank → (a.rank ≤ 64 → take a.rank a.shape.now ≡ vs) → take a.rank c.reversed-extents.result ≡ reversed vs = λ vs l laid. let a = c.args in
     ap (take a.rank) (c.reversed-extents.ensures ∙ ap (λ (u : List ℕ). padded 64 0 (reversed u)) (laid few))
     ∙ take-padded 0 (reversed vs) a.rank (length-reversed vs ∙ l) few in
-    let right : let a = c.args in (vs rest : List ℕ) → length vs ≡ a.rank → RowHere digits_of FitU (drop a.at a.text.now) vs rest → (0 < a.size) × (any_of too_far (packed a.size vs) ≡ false) = λ vs rest l r. let a = c.args in
+    let right : let a = c.args in (vs rest : List ℕ) → length vs ≡ a.rank → RowHere digits_of FitU (drop a.at a.text.now) vs rest → (0 < a.size) × (list_any too_far (packed a.size vs) ≡ false) = λ vs rest l r. let a = c.args in
     some_size a.size _ (sym (c.packed_wrong.ensures vs rest l r) ∙ c.if-packed_wrong.false) in
     let a = c.args in
     let n = c.requires.1 in
@@ -47,7 +48,7 @@ packed_strides-strides-requires c =
 
 pub returns : goal.returns
 returns c =
-    let right : let a = c.args in (vs rest : List ℕ) → length vs ≡ a.rank → RowHere digits_of FitU (drop a.at a.text.now) vs rest → (0 < a.size) × (any_of too_far (packed a.size vs) ≡ false) = λ vs rest l r. let a = c.args in
+    let right : let a = c.args in (vs rest : List ℕ) → length vs ≡ a.rank → RowHere digits_of FitU (drop a.at a.text.now) vs rest → (0 < a.size) × (list_any too_far (packed a.size vs) ≡ false) = λ vs rest l r. let a = c.args in
     some_size a.size _ (sym (c.packed_wrong.ensures vs rest l r) ∙ c.if-packed_wrong.false) in
     let few : c.args.rank ≤ 64 = few-axes _ c.rank_over.ensures c.if-rank_over.false in
     let made : let a = c.args in (vs : List ℕ) → length vs ≡ a.rank → (a.rank ≤ 64 → take a.rank a.shape.now ≡ vs) → take a.rank c.reversed-extents.result ≡ reversed vs = λ vs l laid. let a = c.args in

@@ -24,10 +24,10 @@ pub returns : goal.returns
 unfolding loop_order
 returns c =
     let a = c.args in
-    let es = a.extents.now in
-    let ws : List ℕ = weights es a.operands a.strides.now (lead a.purpose) in
-    let long : length ws ≤ 64 = omega (arith, weights_long es a.operands a.strides.now (lead a.purpose) c.requires.layout.operands_few, c.requires.layout.rank-few) in
-    let w = c.compute_importance_into.ensures ∙ ap (λ (k : ℕ). padded 64 0 (weights es a.operands a.strides.now k)) c.lead.ensures in record {
+    let es = a.layout.extents.now in
+    let ws : List ℕ = weights es a.layout.operands a.layout.strides.now (lead a.purpose) in
+    let long : length ws ≤ 64 = omega (arith, weights_long es a.layout.operands a.layout.strides.now (lead a.purpose) c.args.layout.fits.operands_few, c.args.layout.fits.rank-few) in
+    let w = c.compute_importance_into.ensures ∙ ap (λ (k : ℕ). padded 64 0 (weights es a.layout.operands a.layout.strides.now k)) c.lead.ensures in record {
       weights = w;
       order = c.sort_by_importance_into.ensures
           ∙ ap (λ (v : List ℕ). padded 64 0 (order_to (follows v es) (length es))) w

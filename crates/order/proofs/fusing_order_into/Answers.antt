@@ -36,11 +36,11 @@ zeros_behind w n l h = behind w (replicate n 0) n (length-replicate {A = ℕ} n 
 
 pub returns-then-total_at_most : goal.returns-then-total_at_most
 returns-then-total_at_most c =
-    let a = c.args in record { weights = zeros_behind _ (length a.extents.now) c.requires.layout.rank-few c.requires.zeros.0; order = c.as_given_into.ensures ∙ ap (padded 64 0) (small a.extents.now a.operands a.strides.now a.purpose c.total_at_most.ensures c.if-total_at_most.true) }
+    let a = c.args in record { weights = zeros_behind _ (length a.layout.extents.now) c.args.layout.fits.rank-few c.requires.zeros.0; order = c.as_given_into.ensures ∙ ap (padded 64 0) (small a.layout.extents.now a.layout.operands a.layout.strides.now a.purpose c.total_at_most.ensures c.if-total_at_most.true) }
 
 pub returns-else-total_at_most : goal.returns-else-total_at_most
 returns-else-total_at_most c =
     let a = c.args in
-    let n = length a.extents.now in
-    let ws : List ℕ = weights a.extents.now a.operands a.strides.now (lead a.purpose) in
-    let long : length ws ≡ n = weights_long a.extents.now a.operands a.strides.now (lead a.purpose) c.requires.layout.operands_few in record { weights = behind _ ws n long c.compute_order_into.ensures.weights; order = c.compute_order_into.ensures.order ∙ ap (padded 64 0) (large a.extents.now a.operands a.strides.now a.purpose c.total_at_most.ensures c.if-total_at_most.false) }
+    let n = length a.layout.extents.now in
+    let ws : List ℕ = weights a.layout.extents.now a.layout.operands a.layout.strides.now (lead a.purpose) in
+    let long : length ws ≡ n = weights_long a.layout.extents.now a.layout.operands a.layout.strides.now (lead a.purpose) c.args.layout.fits.operands_few in record { weights = behind _ ws n long c.compute_order_into.ensures.weights; order = c.compute_order_into.ensures.order ∙ ap (padded 64 0) (large a.layout.extents.now a.layout.operands a.layout.strides.now a.purpose c.total_at_most.ensures c.if-total_at_most.false) }

@@ -14,25 +14,25 @@ use Rattle.region.proofs.memory_region.Goals as goal
 pub loop-k-init : goal.loop-k-init
 loop-k-init c =
     let a = c.args in
-    omega (arith, sum_none (region_of a.machine.numbers a.bytes.now a.blocks.now a.tail.offset (axes a.tail)) 0)
+    omega (arith, sum_none (region_of a.tail.machine.numbers a.tail.bytes.now a.blocks.now a.tail.offset (axes a.tail)) 0)
 
 pub returns-then-r-limit : goal.returns-then-r-limit
 unfolding region
 returns-then-r-limit c = let a = c.args in
     let l = c.loop-k in
-    let f : ℕ → ℕ = region_of a.machine.numbers a.bytes.now a.blocks.now a.tail.offset (axes a.tail) in
+    let f : ℕ → ℕ = region_of a.tail.machine.numbers a.tail.bytes.now a.blocks.now a.tail.offset (axes a.tail) in
     omega (arith, l.invariant, sum_mono f 0 l.k a.tail.operands (omega arith))
 
 pub loop-k-preserved : goal.loop-k-preserved
 loop-k-preserved c = let a = c.args in
     let l = c.loop-k in
-    let f : ℕ → ℕ = region_of a.machine.numbers a.bytes.now a.blocks.now a.tail.offset (axes a.tail) in
-    add_sat (sum f 0 l.k) (f l.k) (cap a.machine.numbers) l.invariant c.region_of.ensures c.min-r.ensures
-    ∙ capped (cap a.machine.numbers) (sym (sum-next f l.k))
+    let f : ℕ → ℕ = region_of a.tail.machine.numbers a.tail.bytes.now a.blocks.now a.tail.offset (axes a.tail) in
+    add_sat (sum f 0 l.k) (f l.k) (cap a.tail.machine.numbers) l.invariant c.region_of.ensures c.min-r.ensures
+    ∙ capped (cap a.tail.machine.numbers) (sym (sum-next f l.k))
 
 pub returns : goal.returns
 unfolding region
 returns c = let a = c.args in
     let l = c.loop-k in
     let e : l.k ≡ a.tail.operands = omega arith in
-    l.invariant ∙ ap (λ (k : ℕ). min (sum (region_of a.machine.numbers a.bytes.now a.blocks.now a.tail.offset (axes a.tail)) 0 k) (cap a.machine.numbers)) e
+    l.invariant ∙ ap (λ (k : ℕ). min (sum (region_of a.tail.machine.numbers a.tail.bytes.now a.blocks.now a.tail.offset (axes a.tail)) 0 k) (cap a.tail.machine.numbers)) e

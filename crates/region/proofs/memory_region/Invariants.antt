@@ -8,4 +8,4 @@ use Rattle.region.specs.Tail.{axes}
 use Rattle.region.proofs.memory_region.Given as goal
 
 abbrev pub invariant-loop-k : goal.invariant-loop-k
-invariant-loop-k l = l.r ≡ min (sum (region_of l.machine.numbers l.bytes l.blocks l.tail.offset (axes l.tail)) 0 l.k) (cap l.machine.numbers)
+invariant-loop-k l = l.r ≡ min (sum (region_of l.tail.machine.numbers l.tail.bytes.now l.blocks l.tail.offset (axes l.tail)) 0 l.k) (cap l.tail.machine.numbers)

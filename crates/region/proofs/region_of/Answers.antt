@@ -12,7 +12,7 @@ use Rattle.strided.specs.Region.{near, far, byte_at, region_of}
 use Rattle.laws.specs.Cut.Ranges.{sum_start, sum_step, product_start, product-step}
 use Rattle.laws.specs.Cut.Saturate.{cap, capped, min-mul-left, min-mul-right, lines_sat}
 use Rattle.region.proofs.region_of.Goals as goal
-use Rattle.region.proofs.region_of.Goals.{then-s-machine, else-s-machine}
+use Rattle.region.proofs.region_of.Goals.{then-s-tail, else-s-tail}
 
 -- one term more, each cut off or not
 more : (C T c t r top : ℕ) → min c top ≡ min C top → min t top ≡ min T top → r ≡ c + t → min r top ≡ min (C + T) top
@@ -29,7 +29,7 @@ cut_off x h k l = omega arith
 pub loop-i-init : goal.loop-i-init
 loop-i-init c =
     let a = c.args in
-    (omega arith, capped _ (sym (sum_start _ _)), omega (arith, product_start (far a.machine.numbers a.bytes.now a.blocks.now a.k) a.tail.offset))
+    (omega arith, capped _ (sym (sum_start _ _)), omega (arith, product_start (far a.tail.machine.numbers a.tail.bytes.now a.blocks.now a.k) a.tail.offset))
 
 pub overflow_mul-c : goal.overflow_mul-c
 overflow_mul-c c = omega (arith, near_small {s = c.from-s.result} {b = c.min.result} (omega arith) (omega arith))
@@ -40,10 +40,10 @@ overflow_add-c c = omega (arith, near_small {s = c.from-s.result} {b = c.min.res
 pub loop-i-preserved : goal.loop-i-preserved
 loop-i-preserved c = let a = c.args in
     let e = c.from-s.ensures in
-    let mc = a.machine.numbers in
+    let mc = a.tail.machine.numbers in
     let top : ℕ = cap mc in
     let i : ℕ = c.loop-i.i in
-    let bytes : List ℕ = a.bytes.now in
+    let bytes : List ℕ = a.tail.bytes.now in
     let blocks : List ℕ = a.blocks.now in
     let s : ℕ = byte_at bytes a.k i in
     let b : ℕ = get_or blocks i 0 in
@@ -51,18 +51,18 @@ loop-i-preserved c = let a = c.args in
     let M : ℕ = product (far mc bytes blocks a.k) a.tail.offset (i - a.tail.offset) in
     let ss = sum_step (near mc bytes blocks a.k) a.tail.offset i c.loop-i.auto.i in
     let ps = product-step (far mc bytes blocks a.k) a.tail.offset i c.loop-i.auto.i in
-    elim c.if-s-machine.branch [
-      | then-s-machine w ↦
+    elim c.if-s-tail.branch [
+      | then-s-tail w ↦
           let t : c.from-s.result * w.min.result ≡ s * min (b - 1) top = ap₂ (λ (x y : ℕ). x * y) e (w.min.ensures ∙ capped top w.saturating_sub.ensures) in (
             omega (arith, w.c-is, near_small {s = c.from-s.result} {b = w.min.result} (omega arith) (omega arith)),
-            rw (ss, lt-ltb s mc.line (omega (arith, e, w.if-s-machine.true))) (more C (s * (b - 1)) c.loop-i.c _ _ top c.loop-i.invariant.1 (capped top t ∙ min-mul-right s (b - 1) top) w.c-is),
-            rw (ps, lt-ltb s mc.line (omega (arith, e, w.if-s-machine.true)), mul-one) (w.m-is ∙ c.loop-i.invariant.2),
+            rw (ss, lt-ltb s mc.line (omega (arith, e, w.if-s-tail.true))) (more C (s * (b - 1)) c.loop-i.c _ _ top c.loop-i.invariant.1 (capped top t ∙ min-mul-right s (b - 1) top) w.c-is),
+            rw (ps, lt-ltb s mc.line (omega (arith, e, w.if-s-tail.true)), mul-one) (w.m-is ∙ c.loop-i.invariant.2),
           )
-      | else-s-machine w ↦
+      | else-s-tail w ↦
           let t : w.min-m.result ≡ min (c.loop-i.m * b) top = cut_off (c.loop-i.m * b) w.saturating_mul.ensures w.min-m.ensures (omega arith) in (
             omega (arith, w.c-is),
-            rw (ss, le-ltb s mc.line (omega (arith, e, w.if-s-machine.false)), add-zero) (capped top w.c-is ∙ c.loop-i.invariant.1),
-            rw (ps, le-ltb s mc.line (omega (arith, e, w.if-s-machine.false))) (w.m-is ∙ t ∙ ap (λ (x : ℕ). min (x * b) top) c.loop-i.invariant.2 ∙ min-mul-left M b top),
+            rw (ss, le-ltb s mc.line (omega (arith, e, w.if-s-tail.false)), add-zero) (capped top w.c-is ∙ c.loop-i.invariant.1),
+            rw (ps, le-ltb s mc.line (omega (arith, e, w.if-s-tail.false))) (w.m-is ∙ t ∙ ap (λ (x : ℕ). min (x * b) top) c.loop-i.invariant.2 ∙ min-mul-left M b top),
           )
     ]
 
@@ -70,8 +70,8 @@ pub returns : goal.returns
 unfolding region_of
 returns c = let l = c.loop-i in
     let a = c.args in
-    let mc = a.machine.numbers in
-    let bytes : List ℕ = a.bytes.now in
+    let mc = a.tail.machine.numbers in
+    let bytes : List ℕ = a.tail.bytes.now in
     let blocks : List ℕ = a.blocks.now in
     let C : ℕ = sum (near mc bytes blocks a.k) a.tail.offset (l.i - a.tail.offset) in
     let M : ℕ = product (far mc bytes blocks a.k) a.tail.offset (l.i - a.tail.offset) in

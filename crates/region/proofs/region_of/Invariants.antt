@@ -9,5 +9,5 @@ use Rattle.region.proofs.region_of.Given as goal
 abbrev pub invariant-loop-i : goal.invariant-loop-i
 invariant-loop-i l =
     (l.c ≤ 536871168 * l.i)
-    × (min l.c (cap l.machine.numbers) ≡ min (sum (near l.machine.numbers l.bytes l.blocks l.k) l.fn.tail.offset (l.i - l.fn.tail.offset)) (cap l.machine.numbers))
-    × (l.m ≡ min (product (far l.machine.numbers l.bytes l.blocks l.k) l.fn.tail.offset (l.i - l.fn.tail.offset)) (cap l.machine.numbers))
+    × (min l.c (cap l.fn.tail.machine.numbers) ≡ min (sum (near l.fn.tail.machine.numbers l.fn.tail.bytes.now l.blocks l.k) l.fn.tail.offset (l.i - l.fn.tail.offset)) (cap l.fn.tail.machine.numbers))
+    × (l.m ≡ min (product (far l.fn.tail.machine.numbers l.fn.tail.bytes.now l.blocks l.k) l.fn.tail.offset (l.i - l.fn.tail.offset)) (cap l.fn.tail.machine.numbers))

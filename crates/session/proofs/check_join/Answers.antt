@@ -1,24 +1,27 @@
 -- `session::check_join` meets its contract. Assumes nothing.
-use mathlib.Core.Path.{sym, ◌∙◌}
+use mathlib.Core.Path.{sym, ap, ◌∙◌, subst}
 use lib.ListN.{take}
-use Rattle.session.specs.declared.Session.{Session}
-use Rattle.session.specs.Session.{new_rows}
-use Rattle.session.specs.Made.{LayoutRight, session_at}
+use Rattle.session.specs.Session.{Right, new_rows}
+use Rattle.strided.specs.Refusals.{answered, refused_by}
 use Rattle.session.proofs.Holding.{right_layout, past_10, at_10}
 use Rattle.session.proofs.check_join.Goals as goal
 
 pub check_joining-requires : goal.check_joining-requires
 check_joining-requires c =
-    let right : let a = c.args in LayoutRight a.numbers a.extents.now a.sizes.now a.strides.now = let a = c.args in right_layout a.numbers a.extents.now a.sizes.now a.strides.now a.ranks.now a.weights.now a.costs.now a.plan_extents.now a.blocks.now a.plan_strides.now (c.holds.ensures.told.yes c.if-not-holds.false) in
-    (right.axes, c.told-extents)
+    let i = c.session.inside in
+    (right_layout i.numbers i.extents.now i.sizes.now i.strides.now i.ranks.now i.weights.now i.costs.now i.plan_extents.now i.blocks.now i.plan_strides.now
+    (subst Right (sym c.session.view_is) (c.holds.ensures.told.yes c.if-not-holds.false))).axes
 
 pub returns : goal.returns
 returns c =
-    let session : Session = let a = c.args in session_at a.numbers a.extents.now a.sizes.now a.strides.now a.ranks.now a.weights.now a.costs.now a.plan_extents.now a.blocks.now a.plan_strides.now in
-    let a = c.args in
-    let h = c.holds.ensures in record { told = c.check_joining.ensures ∙ sym (past_10 session h.told (new_rows a.numbers.rank a.numbers.operands (take a.numbers.rank a.extents.now) a.joining.now) c.if-not-holds.false); table = (λ e. h.table c.if-not-holds.false) }
+    let s = c.args.session.now in
+    let h = c.holds.ensures in
+    record {
+      told = c.check_joining.ensures ∙ ap (λ s. answered (refused_by (new_rows s.rank s.operands (take s.rank s.extents) c.args.joining.now))) c.session.view_is ∙ sym (past_10 s h.told (new_rows s.rank s.operands (take s.rank s.extents) c.args.joining.now) c.if-not-holds.false);
+      table = λ e. h.table c.if-not-holds.false;
+    }
 
 pub returns-then-not-holds : goal.returns-then-not-holds
 returns-then-not-holds c =
-    let session : Session = let a = c.args in session_at a.numbers a.extents.now a.sizes.now a.strides.now a.ranks.now a.weights.now a.costs.now a.plan_extents.now a.blocks.now a.plan_strides.now in
-    let a = c.args in record { told = sym (at_10 session c.holds.ensures.told (new_rows a.numbers.rank a.numbers.operands (take a.numbers.rank a.extents.now) a.joining.now) c.if-not-holds.true); table = (λ e. cc) }
+    let s = c.args.session.now in
+    record { told = sym (at_10 s c.holds.ensures.told (new_rows s.rank s.operands (take s.rank s.extents) c.args.joining.now) c.if-not-holds.true); table = λ e. cc }

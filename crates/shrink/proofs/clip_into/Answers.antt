@@ -18,26 +18,26 @@ loop-i-init c = sym (over_start _ _ _ _ _)
 pub overflow_mul-saturating_sub : goal.overflow_mul-saturating_sub
 overflow_mul-saturating_sub c =
     -- the product that the code compares is the score
-    let the-score : let a = c.args in c.saturating_sub.result * get_or a.costs.now c.loop-i.i 0 ≡ score a.blocks.now a.costs.now c.loop-i.i = ap (λ (x : ℕ). x * get_or c.args.costs.now c.loop-i.i 0) c.saturating_sub.ensures in
-    omega (arith, the-score, c.requires c.loop-i.i (omega arith))
+    let the-score : let a = c.args in c.saturating_sub.result * get_or a.scores.costs.now c.loop-i.i 0 ≡ score a.scores.blocks.now a.scores.costs.now c.loop-i.i = ap (λ (x : ℕ). x * get_or c.args.scores.costs.now c.loop-i.i 0) c.saturating_sub.ensures in
+    omega (arith, the-score, c.args.scores.fit c.loop-i.i (omega arith))
 
 pub nonzero_div-out : goal.nonzero_div-out
 nonzero_div-out c = pos_right c.saturating_sub.result _ _ c.if-level-saturating_sub.true
 
 pub overflow_add-out : goal.overflow_add-out
 overflow_add-out c =
-    let the-score : let a = c.args in c.saturating_sub.result * get_or a.costs.now c.loop-i.i 0 ≡ score a.blocks.now a.costs.now c.loop-i.i = ap (λ (x : ℕ). x * get_or c.args.costs.now c.loop-i.i 0) c.saturating_sub.ensures in
+    let the-score : let a = c.args in c.saturating_sub.result * get_or a.scores.costs.now c.loop-i.i 0 ≡ score a.scores.blocks.now a.scores.costs.now c.loop-i.i = ap (λ (x : ℕ). x * get_or c.args.scores.costs.now c.loop-i.i 0) c.saturating_sub.ensures in
     let a = c.args in
-    omega (arith, the-score, c.requires c.loop-i.i (omega arith), div-le_self a.level (get_or a.costs.now c.loop-i.i 0))
+    omega (arith, the-score, c.args.scores.fit c.loop-i.i (omega arith), div-le_self a.level (get_or a.scores.costs.now c.loop-i.i 0))
 
 pub loop-i-preserved : goal.loop-i-preserved
 loop-i-preserved c =
-    let the-score : let a = c.args in c.saturating_sub.result * get_or a.costs.now c.loop-i.i 0 ≡ score a.blocks.now a.costs.now c.loop-i.i = ap (λ (x : ℕ). x * get_or c.args.costs.now c.loop-i.i 0) c.saturating_sub.ensures in
+    let the-score : let a = c.args in c.saturating_sub.result * get_or a.scores.costs.now c.loop-i.i 0 ≡ score a.scores.blocks.now a.scores.costs.now c.loop-i.i = ap (λ (x : ℕ). x * get_or c.args.scores.costs.now c.loop-i.i 0) c.saturating_sub.ensures in
     let a = c.args in
     let i : ℕ = c.loop-i.i in
-    let sc : ℕ = score a.blocks.now a.costs.now i in
+    let sc : ℕ = score a.scores.blocks.now a.scores.costs.now i in
     let e = the-score in
-    let st = over-step a.level a.costs.now a.tail.offset i a.blocks.now a.out.now c.loop-i.auto.i in
+    let st = over-step a.level a.scores.costs.now a.scores.tail.offset i a.scores.blocks.now a.out.now c.loop-i.auto.i in
     elim c.if-level-saturating_sub.branch [
       | then-level-saturating_sub w ↦ let above : a.level < sc = omega (arith, e, w.if-level-saturating_sub.true) in (rw (w.out-is, c.loop-i.invariant, st, lt-ltb a.level sc above))
       | else-level-saturating_sub w ↦ let within : sc ≤ a.level = omega (arith, e, w.if-level-saturating_sub.false) in (rw (w.out-is, c.loop-i.invariant, st, le-ltb a.level sc within))
@@ -46,5 +46,5 @@ loop-i-preserved c =
 pub returns : goal.returns
 returns c = let a = c.args in
     let l = c.loop-i in
-    let e : l.i ≡ a.tail.rank = omega arith in
-    l.invariant ∙ ap (λ (i : ℕ). clipped_over a.level a.costs.now a.tail.offset (i - a.tail.offset) a.blocks.now a.out.now) e
+    let e : l.i ≡ a.scores.tail.rank = omega arith in
+    l.invariant ∙ ap (λ (i : ℕ). clipped_over a.level a.scores.costs.now a.scores.tail.offset (i - a.scores.tail.offset) a.scores.blocks.now a.out.now) e

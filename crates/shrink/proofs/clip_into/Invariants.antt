@@ -5,4 +5,4 @@ use Rattle.laws.specs.Cut.Jump.{clipped_over}
 use Rattle.shrink.proofs.clip_into.Given as goal
 
 abbrev pub invariant-loop-i : goal.invariant-loop-i
-invariant-loop-i l = (l.out ≡ clipped_over l.level l.costs l.fn.tail.offset (l.i - l.fn.tail.offset) l.blocks l.initial.out)
+invariant-loop-i l = (l.out ≡ clipped_over l.level l.fn.scores.costs.now l.fn.scores.tail.offset (l.i - l.fn.scores.tail.offset) l.fn.scores.blocks.now l.initial.out)

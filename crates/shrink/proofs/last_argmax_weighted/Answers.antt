@@ -16,27 +16,27 @@ loop-i-init c = (sym (pick_start _ _ _), refl)
 pub overflow_mul-s : goal.overflow_mul-s
 overflow_mul-s c =
     -- the product is the score
-    let the-score : let a = c.args in c.saturating_sub.result * get_or a.costs.now c.loop-i.i 0 ≡ score a.blocks.now a.costs.now c.loop-i.i = ap (λ (x : ℕ). x * get_or c.args.costs.now c.loop-i.i 0) c.saturating_sub.ensures in
-    omega (arith, the-score, c.requires c.loop-i.i (omega arith))
+    let the-score : let a = c.args in c.saturating_sub.result * get_or a.scores.costs.now c.loop-i.i 0 ≡ score a.scores.blocks.now a.scores.costs.now c.loop-i.i = ap (λ (x : ℕ). x * get_or c.args.scores.costs.now c.loop-i.i 0) c.saturating_sub.ensures in
+    omega (arith, the-score, c.args.scores.fit c.loop-i.i (omega arith))
 
 pub loop-i-preserved : goal.loop-i-preserved
 loop-i-preserved c =
-    let the-score : let a = c.args in c.saturating_sub.result * get_or a.costs.now c.loop-i.i 0 ≡ score a.blocks.now a.costs.now c.loop-i.i = ap (λ (x : ℕ). x * get_or c.args.costs.now c.loop-i.i 0) c.saturating_sub.ensures in
+    let the-score : let a = c.args in c.saturating_sub.result * get_or a.scores.costs.now c.loop-i.i 0 ≡ score a.scores.blocks.now a.scores.costs.now c.loop-i.i = ap (λ (x : ℕ). x * get_or c.args.scores.costs.now c.loop-i.i 0) c.saturating_sub.ensures in
     let a = c.args in
     let i : ℕ = c.loop-i.i in
-    let s : ℕ → ℕ = score a.blocks.now a.costs.now in
-    let old : Option ℕ = greatest_score a.blocks.now a.costs.now a.tail.offset (i - a.tail.offset) in
+    let s : ℕ → ℕ = score a.scores.blocks.now a.scores.costs.now in
+    let old : Option ℕ = greatest_score a.scores.blocks.now a.scores.costs.now a.scores.tail.offset (i - a.scores.tail.offset) in
     let sc = the-score in
     let e : bar_of s old ≡ c.loop-i.top = sym (c.loop-i.invariant.1 ∙ ap (bar_of s) c.loop-i.invariant.0) in
     elim c.if-s-top.branch [
       | then-s-top w ↦ let wins : bar_of s old ≤ s i = omega (arith, e, sc, w.if-s-top.true) in
-          (rw (w.best-is, pick_wins a.blocks.now a.costs.now a.tail.offset i c.loop-i.auto.i wins), rw (w.best-is, w.top-is) sc)
+          (rw (w.best-is, pick_wins a.scores.blocks.now a.scores.costs.now a.scores.tail.offset i c.loop-i.auto.i wins), rw (w.best-is, w.top-is) sc)
       | else-s-top w ↦ let loses : s i < bar_of s old = omega (arith, e, sc, w.if-s-top.false) in
-          (rw (w.best-is, pick_loses a.blocks.now a.costs.now a.tail.offset i c.loop-i.auto.i loses) c.loop-i.invariant.0, rw (w.best-is, w.top-is) c.loop-i.invariant.1)
+          (rw (w.best-is, pick_loses a.scores.blocks.now a.scores.costs.now a.scores.tail.offset i c.loop-i.auto.i loses) c.loop-i.invariant.0, rw (w.best-is, w.top-is) c.loop-i.invariant.1)
     ]
 
 pub returns : goal.returns
 returns c = let a = c.args in
     let l = c.loop-i in
-    let e : l.i ≡ a.tail.rank = omega arith in
-    l.invariant.0 ∙ ap (λ (i : ℕ). greatest_score a.blocks.now a.costs.now a.tail.offset (i - a.tail.offset)) e
+    let e : l.i ≡ a.scores.tail.rank = omega arith in
+    l.invariant.0 ∙ ap (λ (i : ℕ). greatest_score a.scores.blocks.now a.scores.costs.now a.scores.tail.offset (i - a.scores.tail.offset)) e

@@ -6,4 +6,4 @@ use Rattle.laws.specs.Cut.Picks.{bar_of}
 use Rattle.shrink.proofs.last_argmax_weighted.Given as goal
 
 abbrev pub invariant-loop-i : goal.invariant-loop-i
-invariant-loop-i l = (l.best ≡ greatest_score l.blocks l.costs l.fn.tail.offset (l.i - l.fn.tail.offset)) × (l.top ≡ bar_of (score l.blocks l.costs) l.best)
+invariant-loop-i l = (l.best ≡ greatest_score l.fn.scores.blocks.now l.fn.scores.costs.now l.fn.scores.tail.offset (l.i - l.fn.scores.tail.offset)) × (l.top ≡ bar_of (score l.fn.scores.blocks.now l.fn.scores.costs.now) l.best)

@@ -11,7 +11,6 @@ use Rattle.laws.specs.Cut.Steps.{ScoresFit, lessened_fits}
 use Rattle.laws.specs.Cut.Jump.{clipped, clipped_over, over_itself, jump, clipped_scores}
 use Rattle.laws.specs.Cut.Level.{Least}
 use Rattle.region.specs.Tail.{axes}
-use Rattle.std.proofs.Common.{subst}
 use Rattle.shrink.proofs.lessen_far.Goals as goal
 
 -- the blocks b clipped at the score s are t, which the single steps start from
@@ -25,21 +24,18 @@ module _ (mc : Machine) (bytes : List ℕ) (operands : ℕ) (costs : List ℕ) (
   same_end : Least mc bytes operands costs o n b s → lessened mc bytes operands costs o n t ≡ lessened mc bytes operands costs o n b
   same_end h = ap (lessened mc bytes operands costs o n) is ∙ sym (jump mc bytes operands costs o n s b h.above)
 
-pub returns-then-memory_region-machine : goal.returns-then-memory_region-machine
-returns-then-memory_region-machine c =
+pub returns-then-memory_region-tail : goal.returns-then-memory_region-tail
+returns-then-memory_region-tail c =
     let a = c.args in
-    let small : region a.machine.numbers a.bytes.now a.tail.operands a.blocks.now a.tail.offset (axes a.tail) ≤ a.machine.numbers.cache = omega arith in
-    sym (lessened_fits a.machine.numbers a.bytes.now a.tail.operands a.costs.now a.tail.offset (axes a.tail) a.blocks.now small)
-
-pub level-s-requires : goal.level-s-requires
-level-s-requires c = record { scores = c.requires; cache_bound = omega arith }
+    let small : region a.tail.machine.numbers a.tail.bytes.now a.tail.operands a.blocks.now a.tail.offset (axes a.tail) ≤ a.tail.machine.numbers.cache = omega arith in
+    sym (lessened_fits a.tail.machine.numbers a.tail.bytes.now a.tail.operands a.costs.now a.tail.offset (axes a.tail) a.blocks.now small)
 
 pub lessen-requires : goal.lessen-requires
 lessen-requires c =
-    let a = c.args in still-fit a.machine.numbers a.bytes.now a.tail.operands a.costs.now a.tail.offset (axes a.tail) a.tail.rank a.blocks.now c.level-s.result c.clip_into.ensures c.requires
+    let a = c.args in still-fit a.tail.machine.numbers a.tail.bytes.now a.tail.operands a.costs.now a.tail.offset (axes a.tail) a.tail.rank a.blocks.now c.level-s.result c.clip_into.ensures c.requires
 
 pub returns : goal.returns
 returns c =
     let a = c.args in
     c.lessen.ensures
-    ∙ same_end a.machine.numbers a.bytes.now a.tail.operands a.costs.now a.tail.offset (axes a.tail) a.tail.rank a.blocks.now c.level-s.result c.clip_into.ensures c.level-s.ensures
+    ∙ same_end a.tail.machine.numbers a.tail.bytes.now a.tail.operands a.costs.now a.tail.offset (axes a.tail) a.tail.rank a.blocks.now c.level-s.result c.clip_into.ensures c.level-s.ensures

@@ -6,21 +6,20 @@ use Prim.Native.Nat.{ℕ}
 use Rattle.strided.specs.Cut.{halved, lessened, shrunk}
 use Rattle.laws.specs.Cut.Steps.{ScoresFit, scores_le, halved_le}
 use Rattle.region.specs.Tail.{axes}
-use Rattle.std.proofs.Common.{subst}
 use Rattle.shrink.proofs.shrink.Goals as goal
 
 pub lessen_far-requires : goal.lessen_far-requires
 lessen_far-requires c =
     let a = c.args in
-    let bytes : List ℕ = a.bytes.now in
+    let bytes : List ℕ = a.tail.bytes.now in
     let n : ℕ = axes a.tail in
     let b : List ℕ = a.blocks.now in
-    let half : List ℕ = halved a.machine.numbers bytes a.tail.operands a.costs.now a.tail.offset n b in
+    let half : List ℕ = halved a.tail.machine.numbers bytes a.tail.operands a.costs.now a.tail.offset n b in
     subst⁻¹ (λ (l : List ℕ). ScoresFit a.tail.rank a.costs.now l) c.halve.ensures
-    (scores_le a.tail.rank a.costs.now b half (halved_le a.machine.numbers bytes a.tail.operands a.costs.now a.tail.offset n b) c.requires)
+    (scores_le a.tail.rank a.costs.now b half (halved_le a.tail.machine.numbers bytes a.tail.operands a.costs.now a.tail.offset n b) c.requires)
 
 pub returns : goal.returns
 unfolding shrunk
 returns c =
     let a = c.args in
-    c.lessen_far.ensures ∙ ap (lessened a.machine.numbers a.bytes.now a.tail.operands a.costs.now a.tail.offset (axes a.tail)) c.halve.ensures
+    c.lessen_far.ensures ∙ ap (lessened a.tail.machine.numbers a.tail.bytes.now a.tail.operands a.costs.now a.tail.offset (axes a.tail)) c.halve.ensures

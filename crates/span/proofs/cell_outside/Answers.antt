@@ -2,6 +2,7 @@
 use mathlib.Core.Path.{◌≡◌, sym, ◌∙◌}
 use mir.Facts.{to_z-of_z}
 use mathlib.Core.Bool.{false}
+use borrow.Author.Tests.{lt-ltb}
 use Rattle.strided.specs.Layout.{has_zero}
 use Rattle.span.proofs.Sums.{full, no_cell, starts_below, too_low, down_le, top_test}
 use Rattle.span.proofs.cell_outside.Goals as goal
@@ -22,14 +23,14 @@ down_of-below-requires c =
 pub returns-then-at-below : goal.returns-then-at-below
 returns-then-at-below c =
     let whole : has_zero c.args.extents.now ≡ false = sym c.has_zero.ensures ∙ c.if-has_zero.false in
-    too_low _ c.ranges.start c.if-start-lt0.false _ _ _ c.requires whole _ c.down_of-below.ensures c.if-at-below.true
+    lt-ltb _ _ c.if-at-below.true ∙ too_low _ c.ranges.start c.if-start-lt0.false _ _ _ c.requires whole _ c.down_of-below.ensures c.if-at-below.true
 
 pub overflow_sub-result : goal.overflow_sub-result
 overflow_sub-result c =
     let whole : has_zero c.args.extents.now ≡ false = sym c.has_zero.ensures ∙ c.if-has_zero.false in
-    down_le _ c.ranges.start c.if-start-lt0.false _ _ c.args.cells c.requires whole _ c.down_of-below.ensures _ c.reach_of-reach.ensures
+    down_le _ c.ranges.start c.if-start-lt0.false _ _ c.args.cells c.requires whole _ c.down_of-below.ensures _ c.reach_of.ensures
 
-pub returns : goal.returns
-returns c =
+pub returns-else-at-below : goal.returns-else-at-below
+returns-else-at-below c =
     let whole : has_zero c.args.extents.now ≡ false = sym c.has_zero.ensures ∙ c.if-has_zero.false in
-    top_test _ c.ranges.start c.if-start-lt0.false _ _ _ c.requires whole _ c.down_of-below.ensures _ c.reach_of-reach.ensures c.if-at-below.false
+    top_test _ c.ranges.start c.if-start-lt0.false _ _ _ c.requires whole _ c.down_of-below.ensures _ c.reach_of.ensures c.if-at-below.false

@@ -9,6 +9,7 @@ use native.Mathlib.Omega.{arith}
 use lib.IntN.{ℤ}
 use lib.ListN.{length}
 use mir.Facts.{to_z-of_z}
+use borrow.Author.Rules.{rules}
 use Rattle.std.proofs.lemmas.Result.{err_from_is_err_and}
 use Rattle.strided.specs.Layout.{stride_row}
 use Rattle.strided.specs.Refusals.{row9}
@@ -20,7 +21,7 @@ use Rattle.laws.specs.Refusals.Record.{planning_allowed, planning_layout}
 use Rattle.summary.specs.Ahead.{Summable, met}
 use Rattle.summary.specs.Sums.{nothing_met}
 use Rattle.summary.specs.Visits.{cell_sizes, ordering, summary_plan, visits_of}
-use Rattle.summary.proofs.Served.{spans, begins_if, if_begins, inside_stays, summable, made_plan, begun_taken, begun-refused, refused_9, refused_22, not-refused, all_summed, refused_with, served_with}
+use Rattle.summary.proofs.Served.{spans, begins_if, if_begins, inside_stays, summable, made_plan, made_few, begun_taken, begun-refused, refused_9, refused_22, not-refused, all_summed, refused_with, served_with}
 use Rattle.summary.proofs.summarize_served.Goals as goal
 use mir.Syntax.{w64}
 
@@ -30,6 +31,16 @@ plan_into-rank-requires c =
 
 pub cell_outside-requires : goal.cell_outside-requires
 cell_outside-requires c = spans c.args.machine c.args.extents.now c.args.strides.now c.requires
+
+pub invariant_of-plan : goal.invariant_of-plan
+invariant_of-plan c =
+    let few = made_few c.args.machine c.args.extents.now c.args.strides.now c.requires c.plan_into-rank.ensures in
+    record { axes = few; one = omega arith; few = omega arith; extents-all = search rules; blocks_all = search rules; strides_all = search rules }
+
+pub invariant_of-plan-2 : goal.invariant_of-plan-2
+invariant_of-plan-2 c =
+    let few = made_few c.args.machine c.args.extents.now c.args.strides.now c.requires c.plan_into-rank.ensures in
+    record { axes = few; one = omega arith; few = omega arith; extents-all = search rules; blocks_all = search rules; strides_all = search rules }
 
 pub returns-in_err-begin_on : goal.returns-in_err-begin_on
 returns-in_err-begin_on c =

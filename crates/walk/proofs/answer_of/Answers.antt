@@ -1,39 +1,31 @@
--- `walk::answer_of` meets its contract: rows 1, 2 and 10. Assumes nothing.
-use mathlib.Core.Path.{refl}
-use borrow.Author.Rules.{rules}
-use Rattle.strided.specs.Memory.{plan_of, walk_of}
+-- `walk::answer_of` meets its contract: row 10. Assumes nothing.
+use mathlib.Core.Bool.{Bool, true, false, not}
+use mathlib.Core.Path.{◌≡◌, refl, subst}
+use Rattle.std.specs.Prelude.{Ok}
+use Rattle.strided.specs.Memory.{walk_of}
 use Rattle.strided.specs.declared.Plan.{Plan}
 use Rattle.strided.specs.declared.Walk.{Walk}
-use Rattle.walk.specs.Lent.{Taken}
-use Rattle.walk.proofs.Stepping.{rank_rejected, operands_rejected, state_rejected, taken, ended_step}
+use Rattle.layout.specs.Lent.{Whole}
+use Rattle.walk.specs.Lent.{Taken, Answers}
+use Rattle.walk.proofs.Stepping.{state_rejected, taken, ended_step}
 use Rattle.walk.proofs.answer_of.Goals as goal
 
-pub returns-then-rank_over : goal.returns-then-rank_over
-returns-then-rank_over c = rank_rejected _ _ c.rank_over.ensures c.if-rank_over.true refl
-
-pub returns-then-operands_wrong : goal.returns-then-operands_wrong
-returns-then-operands_wrong c = operands_rejected _ _ c.rank_over.ensures c.if-rank_over.false c.operands_wrong.ensures c.if-operands_wrong.true refl
-
--- P and W are the plan and the state of the arrays; `search rules` finds the sizes of the arrays
-
-pub returns-then-ended : goal.returns-then-ended
-returns-then-ended c =
-    let a = c.args in
-    let P : Plan = plan_of a.rank a.operands a.e.now a.b.now a.s.now in
-    let W : Walk = walk_of a.ended a.c.now a.o.now in
-    let reached : Taken P W = taken P W c.rank_over.ensures c.if-rank_over.false c.operands_wrong.ensures c.if-operands_wrong.false (search rules) (search rules) (search rules) (search rules) (search rules) c.reaches.ensures c.if-reaches.true in
-    ended_step P W reached c.if-ended.true refl
+answered_ok : (p : Plan) (w : Walk) → Taken p w → Answers p w (Ok (not w.ended))
+answered_ok p w k = go w.ended refl
+  where
+    go : (b : Bool) → w.ended ≡ b → Answers p w (Ok (not b))
+    go true e = ended_step p w k e
+    go false e = (k, e)
 
 pub returns-then-reaches : goal.returns-then-reaches
 returns-then-reaches c =
     let a = c.args in
-    let P : Plan = plan_of a.rank a.operands a.e.now a.b.now a.s.now in
-    let W : Walk = walk_of a.ended a.c.now a.o.now in
-    (taken P W c.rank_over.ensures c.if-rank_over.false c.operands_wrong.ensures c.if-operands_wrong.false (search rules) (search rules) (search rules) (search rules) (search rules) c.reaches.ensures c.if-reaches.true, c.if-ended.false)
+    let A : Whole a.plan.now = subst Whole c.plan.view_is c.plan.invariant in
+    let w : Walk = walk_of a.ended a.c.now a.o.now in
+    answered_ok a.plan.now w (taken a.plan.now w A c.told-c c.told-o c.reaches.ensures c.if-reaches.true)
 
 pub returns : goal.returns
 returns c =
     let a = c.args in
-    let P : Plan = plan_of a.rank a.operands a.e.now a.b.now a.s.now in
-    let W : Walk = walk_of a.ended a.c.now a.o.now in
-    state_rejected P W c.rank_over.ensures c.if-rank_over.false c.operands_wrong.ensures c.if-operands_wrong.false (search rules) (search rules) (search rules) (search rules) (search rules) c.reaches.ensures c.if-reaches.false refl
+    let A : Whole a.plan.now = subst Whole c.plan.view_is c.plan.invariant in
+    state_rejected a.plan.now (walk_of a.ended a.c.now a.o.now) A c.told-c c.told-o c.reaches.ensures c.if-reaches.false

@@ -1,5 +1,10 @@
 -- `walker::go_behind` meets its contract. Assumes nothing.
-use Rattle.walker.proofs.Going.{may_go, gone_on, last_less, left_above, end_below, limit_less, gone_last, passed_short, passed_all}
+use mathlib.Core.Bool.{false}
+use mathlib.Core.Path.{◌≡◌, sym, subst}
+use Prim.Native.Nat.{◌+◌, ◌-◌, ◌*◌, ◌^◌, ◌≤◌, ◌<◌}
+use lib.ListN.{get_or}
+use Rattle.strided.specs.declared.Plan.{Plan}
+use Rattle.walker.proofs.Going.{may_go, gone_on, last_less, left_above, end_below, at_end, limit_less, gone_last, passed_short, passed_all}
 use Rattle.walker.proofs.go_behind.Goals as goal
 
 pub go_steps-requires : goal.go_steps-requires
@@ -14,10 +19,32 @@ returns-then-limit-left c =
 
 pub ends_axis-requires : goal.ends_axis-requires
 ends_axis-requires c =
-    let k = c.requires in record { by_bound = end_below k.strides k.left_value.0; left_nonzero = (left_above k.strides k.left_value.0, k.left_value.1) }
+    let k = c.requires in
+    let a = c.args in
+    record {
+      by_bound = subst (λ (p : Plan). 0 < a.y.by → get_or a.at.now.counters a.y.axis 0 + (a.left - 1) * a.y.by ≤ get_or p.extents a.y.axis 0) (sym c.plan.view_is) (end_below k.strides k.left_value.0);
+      left_nonzero = (left_above k.strides k.left_value.0, subst (λ (p : Plan). get_or p.extents a.y.axis 0 < 2 ^ 64) (sym c.plan.view_is) k.left_value.1);
+    }
 
 pub overflow_sub-left : goal.overflow_sub-left
 overflow_sub-left c = let k = c.requires in left_above k.strides k.left_value.0
+
+pub leave-requires : goal.leave-requires
+leave-requires c =
+    let k = c.requires in
+    let a = c.args in
+    let x = c.ends_axis.ensures c.if-ends_axis.true in
+    record {
+      strides = k.strides;
+      by_nonzero = (
+        x.0,
+        at_end k.strides k.left_value.0 x.0
+            (subst (λ (p : Plan). a.y.inside ≡ false → get_or p.extents a.y.axis 0 - (get_or a.at.now.counters a.y.axis 0 + (a.left - 1) * a.y.by) ≤ a.y.by) c.plan.view_is x.1),
+      );
+    }
+
+pub returns-then-ends_axis : goal.returns-then-ends_axis
+returns-then-ends_axis c = let k = c.requires in passed_all k.strides k.left_value.0 _ c.if-limit-left.false c.leave.ensures
 
 pub go_steps-requires-2 : goal.go_steps-requires-2
 go_steps-requires-2 c =

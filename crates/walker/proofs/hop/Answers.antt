@@ -13,4 +13,4 @@ returns c =
     let inside : c.args.y.inside ≡ true = not-false _ c.if-not-y.false in
     let behind : c.args.y.axis + 1 < c.args.y.inner = let f = c.if-y-axis.false in omega (arith, f) in
     let k = c.requires in
-    hopped k.strides k.left_value moves inside c.if-limit-left.false c.if-c-axis.false behind c.go_ahead.ensures
+    hopped k.strides k.left_value moves inside c.if-limit-left.false c.if-at-axis.false behind c.go_ahead.ensures

@@ -1,7 +1,12 @@
 -- `walker::leave` meets its contract. Assumes nothing.
-use Rattle.walker.proofs.Leaving.{shifts_there, tiled_there, tiled_stays, roomy_there, left_inside_at, left_tile_at, left-whole-at, home_tile, home-zero}
-use native.Mathlib.Omega.{arith}
-use mathlib.Core.Path.{refl}
+use mathlib.Core.Bool.{false}
+use mathlib.Core.Path.{refl, sym, subst}
+use native.Mathlib.Nat.{le_refl}
+use Prim.Native.Nat.{◌+◌, ◌≤◌}
+use lib.ListN.{set}
+use Rattle.strided.specs.declared.Plan.{Plan}
+use Rattle.advance.specs.Carry.{CarriedTo, state_of}
+use Rattle.walker.proofs.Leaving.{shifts_there, tiled_there, roomy_there, left_inside_at, left_tile_at, left-whole-at, home_tile, home-zero, start_same}
 use Rattle.walker.proofs.leave.Goals as goal
 
 pub shift-requires : goal.shift-requires
@@ -12,17 +17,27 @@ shift-requires c =
 pub carry-requires : goal.carry-requires
 carry-requires c =
     let k = c.requires in
-    let e = home_tile k.strides k.by_nonzero.0 c.if-y.true in record { roomy = roomy_there k.strides k.by_nonzero.0 e c.shift.ensures; tiled = tiled_stays k.strides k.by_nonzero.0 e refl; last_le_rank = k.strides.leads.single.most }
+    let m = k.strides in
+    let h = k.by_nonzero.0 in
+    let e = home_tile m h c.if-y.true in
+    record { roomy = roomy_there m h e (start_same m h) c.shift.ensures; tiled = tiled_there m h e (start_same m h) c.shift.ensures; last_le_rank = m.leads.single.most }
 
 pub returns-then-carry : goal.returns-then-carry
 returns-then-carry c =
     let k = c.requires in
-    rw c.if-carry.true (left_inside_at k.strides k.by_nonzero.0 (home_tile k.strides k.by_nonzero.0 c.if-y.true) c.shift.ensures k.by_nonzero.1 c.if-y.true c.carry.ensures c.if-carry.true)
+    let m = k.strides in
+    let h = k.by_nonzero.0 in
+    rw c.if-carry.true (left_inside_at m h (home_tile m h c.if-y.true) (start_same m h) c.shift.ensures k.by_nonzero.1 c.if-y.true c.carry.ensures c.if-carry.true)
 
 pub returns-else-carry : goal.returns-else-carry
 returns-else-carry c =
     let k = c.requires in
-    left_tile_at k.strides k.by_nonzero.0 (home_tile k.strides k.by_nonzero.0 c.if-y.true) c.shift.ensures k.by_nonzero.1 c.if-y.true c.carry.ensures c.if-carry.false c.carry-else-carry.ensures
+    let m = k.strides in
+    let h = k.by_nonzero.0 in
+    let a = c.args in
+    let x = c.carry-else-carry in
+    left_tile_at m h (home_tile m h c.if-y.true) (start_same m h) c.shift.ensures k.by_nonzero.1 c.if-y.true c.carry.ensures c.if-carry.false
+    (subst (λ (q : Plan). CarriedTo false 0 q.rank a.plan.now a.w.now c.carry.new.at x.result x.new.at) c.plan.view_is x.ensures)
 
 pub shift-requires-2 : goal.shift-requires-2
 shift-requires-2 c =
@@ -32,10 +47,22 @@ shift-requires-2 c =
 pub carry-requires-2 : goal.carry-requires-2
 carry-requires-2 c =
     let k = c.requires in
-    let e = home-zero k.strides k.by_nonzero.0 c.if-y.false in record { roomy = roomy_there k.strides k.by_nonzero.0 e c.shift-2.ensures; tiled = tiled_there k.strides k.by_nonzero.0 e; last_le_rank = omega arith }
+    let m = k.strides in
+    let h = k.by_nonzero.0 in
+    let e = home-zero m h c.if-y.false in
+    record {
+      roomy = roomy_there m h e refl c.shift-2.ensures;
+      tiled = tiled_there m h e refl c.shift-2.ensures;
+      last_le_rank = subst (λ (q : Plan). q.rank ≤ c.args.plan.now.rank) (sym c.plan.view_is) (le_refl c.args.plan.now.rank);
+    }
 
 pub returns : goal.returns
 returns c =
     let k = c.requires in
-    let e = home-zero k.strides k.by_nonzero.0 c.if-y.false in
-    left-whole-at k.strides k.by_nonzero.0 e c.shift-2.ensures k.by_nonzero.1 c.if-y.false c.carry-2.ensures
+    let m = k.strides in
+    let h = k.by_nonzero.0 in
+    let a = c.args in
+    let x = c.carry-2 in
+    let there = state_of (set a.at.now.tile_starts a.y.axis 0) (set a.at.now.counters a.y.axis 0) c.shift-2.new.o in
+    left-whole-at m h (home-zero m h c.if-y.false) refl c.shift-2.ensures k.by_nonzero.1 c.if-y.false
+    (subst (λ (q : Plan). CarriedTo false (a.y.axis + 1) q.rank a.plan.now a.w.now there x.result x.new.at) c.plan.view_is x.ensures)

@@ -5,4 +5,4 @@ use Rattle.walker.specs.Way.{added}
 use Rattle.walker.proofs.move_by.Given as goal
 
 abbrev pub invariant-loop-k : goal.invariant-loop-k
-invariant-loop-k l = (l.k ≤ l.operands) × (l.o ≡ added l.k l.d l.initial.o)
+invariant-loop-k l = (l.k ≤ l.plan.operands) × (l.o ≡ added l.k l.d l.initial.o)

@@ -18,10 +18,10 @@ pub window_into-requires : goal.window_into-requires
 window_into-requires c =
     let a = c.args in
     -- no row applies
-    let passed : window_refused a.extents.now a.sizes.now a.strides.now a.firsts.now a.counts.now a.steps.now ≡ None = served_none _ _ (sym c.check_window.ensures ∙ c.in_ok-check_window.was) in
-    record { window_taken = window_taken a.extents.now a.sizes.now a.strides.now a.firsts.now a.counts.now a.steps.now passed; zeros = record { extents = refl; strides = refl; shifts = refl } }
+    let passed : window_refused a.extents.now a.sizes.now a.strides.now a.picks.firsts.now a.picks.counts.now a.picks.steps.now ≡ None = served_none _ _ (sym c.check_window.ensures ∙ c.in_ok-check_window.was) in
+    record { window_taken = window_taken a.extents.now a.sizes.now a.strides.now a.picks.firsts.now a.picks.counts.now a.picks.steps.now passed; zeros = record { extents = refl; strides = refl; shifts = refl } }
 
 pub returns : goal.returns
 returns c =
     let a = c.args in
-    serves a.extents.now a.sizes.now a.strides.now a.firsts.now a.counts.now a.steps.now (served_none _ _ (sym c.check_window.ensures ∙ c.in_ok-check_window.was)) _ _ _ c.window_into.ensures
+    serves a.extents.now a.sizes.now a.strides.now a.picks.firsts.now a.picks.counts.now a.picks.steps.now (served_none _ _ (sym c.check_window.ensures ∙ c.in_ok-check_window.was)) _ _ _ c.window_into.ensures

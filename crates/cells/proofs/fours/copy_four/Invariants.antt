@@ -8,4 +8,4 @@ use Rattle.cells.proofs.fours.copy_four.Given as goal
 
 abbrev pub invariant-loop-i : goal.invariant-loop-i
 invariant-loop-i l =
-    (l.i ≤ l.n) × (length l.destination ≡ length l.initial.destination) × (l.destination ≡ copied l.width (crossing l.i l.j 4 l.to l.from) l.initial.destination l.source)
+    (l.i ≤ l.patch.n0) × (length l.destination ≡ length l.initial.destination) × (l.destination ≡ copied l.patch.width (crossing l.i l.j 4 l.patch.to l.patch.from) l.initial.destination l.source)

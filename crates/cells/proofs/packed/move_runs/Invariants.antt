@@ -8,4 +8,4 @@ use Rattle.cells.proofs.packed.move_runs.Given as goal
 
 abbrev pub invariant-loop-j : goal.invariant-loop-j
 invariant-loop-j l =
-    (l.j ≤ l.n1) × (length l.destination ≡ length l.initial.destination) × (l.destination ≡ copied l.width (patch_cells l.n0 l.j l.to l.from) l.initial.destination l.source)
+    (l.j ≤ l.patch.n1) × (length l.destination ≡ length l.initial.destination) × (l.destination ≡ copied l.patch.width (patch_cells l.patch.n0 l.j l.patch.to l.patch.from) l.initial.destination l.source)

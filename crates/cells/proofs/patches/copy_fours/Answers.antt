@@ -19,36 +19,36 @@ pub copy_four-requires : goal.copy_four-requires
 copy_four-requires c =
     let a = c.args in
     let j : ℕ = c.loop-j.j in
-    let h : j + 4 ≤ a.n1 = omega arith in record { width_bound = (c.requires.width_bound, omega arith); runs_in = subst (λ (len : ℕ). RunsIn a.width len a.n0 j 4 a.to) (sym c.loop-j.invariant.1) (patch_runs _ _ a.n0 a.n1 a.to j 4 c.requires.patch_in h); runs_in_2 = patch_runs _ _ a.n0 a.n1 a.from j 4 c.requires.patch_in_2 h; apart = runs_apart a.n0 a.to a.from a.width a.n1 j 4 h c.requires.apart }
+    let h : j + 4 ≤ a.patch.n1 = omega arith in record { j_bound = omega arith; runs_in = subst (λ (len : ℕ). RunsIn a.patch.width len a.patch.n0 j 4 a.patch.to) (sym c.loop-j.invariant.1) (patch_runs _ _ a.patch.n0 a.patch.n1 a.patch.to j 4 c.requires.reach.to h); runs_in_2 = patch_runs _ _ a.patch.n0 a.patch.n1 a.patch.from j 4 c.requires.reach.from h; apart = runs_apart a.patch.n0 a.patch.to a.patch.from a.patch.width a.patch.n1 j 4 h c.requires.apart }
 
-pub loop-j-preserved-then-n1-j-ge4 : goal.loop-j-preserved-then-n1-j-ge4
-loop-j-preserved-then-n1-j-ge4 c =
+pub loop-j-preserved-then-patch-j-ge4 : goal.loop-j-preserved-then-patch-j-ge4
+loop-j-preserved-then-patch-j-ge4 c =
     let m = c.copy_four in
     let a = c.args in
     let j : ℕ = c.loop-j.j in
-    let e : m.new.destination ≡ copied a.width (runs_from a.n0 j 4 a.to a.from) c.loop-j.destination a.source.now = m.ensures in (
+    let e : m.new.destination ≡ copied a.patch.width (runs_from a.patch.n0 j 4 a.patch.to a.patch.from) c.loop-j.destination a.source.now = m.ensures in (
       omega arith,
-      ap length e ∙ copied-length a.width (runs_from a.n0 j 4 a.to a.from) c.loop-j.destination a.source.now ∙ c.loop-j.invariant.1,
+      ap length e ∙ copied-length a.patch.width (runs_from a.patch.n0 j 4 a.patch.to a.patch.from) c.loop-j.destination a.source.now ∙ c.loop-j.invariant.1,
       e
-          ∙ ap (λ (xs : List ℕ). copied a.width (runs_from a.n0 j 4 a.to a.from) xs a.source.now) c.loop-j.invariant.2
-          ∙ runs_more a.n0 a.to a.from a.width a.destination.now a.source.now j 4,
+          ∙ ap (λ (xs : List ℕ). copied a.patch.width (runs_from a.patch.n0 j 4 a.patch.to a.patch.from) xs a.source.now) c.loop-j.invariant.2
+          ∙ runs_more a.patch.n0 a.patch.to a.patch.from a.patch.width a.destination.now a.source.now j 4,
     )
 
 pub copy_run-requires : goal.copy_run-requires
 copy_run-requires c =
     let a = c.args in
     let j : ℕ = c.loop-j.j in
-    let h : j < a.n1 = omega arith in record { width_bound = c.requires.width_bound; run_in = subst (λ (len : ℕ). RunIn a.width len a.n0 j a.to) (sym c.loop-j.invariant.1) (patch-run _ _ a.n0 a.n1 a.to j c.requires.patch_in h); run_in_2 = patch-run _ _ a.n0 a.n1 a.from j c.requires.patch_in_2 h }
+    let h : j < a.patch.n1 = omega arith in record { run_in = subst (λ (len : ℕ). RunIn a.patch.width len a.patch.n0 j a.patch.to) (sym c.loop-j.invariant.1) (patch-run _ _ a.patch.n0 a.patch.n1 a.patch.to j c.requires.reach.to h); run_in_2 = patch-run _ _ a.patch.n0 a.patch.n1 a.patch.from j c.requires.reach.from h }
 
 pub loop-j-preserved : goal.loop-j-preserved
 loop-j-preserved c =
     let m = c.copy_run in
     let a = c.args in
     let j : ℕ = c.loop-j.j in
-    let e : m.new.destination ≡ copied a.width (run_cells a.n0 a.to a.from j) c.loop-j.destination a.source.now = m.ensures in (
+    let e : m.new.destination ≡ copied a.patch.width (run_cells a.patch.n0 a.patch.to a.patch.from j) c.loop-j.destination a.source.now = m.ensures in (
       omega arith,
-      ap length e ∙ copied-length a.width (run_cells a.n0 a.to a.from j) c.loop-j.destination a.source.now ∙ c.loop-j.invariant.1,
+      ap length e ∙ copied-length a.patch.width (run_cells a.patch.n0 a.patch.to a.patch.from j) c.loop-j.destination a.source.now ∙ c.loop-j.invariant.1,
       e
-          ∙ ap (λ (xs : List ℕ). copied a.width (run_cells a.n0 a.to a.from j) xs a.source.now) c.loop-j.invariant.2
-          ∙ run_more a.width a.to a.from a.destination.now a.source.now a.n0 j,
+          ∙ ap (λ (xs : List ℕ). copied a.patch.width (run_cells a.patch.n0 a.patch.to a.patch.from j) xs a.source.now) c.loop-j.invariant.2
+          ∙ run_more a.patch.width a.patch.to a.patch.from a.destination.now a.source.now a.patch.n0 j,
     )

@@ -19,17 +19,17 @@ pub copy_run-requires : goal.copy_run-requires
 copy_run-requires c =
     let a = c.args in
     let j : ℕ = c.loop-j.j in
-    let h : j < a.n1 = c.loop-j-test.true in record { width_bound = c.requires.width_bound; run_in = subst (λ (len : ℕ). RunIn a.width len a.n0 j a.to) (sym c.loop-j.invariant.1) (patch-run _ _ a.n0 a.n1 a.to j c.requires.patch_in h); run_in_2 = patch-run _ _ a.n0 a.n1 a.from j c.requires.patch_in_2 h }
+    let h : j < a.patch.n1 = c.loop-j-test.true in record { run_in = subst (λ (len : ℕ). RunIn a.patch.width len a.patch.n0 j a.patch.to) (sym c.loop-j.invariant.1) (patch-run _ _ a.patch.n0 a.patch.n1 a.patch.to j c.requires.to h); run_in_2 = patch-run _ _ a.patch.n0 a.patch.n1 a.patch.from j c.requires.from h }
 
 pub loop-j-preserved : goal.loop-j-preserved
 loop-j-preserved c =
     let m = c.copy_run in
     let a = c.args in
     let j : ℕ = c.loop-j.j in
-    let e : m.new.destination ≡ copied a.width (run_cells a.n0 a.to a.from j) c.loop-j.destination a.source.now = m.ensures in (
+    let e : m.new.destination ≡ copied a.patch.width (run_cells a.patch.n0 a.patch.to a.patch.from j) c.loop-j.destination a.source.now = m.ensures in (
       omega arith,
-      ap length e ∙ copied-length a.width (run_cells a.n0 a.to a.from j) c.loop-j.destination a.source.now ∙ c.loop-j.invariant.1,
+      ap length e ∙ copied-length a.patch.width (run_cells a.patch.n0 a.patch.to a.patch.from j) c.loop-j.destination a.source.now ∙ c.loop-j.invariant.1,
       e
-          ∙ ap (λ (xs : List ℕ). copied a.width (run_cells a.n0 a.to a.from j) xs a.source.now) c.loop-j.invariant.2
-          ∙ run_more a.width a.to a.from a.destination.now a.source.now a.n0 j,
+          ∙ ap (λ (xs : List ℕ). copied a.patch.width (run_cells a.patch.n0 a.patch.to a.patch.from j) xs a.source.now) c.loop-j.invariant.2
+          ∙ run_more a.patch.width a.patch.to a.patch.from a.destination.now a.source.now a.patch.n0 j,
     )

@@ -18,17 +18,17 @@ pub copy_cell-requires : goal.copy_cell-requires
 copy_cell-requires c =
     let a = c.args in
     let i : ℕ = c.loop-i.i in
-    let h : i < a.n = c.loop-i-test.true in record { width_bound = c.requires.width_bound; cell_in = subst (λ (len : ℕ). CellIn a.width len a.to i a.j) (sym c.loop-i.invariant.1) (cell_in_lem _ _ a.n a.j a.to i c.requires.run_in h); cell_in_2 = cell_in_lem _ _ a.n a.j a.from i c.requires.run_in_2 h }
+    let h : i < a.patch.n0 = c.loop-i-test.true in record { cell_in = subst (λ (len : ℕ). CellIn a.patch.width len a.patch.to i a.j) (sym c.loop-i.invariant.1) (cell_in_lem _ _ a.patch.n0 a.j a.patch.to i c.requires.run_in h); cell_in_2 = cell_in_lem _ _ a.patch.n0 a.j a.patch.from i c.requires.run_in_2 h }
 
 pub loop-i-preserved : goal.loop-i-preserved
 loop-i-preserved c =
     let m = c.copy_cell in
     let a = c.args in
     let i : ℕ = c.loop-i.i in
-    let e : m.new.destination ≡ moved c.loop-i.destination (place a.to i a.j) a.source.now (place a.from i a.j) a.width = m.ensures in (
+    let e : m.new.destination ≡ moved c.loop-i.destination (place a.patch.to i a.j) a.source.now (place a.patch.from i a.j) a.patch.width = m.ensures in (
       omega arith,
-      ap length e ∙ moved_length c.loop-i.destination (place a.to i a.j) a.source.now (place a.from i a.j) a.width ∙ c.loop-i.invariant.1,
+      ap length e ∙ moved_length c.loop-i.destination (place a.patch.to i a.j) a.source.now (place a.patch.from i a.j) a.patch.width ∙ c.loop-i.invariant.1,
       e
-          ∙ ap (λ (xs : List ℕ). moved xs (place a.to i a.j) a.source.now (place a.from i a.j) a.width) c.loop-i.invariant.2
-          ∙ cell_more a.width a.to a.from a.destination.now a.source.now a.j i,
+          ∙ ap (λ (xs : List ℕ). moved xs (place a.patch.to i a.j) a.source.now (place a.patch.from i a.j) a.patch.width) c.loop-i.invariant.2
+          ∙ cell_more a.patch.width a.patch.to a.patch.from a.destination.now a.source.now a.j i,
     )

@@ -8,4 +8,4 @@ use Rattle.cells.proofs.runs.copy_run.Given as goal
 
 abbrev pub invariant-loop-i : goal.invariant-loop-i
 invariant-loop-i l =
-    (l.i ≤ l.n) × (length l.destination ≡ length l.initial.destination) × (l.destination ≡ copied l.width (run_cells l.i l.to l.from l.j) l.initial.destination l.source)
+    (l.i ≤ l.patch.n0) × (length l.destination ≡ length l.initial.destination) × (l.destination ≡ copied l.patch.width (run_cells l.i l.patch.to l.patch.from l.j) l.initial.destination l.source)

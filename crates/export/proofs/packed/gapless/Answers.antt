@@ -1,5 +1,5 @@
 -- `export::packed::gapless` meets its contract. Assumes nothing.
-use mathlib.Core.Path.{◌≡◌, refl, sym, ◌∙◌}
+use mathlib.Core.Path.{◌≡◌, refl, sym, ap, ◌∙◌}
 use mathlib.Core.List.{List}
 use Prim.Native.Nat.{ℕ, ◌+◌, ◌*◌, ◌<◌}
 use native.Mathlib.Nat.{one-mul, le_antisymm}
@@ -19,26 +19,26 @@ loop-i-init c = (refl, omega arith, one-mul _, rest_start _ _, rest_start _ _)
 
 pub overflow_mul-n : goal.overflow_mul-n
 overflow_mul-n c =
-    let below : c.loop-i.i < length c.args.extents.now = c.loop-i-test.true in
-    let f = product_fits c.args.extents.now c.loop-i.n c.loop-i.i below c.loop-i.invariant.2 c.requires.0 in
-    let g = c.requires.1 in
+    let below : c.loop-i.i < length c.args.asked.extents.now = c.loop-i-test.true in
+    let f = product_fits c.args.asked.extents.now c.loop-i.n c.loop-i.i below c.loop-i.invariant.2 c.requires.0 in
+    let g = c.args.asked.accepted.cells in
     omega (arith, f, g)
 
 pub loop-i-preserved : goal.loop-i-preserved
 loop-i-preserved c =
-    let below : c.loop-i.i < length c.args.extents.now = c.loop-i-test.true in
+    let below : c.loop-i.i < length c.args.asked.extents.now = c.loop-i-test.true in
     -- the stride of axis i is the product so far, of both operands
-    let to-right : get_or c.args.strides.now c.loop-i.i (pos 0) ≡ pos c.loop-i.n = let z : ℤ = get_or c.args.strides.now c.loop-i.i (pos 0) in
+    let to-right : get_or c.args.asked.strides.now c.loop-i.i (pos 0) ≡ pos c.loop-i.n = let z : ℤ = get_or c.args.asked.strides.now c.loop-i.i (pos 0) in
     sym (to_z-of_z {w = w64} (let f : SFits w64 z = search rules in f)) ∙ c.differs.ensures c.if-differs.false in
-    let from-right : let a = c.args in get_or a.strides.now (length a.extents.now + c.loop-i.i) (pos 0) ≡ pos c.loop-i.n = let a = c.args in
-    let z : ℤ = get_or a.strides.now (length a.extents.now + c.loop-i.i) (pos 0) in
+    let from-right : let a = c.args in get_or a.asked.strides.now (length a.asked.extents.now + c.loop-i.i) (pos 0) ≡ pos c.loop-i.n = let a = c.args in
+    let z : ℤ = get_or a.asked.strides.now (length a.asked.extents.now + c.loop-i.i) (pos 0) in
     sym (to_z-of_z {w = w64} (let f : SFits w64 z = search rules in f)) ∙ c.differs-else-differs.ensures c.if-differs-2.false in
-    let es : List ℕ = c.args.extents.now in
-    let ss : List ℤ = c.args.strides.now in
+    let es : List ℕ = c.args.asked.extents.now in
+    let ss : List ℤ = c.args.asked.strides.now in
     let n : ℕ = c.loop-i.n in
     let i : ℕ = c.loop-i.i in
     let h : i < length es = below in
-    let m : length ss ≡ length es * 2 = c.requires.2 in (
+    let m : length ss ≡ length es * 2 = c.args.asked.accepted.strides ∙ ap (λ (n : ℕ). length es * n) c.requires.1 in (
       refl,
       omega (arith, h),
       product-next es n i h c.loop-i.invariant.2,
@@ -48,11 +48,11 @@ loop-i-preserved c =
 
 pub returns : goal.returns
 returns c =
-    let es : List ℕ = c.args.extents.now in
-    let ss : List ℤ = c.args.strides.now in
+    let es : List ℕ = c.args.asked.extents.now in
+    let ss : List ℤ = c.args.asked.strides.now in
     let n : ℕ = c.loop-i.n in
     let i : ℕ = c.loop-i.i in
-    let m : length ss ≡ length es * 2 = c.requires.2 in
+    let m : length ss ≡ length es * 2 = c.args.asked.accepted.strides ∙ ap (λ (n : ℕ). length es * n) c.requires.1 in
     let q : i ≡ length es = le_antisymm c.loop-i.invariant.1 c.loop-i-test.false in
     record {
       cells = product_end es n i q c.loop-i.invariant.2;

@@ -8,5 +8,5 @@ use Rattle.export.proofs.packed.gapless.Given as goal
 
 abbrev pub invariant-loop-i : goal.invariant-loop-i
 invariant-loop-i l =
-    (l.rank ≡ length l.extents) × (l.i ≤ l.rank) × (l.n * total (drop l.i l.extents) ≡ total l.extents)
-    × Rest l.extents (stride_row l.strides (length l.extents) 0) l.n l.i × Rest l.extents (stride_row l.strides (length l.extents) 1) l.n l.i
+    (l.rank ≡ length l.asked.extents.now) × (l.i ≤ l.rank) × (l.n * total (drop l.i l.asked.extents.now) ≡ total l.asked.extents.now)
+    × Rest l.asked.extents.now (stride_row l.asked.strides.now (length l.asked.extents.now) 0) l.n l.i × Rest l.asked.extents.now (stride_row l.asked.strides.now (length l.asked.extents.now) 1) l.n l.i

@@ -1,9 +1,9 @@
 -- `export::packed::plain_cells` meets its contract. Assumes nothing.
-use mathlib.Core.Path.{◌≡◌, sym, ap, ◌∙◌, subst}
+use mathlib.Core.Path.{◌≡◌, sym, ◌∙◌, subst}
 use mathlib.Core.Bool.{false}
-use Prim.Native.Nat.{ℕ, ◌*◌, ◌/◌}
+use Prim.Native.Nat.{ℕ, ◌/◌}
 use lib.IntN.{ℤ, pos}
-use lib.ListN.{length, get_or}
+use lib.ListN.{get_or}
 use Rattle.strided.specs.Layout.{NoZero}
 use Rattle.laws.specs.Refusals.Zeros.{no_zero_of, total_some}
 use mir.Facts.{to_z-of_z}
@@ -18,30 +18,29 @@ use Rattle.export.proofs.packed.plain_cells.Goals as goal
 pub gapless-requires : goal.gapless-requires
 gapless-requires c =
     -- no extent is 0
-    let no_zero : NoZero c.args.extents.now = no_zero_of c.args.extents.now (sym c.has_zero.ensures ∙ c.if-has_zero.false) in
+    let no_zero : NoZero c.args.asked.extents.now = no_zero_of c.args.asked.extents.now (sym c.has_zero.ensures ∙ c.if-has_zero.false) in
     -- row 16 passes
-    let sixteen : (row16 c.args.sizes.now).applies ≡ false = sym c.sizes_wrong.ensures ∙ c.if-sizes_wrong.false in
-    let good : Sized c.args.sizes.now = sizes_good c.args.sizes.now sixteen in (
-      total_some c.args.extents.now no_zero,
-      c.requires.accepted.cells,
-      c.requires.accepted.strides ∙ ap (λ (n : ℕ). length c.args.extents.now * n) good.two,
+    let sixteen : (row16 c.args.asked.sizes.now).applies ≡ false = sym c.sizes_wrong.ensures ∙ c.if-sizes_wrong.false in
+    let good : Sized c.args.asked.sizes.now = sizes_good c.args.asked.sizes.now sixteen in (
+      total_some c.args.asked.extents.now no_zero,
+      good.two,
     )
 
 pub returns : goal.returns
 returns c =
-    let no_zero : NoZero c.args.extents.now = no_zero_of c.args.extents.now (sym c.has_zero.ensures ∙ c.if-has_zero.false) in
-    let sixteen : (row16 c.args.sizes.now).applies ≡ false = sym c.sizes_wrong.ensures ∙ c.if-sizes_wrong.false in
-    let good : Sized c.args.sizes.now = sizes_good c.args.sizes.now sixteen in
+    let no_zero : NoZero c.args.asked.extents.now = no_zero_of c.args.asked.extents.now (sym c.has_zero.ensures ∙ c.if-has_zero.false) in
+    let sixteen : (row16 c.args.asked.sizes.now).applies ≡ false = sym c.sizes_wrong.ensures ∙ c.if-sizes_wrong.false in
+    let good : Sized c.args.asked.sizes.now = sizes_good c.args.asked.sizes.now sixteen in
     let a = c.args in
     let r : ℕ = c.in_ok-cells.cells in
     record {
       some = no_zero;
-      strides = c.requires.accepted.strides;
-      starts = c.if-starts-ne2.false ∙ sym good.two;
+      strides = a.asked.accepted.strides;
+      starts = c.if-asked-ne2.false ∙ sym good.two;
       gapless = c.in_ok-cells.ensures;
       sixteen = sixteen;
-      into = subst (λ (z : ℤ). Room z r (a.to / get_or a.sizes.now 0 0)) (to_z-of_z {w = w64} (let f : SFits w64 (get_or a.starts.now 0 (pos 0)) = search rules in f)) (c.beyond.ensures c.if-beyond.false);
-      out = subst (λ (z : ℤ). Room z r (a.from / get_or a.sizes.now 1 0)) (to_z-of_z {w = w64} (let f : SFits w64 (get_or a.starts.now 1 (pos 0)) = search rules in f)) (c.beyond-else-beyond.ensures c.if-beyond-2.false);
-      into_fits = c.requires.to_bound.0;
-      out_fits = c.requires.to_bound.1;
+      into = subst (λ (z : ℤ). Room z r (a.to / get_or a.asked.sizes.now 0 0)) (to_z-of_z {w = w64} (let f : SFits w64 (get_or a.asked.starts.now 0 (pos 0)) = search rules in f)) (c.beyond.ensures c.if-beyond.false);
+      out = subst (λ (z : ℤ). Room z r (a.from / get_or a.asked.sizes.now 1 0)) (to_z-of_z {w = w64} (let f : SFits w64 (get_or a.asked.starts.now 1 (pos 0)) = search rules in f)) (c.beyond-else-beyond.ensures c.if-beyond-2.false);
+      into_fits = c.requires.0;
+      out_fits = c.requires.1;
     }

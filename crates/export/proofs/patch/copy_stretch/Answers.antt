@@ -40,7 +40,7 @@ copy_patch-requires c =
     let p = into in
     let q = out in
     let f = to-short in
-    let g = from-short in record { le_width = (h.some, h.most); n0_bound = (h.cells, h.blocks); lies = into_lies h f g p q; lies_2 = from_lies h f g p q; apart = cells-apart h f g p q }
+    let g = from-short in record { lies = record { to = into_lies h f g p q; from = from_lies h f g p q }; apart = cells-apart h f g p q }
 
 pub returns : goal.returns
 returns c =
@@ -50,3 +50,6 @@ returns c =
     let out : let a = c.args in InBytes a.width a.x.length a.x.count (get_or a.first.now 1 (pos 0)) (get_or a.s.now 64 (pos 0)) (get_or a.d.now 1 (pos 0)) c.side_of-from.result = read_bytes (to_z-of_z {w = w64} (let f : SFits w64 (get_or c.args.first.now 1 (pos 0)) = search rules in f)) (to_z-of_z {w = w64} (let f : SFits w64 (get_or c.args.s.now 64 (pos 0)) = search rules in f)) (to_z-of_z {w = w64} (let f : SFits w64 (get_or c.args.d.now 1 (pos 0)) = search rules in f)) c.side_of-from.ensures in
     c.copy_patch.ensures
     ∙ ap (λ (l : List Pair). copied c.args.width l c.args.destination.now c.args.source.now) (same-cells c.requires to-short from-short into out)
+
+pub invariant_of-patch : goal.invariant_of-patch
+invariant_of-patch c = let h = c.requires in record { narrow = (h.some, h.most); few = (h.cells, h.blocks) }

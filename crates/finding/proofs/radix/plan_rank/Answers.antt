@@ -1,34 +1,35 @@
 -- `finding::radix::plan_rank` meets its contract. The invariant: the axes before i are passed, and those kept are counted. Assumes nothing.
 use mathlib.Core.Path.{sym, ap, subst}
 use mathlib.Core.Logic.{inl, inr}
-use Prim.Native.Nat.{◌+◌}
+use Prim.Native.Nat.{◌+◌, ◌≤◌, ◌<◌}
+use Rattle.std.proofs.Common.{rules}
 use lib.ListN.{length}
 use Rattle.finding.proofs.Kept.{Passed, pass_none, pass_one, pass_other, pass_stays, pass_count}
 use Rattle.finding.proofs.radix.plan_rank.Goals as goal
-use Rattle.finding.proofs.radix.plan_rank.Goals.{then-fused-i-ne1, else-fused-i-ne1}
+use Rattle.finding.proofs.radix.plan_rank.Goals.{then-f-ne1, else-f-ne1, else-count-eq0-via-then-count-eq0+else-not-is_empty, else-count-eq0-via-else-count-eq0}
 
-pub loop-i-init : goal.loop-i-init
-loop-i-init c = pass_none c.args.fused.now c.args.rank
+pub loop-f-init : goal.loop-f-init
+loop-f-init c = pass_none c.args.fused.now
 
-pub loop-i-preserved : goal.loop-i-preserved
-loop-i-preserved c =
-    let t = c.loop-i-test in
+pub loop-f-preserved : goal.loop-f-preserved
+loop-f-preserved c =
+    let t = c.loop-f-test in
     let fs = c.args.fused.now in
-    let n = c.args.rank in
-    let i = c.loop-i.i in
-    elim c.if-fused-i-ne1.branch [
-      | then-fused-i-ne1 w ↦ subst (Passed fs n (i + 1)) (sym w.count-is) (pass_other fs n i c.loop-i.count c.requires.0 c.requires.1 c.loop-i.invariant t.true w.if-fused-i-ne1.true)
-      | else-fused-i-ne1 w ↦ subst (Passed fs n (i + 1)) (sym w.count-is) (pass_one fs n i c.loop-i.count c.requires.0 c.requires.1 c.loop-i.invariant t.true w.if-fused-i-ne1.false)
+    let i = c.loop-f.f-index in
+    elim c.if-f-ne1.branch [
+      | then-f-ne1 w ↦ subst (Passed fs (i + 1)) (sym w.count-is) (pass_other fs i c.loop-f.count c.loop-f.invariant t.true w.if-f-ne1.true)
+      | else-f-ne1 w ↦ subst (Passed fs (i + 1)) (sym w.count-is) (pass_one fs i c.loop-f.count c.loop-f.invariant t.true w.if-f-ne1.false)
     ]
 
-pub returns-then-rank-gt0 : goal.returns-then-rank-gt0
-returns-then-rank-gt0 c =
-    sym (ap length (pass_stays c.args.fused.now c.args.rank c.loop-i.i c.loop-i.count c.requires.0 c.requires.1 c.loop-i.invariant c.loop-i-test.false c.if-count-eq0.true c.if-rank-gt0.true))
+pub returns-then-not-is_empty : goal.returns-then-not-is_empty
+returns-then-not-is_empty c =
+    let some : 0 < length c.args.fused.now = search rules in
+    sym (ap length (pass_stays c.args.fused.now c.loop-f.f-index c.loop-f.count c.loop-f.invariant c.loop-f-test.false c.if-count-eq0.true some))
 
-pub returns-else-rank-gt0 : goal.returns-else-rank-gt0
-returns-else-rank-gt0 c =
-    pass_count c.args.fused.now c.args.rank c.loop-i.i c.loop-i.count c.requires.0 c.requires.1 c.loop-i.invariant c.loop-i-test.false (inr c.if-rank-gt0.false)
-
-pub returns-else-count-eq0 : goal.returns-else-count-eq0
-returns-else-count-eq0 c =
-    pass_count c.args.fused.now c.args.rank c.loop-i.i c.loop-i.count c.requires.0 c.requires.1 c.loop-i.invariant c.loop-i-test.false (inl c.if-count-eq0.false)
+pub returns : goal.returns
+returns c =
+    pass_count c.args.fused.now c.loop-f.f-index c.loop-f.count c.loop-f.invariant c.loop-f-test.false
+    (elim c.else-count-eq0.branch [
+      | else-count-eq0-via-then-count-eq0+else-not-is_empty w ↦ inr (let e : length c.args.fused.now ≤ 0 = search rules in e)
+      | else-count-eq0-via-else-count-eq0 w ↦ inl w.if-count-eq0.false
+    ])

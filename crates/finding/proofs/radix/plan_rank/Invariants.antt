@@ -2,5 +2,5 @@
 use Rattle.finding.proofs.Kept.{Passed}
 use Rattle.finding.proofs.radix.plan_rank.Given as goal
 
-abbrev pub invariant-loop-i : goal.invariant-loop-i
-invariant-loop-i l = Passed l.fused l.rank l.i l.count
+abbrev pub invariant-loop-f : goal.invariant-loop-f
+invariant-loop-f l = Passed l.fused l.f-index l.count

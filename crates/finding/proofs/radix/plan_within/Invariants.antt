@@ -2,5 +2,5 @@
 use Rattle.finding.proofs.Kept.{Held}
 use Rattle.finding.proofs.radix.plan_within.Given as goal
 
-abbrev pub invariant-loop-i : goal.invariant-loop-i
-invariant-loop-i l = Held l.fused l.rank l.counters l.i l.j
+abbrev pub invariant-loop-f : goal.invariant-loop-f
+invariant-loop-f l = Held l.fused l.counters l.f-index l.j

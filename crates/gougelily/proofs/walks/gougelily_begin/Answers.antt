@@ -8,9 +8,9 @@ use Rattle.gougelily.proofs.walks.gougelily_begin.Goals as goal
 
 pub returns-in-Err : goal.returns-in-Err
 returns-in-Err c =
-    handed-refused walk_memory c.begin_on.ensures c.in-Err.is (to_z-of_z {w = w64} (record { sfits = c.negated.type_inv }) ∙ c.negated.ensures)
+    handed-refused walk_memory c.begun.ensures c.in-Err.is (to_z-of_z {w = w64} (record { sfits = c.negated.type_inv }) ∙ c.negated.ensures)
 
 pub returns-in-Ok : goal.returns-in-Ok
 returns-in-Ok c =
     let w = c.in-Ok.walk in
-    handed_served walk_memory c.begin_on.ensures c.in-Ok.is (λ i. record { ended = c.flag.ensures i ∷ []; counters = w.counters; offsets = w.offsets })
+    handed_served walk_memory c.begun.ensures c.in-Ok.is (λ i. record { ended = c.flag.ensures i ∷ []; counters = w.counters; offsets = w.offsets })

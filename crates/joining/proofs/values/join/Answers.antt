@@ -17,6 +17,6 @@ returns-in_err-join_lent c =
 pub returns : goal.returns
 returns c =
     let a = c.args in
-    ap (λ (s : Session). Ok s) c.together.ensures
+    ap (λ (s : Session). Ok s) c.put_numbers.ensures
     ∙ value_served _ c.join_lent.ensures c.in_ok-join_lent.was
     ∙ ap (λ (n : Numbers). joined (laid_out a.session n) a.size a.joining.now) c.numbers_of-numbers.ensures

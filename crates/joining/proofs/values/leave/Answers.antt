@@ -17,6 +17,6 @@ returns-in_err-leave_lent c =
 pub returns : goal.returns
 returns c =
     let a = c.args in
-    ap (λ (s : Session). Ok s) c.together.ensures
+    ap (λ (s : Session). Ok s) c.put_numbers.ensures
     ∙ value_served _ c.leave_lent.ensures c.in_ok-leave_lent.was
     ∙ ap (λ (n : Numbers). left (laid_out a.session n) a.operand) c.numbers_of-numbers.ensures

@@ -6,4 +6,4 @@ use Rattle.l1.proofs.L1Sets.fit.Given as goal
 
 abbrev pub invariant-loop-i : goal.invariant-loop-i
 invariant-loop-i l =
-    (fit_from l.machine.numbers l.bytes l.sizes l.rank (chosen_size l.strides l.chosen) l.i l.blocks ≡ fitted l.machine.numbers l.bytes l.sizes l.rank (chosen_size l.strides l.chosen) l.initial.blocks)
+    (fit_from l.machine.numbers l.bytes l.axes.sizes.now l.axes.rank (chosen_size l.axes.strides.now l.chosen) l.i l.blocks ≡ fitted l.machine.numbers l.bytes l.axes.sizes.now l.axes.rank (chosen_size l.axes.strides.now l.chosen) l.initial.blocks)

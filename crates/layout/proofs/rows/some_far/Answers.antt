@@ -15,18 +15,18 @@ loop-k-init c = (omega arith, some_of_empty _)
 pub reach_at-requires : goal.reach_at-requires
 reach_at-requires c = places _ _ _ _ _ c.requires c.loop-k-test.true
 
-pub returns-then-reach_at-gt9223372036854775807 : goal.returns-then-reach_at-gt9223372036854775807
-returns-then-reach_at-gt9223372036854775807 c =
+pub returns-then-reach_at : goal.returns-then-reach_at
+returns-then-reach_at c =
     let k = c.loop-k.k in
     let a = c.args in
-    let far = far_is a.extents.now a.strides.now a.pitch k _ c.reach_at.ensures (lt-ltb max_i _ c.if-reach_at-gt9223372036854775807.true) in
+    let far = far_is a.extents.now a.strides.now a.pitch k _ c.reach_at.ensures (lt-ltb max_i _ c.if-reach_at.true) in
     sym (some_of_found _ k a.operands c.loop-k-test.true far)
 
 pub loop-k-preserved : goal.loop-k-preserved
 loop-k-preserved c =
     let l = c.loop-k in
     let a = c.args in
-    let near = far_is a.extents.now a.strides.now a.pitch l.k _ c.reach_at.ensures (le-ltb max_i _ c.if-reach_at-gt9223372036854775807.false) in
+    let near = far_is a.extents.now a.strides.now a.pitch l.k _ c.reach_at.ensures (le-ltb max_i _ c.if-reach_at.false) in
     (omega arith, some_of_step _ l.k l.invariant.1 near)
 
 pub returns : goal.returns

@@ -1,7 +1,7 @@
 -- The invariants of `rows::some_far`.
 use mathlib.Core.Path.{◌≡◌}
 use mathlib.Core.Bool.{false}
-use Prim.Native.Nat.{◌≤◌, ◌-◌}
+use Prim.Native.Nat.{◌≤◌}
 use Rattle.strided.specs.Base.{some_of}
 use Rattle.layout.specs.Laid.{row_at, far_at}
 use Rattle.layout.proofs.rows.some_far.Given as goal

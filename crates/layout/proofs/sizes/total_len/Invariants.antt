@@ -1,6 +1,5 @@
 -- The invariants of `sizes::total_len`.
 use mathlib.Core.Path.{◌≡◌}
-use Prim.Native.Nat.{◌-◌}
 use lib.ListN.{take}
 use Rattle.strided.specs.Layout.{total}
 use Rattle.layout.specs.Held.{held}

@@ -11,30 +11,30 @@ use Rattle.mark.proofs.Parts.{size_le, clear_small, clear_test}
 use Rattle.mark.proofs.quick.is_clear.Goals as goal
 
 pub returns-then-extent-le1 : goal.returns-then-extent-le1
-returns-then-extent-le1 c = let a = c.args in clear_small a.extents.now a.strides.now a.i c.if-extent-le1.true
+returns-then-extent-le1 c = let a = c.args in clear_small a.operand.extents.now a.operand.strides.now a.i c.if-extent-le1.true
 
 pub overflow_mul-result : goal.overflow_mul-result
 overflow_mul-result c =
-    let size : let a = c.args in c.unsigned_abs-size.result ≡ size_at a.strides.now a.i = let a = c.args in
+    let size : let a = c.args in c.unsigned_abs-size.result ≡ size_at a.operand.strides.now a.i = let a = c.args in
     search rules in
     -- the axis's part of the reach
-    let part : let a = c.args in (get_or a.extents.now a.i 0 - 1) * c.unsigned_abs-size.result ≤ reach a.extents.now a.strides.now = let a = c.args in
-    subst (λ (n : ℕ). (get_or a.extents.now a.i 0 - 1) * n ≤ reach a.extents.now a.strides.now) (sym size)
-    (term_reach a.extents.now a.strides.now a.i (omega arith) (omega arith)) in
-    omega (arith, part, c.requires.1)
+    let part : let a = c.args in (get_or a.operand.extents.now a.i 0 - 1) * c.unsigned_abs-size.result ≤ reach a.operand.extents.now a.operand.strides.now = let a = c.args in
+    subst (λ (n : ℕ). (get_or a.operand.extents.now a.i 0 - 1) * n ≤ reach a.operand.extents.now a.operand.strides.now) (sym size)
+    (term_reach a.operand.extents.now a.operand.strides.now a.i (omega arith) (omega arith)) in
+    omega (arith, part, c.args.operand.sound.near)
 
 pub overflow_add-result : goal.overflow_add-result
 overflow_add-result c =
-    let size : let a = c.args in c.unsigned_abs-size.result ≡ size_at a.strides.now a.i = let a = c.args in
+    let size : let a = c.args in c.unsigned_abs-size.result ≡ size_at a.operand.strides.now a.i = let a = c.args in
     search rules in
-    let part : let a = c.args in (get_or a.extents.now a.i 0 - 1) * c.unsigned_abs-size.result ≤ reach a.extents.now a.strides.now = let a = c.args in
-    subst (λ (n : ℕ). (get_or a.extents.now a.i 0 - 1) * n ≤ reach a.extents.now a.strides.now) (sym size)
-    (term_reach a.extents.now a.strides.now a.i (omega arith) (omega arith)) in
-    omega (arith, part, c.requires.1, size_le (get_or c.args.extents.now c.args.i 0) c.unsigned_abs-size.result c.if-extent-le1.false)
+    let part : let a = c.args in (get_or a.operand.extents.now a.i 0 - 1) * c.unsigned_abs-size.result ≤ reach a.operand.extents.now a.operand.strides.now = let a = c.args in
+    subst (λ (n : ℕ). (get_or a.operand.extents.now a.i 0 - 1) * n ≤ reach a.operand.extents.now a.operand.strides.now) (sym size)
+    (term_reach a.operand.extents.now a.operand.strides.now a.i (omega arith) (omega arith)) in
+    omega (arith, part, c.args.operand.sound.near, size_le (get_or c.args.operand.extents.now c.args.i 0) c.unsigned_abs-size.result c.if-extent-le1.false)
 
 pub returns : goal.returns
 returns c =
-    let size : let a = c.args in c.unsigned_abs-size.result ≡ size_at a.strides.now a.i = let a = c.args in
+    let size : let a = c.args in c.unsigned_abs-size.result ≡ size_at a.operand.strides.now a.i = let a = c.args in
     search rules in
     let a = c.args in
-    clear_test a.extents.now a.strides.now a.i c.if-extent-le1.false c.reach_up_to.result c.unsigned_abs-size.result c.reach_up_to.ensures size
+    clear_test a.operand.extents.now a.operand.strides.now a.i c.if-extent-le1.false c.reach_up_to.result c.unsigned_abs-size.result c.reach_up_to.ensures size

@@ -6,4 +6,4 @@ use Rattle.laws.specs.Mark.Sizes.{reach_up_to}
 use Rattle.mark.proofs.quick.reach_up_to.Given as goal
 
 abbrev pub invariant-loop-i : goal.invariant-loop-i
-invariant-loop-i l = (l.i ≤ length l.extents) × (l.sum ≡ reach_up_to l.b (drop l.i l.extents) (drop l.i l.strides))
+invariant-loop-i l = (l.i ≤ length l.operand.extents.now) × (l.sum ≡ reach_up_to l.b (drop l.i l.operand.extents.now) (drop l.i l.operand.strides.now))

@@ -11,17 +11,17 @@ pub loop-i-init : goal.loop-i-init
 loop-i-init c = (omega arith, λ k h. absurd (omega arith))
 
 pub is_clear-requires : goal.is_clear-requires
-is_clear-requires c = (c.requires.0, c.requires.1, c.loop-i-test.true)
+is_clear-requires c = c.loop-i-test.true
 
 pub loop-i-preserved : goal.loop-i-preserved
 loop-i-preserved c =
-    (omega arith, below_more (ClearAt c.args.extents.now c.args.strides.now) c.loop-i.i c.loop-i.invariant.1 (c.is_clear.ensures.0 c.if-not-is_clear.false))
+    (omega arith, below_more (ClearAt c.args.operand.extents.now c.args.operand.strides.now) c.loop-i.i c.loop-i.invariant.1 (c.is_clear.ensures.0 c.if-not-is_clear.false))
 
 pub returns-then-not-is_clear : goal.returns-then-not-is_clear
 returns-then-not-is_clear c =
-    sym (unclear_rises c.args.extents.now c.args.strides.now c.requires.0 c.loop-i.i c.loop-i-test.true
+    sym (unclear_rises c.args.operand.extents.now c.args.operand.strides.now c.args.operand.sound.paired c.loop-i.i c.loop-i-test.true
     (λ h. false≢true (sym c.if-not-is_clear.true ∙ c.is_clear.ensures.1 h)))
 
 pub returns : goal.returns
 returns c =
-    sym (clear_rises c.args.extents.now c.args.strides.now c.requires.0 (λ k h. c.loop-i.invariant.1 k (omega arith)))
+    sym (clear_rises c.args.operand.extents.now c.args.operand.strides.now c.args.operand.sound.paired (λ k h. c.loop-i.invariant.1 k (omega arith)))

@@ -12,13 +12,13 @@ loop-i-init c = some_of_empty _
 pub returns-then-stays : goal.returns-then-stays
 returns-then-stays c =
     let a = c.args in
-    let holds : stays_at a.extents.now a.strides.now c.loop-i.i ≡ c.stays.result = search rules in
+    let holds : stays_at a.operand.extents.now a.operand.strides.now c.loop-i.i ≡ c.stays.result = search rules in
     sym (some_of_found _ c.loop-i.i _ c.loop-i-test.true (holds ∙ c.if-stays.true))
 
 pub loop-i-preserved : goal.loop-i-preserved
 loop-i-preserved c =
     let a = c.args in
-    let fails : stays_at a.extents.now a.strides.now c.loop-i.i ≡ c.stays.result = search rules in
+    let fails : stays_at a.operand.extents.now a.operand.strides.now c.loop-i.i ≡ c.stays.result = search rules in
     some_of_step _ c.loop-i.i c.loop-i.invariant (fails ∙ c.if-stays.false)
 
 pub returns : goal.returns

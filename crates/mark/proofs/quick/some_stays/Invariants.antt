@@ -7,4 +7,4 @@ use Rattle.mark.proofs.quick.some_stays.Given as goal
 
 -- no axis before i stays
 abbrev pub invariant-loop-i : goal.invariant-loop-i
-invariant-loop-i l = some_of (stays_at l.extents l.strides) 0 l.i ≡ false
+invariant-loop-i l = some_of (stays_at l.operand.extents.now l.operand.strides.now) 0 l.i ≡ false

@@ -20,58 +20,58 @@ loop-k-init c = c.requires.table_value ∙ fill_none 8 (replicate 64 0)
 pub overflow_mul-start : goal.overflow_mul-start
 overflow_mul-start c =
     -- the table has a row for operand k
-    let small : c.loop-k.k < 8 = omega (arith, c.loop-k-test, c.requires.sizes_len_bound.0) in
+    let small : c.loop-k.k < 8 = omega (arith, c.loop-k-test, c.args.axes.few) in
     omega (arith, small)
 
 pub overflow_add-end : goal.overflow_add-end
 overflow_add-end c =
-    let small : c.loop-k.k < 8 = omega (arith, c.loop-k-test, c.requires.sizes_len_bound.0) in
-    omega (arith, small, c.requires.sizes_len_bound.1.1)
+    let small : c.loop-k.k < 8 = omega (arith, c.loop-k-test, c.args.axes.few) in
+    omega (arith, small, c.args.axes.to)
 
-pub offset_bounds-sizes-k : goal.offset_bounds-sizes-k
-offset_bounds-sizes-k c =
-    let small : c.loop-k.k < 8 = omega (arith, c.loop-k-test, c.requires.sizes_len_bound.0) in
+pub offset_bounds-axes-k : goal.offset_bounds-axes-k
+offset_bounds-axes-k c =
+    let small : c.loop-k.k < 8 = omega (arith, c.loop-k-test, c.args.axes.few) in
     omega (arith, small)
 
-pub bounds-sizes-k : goal.bounds-sizes-k
-bounds-sizes-k c = omega (arith, c.loop-k-test)
+pub bounds-axes-k : goal.bounds-axes-k
+bounds-axes-k c = omega (arith, c.loop-k-test)
 
 pub offset_bounds-strides-start : goal.offset_bounds-strides-start
 offset_bounds-strides-start c =
-    let small : c.loop-k.k < 8 = omega (arith, c.loop-k-test, c.requires.sizes_len_bound.0) in
+    let small : c.loop-k.k < 8 = omega (arith, c.loop-k-test, c.args.axes.few) in
     omega (arith, small)
 
 pub slice_bounds-ranks_into-end : goal.slice_bounds-ranks_into-end
 slice_bounds-ranks_into-end c =
-    let small : c.loop-k.k < 8 = omega (arith, c.loop-k-test, c.requires.sizes_len_bound.0) in
-    omega (arith, small, c.requires.sizes_len_bound.1.0, c.requires.sizes_len_bound.1.1)
+    let small : c.loop-k.k < 8 = omega (arith, c.loop-k-test, c.args.axes.few) in
+    omega (arith, small, c.args.axes.to)
 
 pub offset_bounds-table-k : goal.offset_bounds-table-k
 offset_bounds-table-k c =
-    let small : c.loop-k.k < 8 = omega (arith, c.loop-k-test, c.requires.sizes_len_bound.0) in
+    let small : c.loop-k.k < 8 = omega (arith, c.loop-k-test, c.args.axes.few) in
     omega (arith, small)
 
 pub bounds-table-k : goal.bounds-table-k
 bounds-table-k c =
-    let small : c.loop-k.k < 8 = omega (arith, c.loop-k-test, c.requires.sizes_len_bound.0) in
+    let small : c.loop-k.k < 8 = omega (arith, c.loop-k-test, c.args.axes.few) in
     small
 
 pub ranks_into-requires : goal.ranks_into-requires
 ranks_into-requires c =
-    let small : c.loop-k.k < 8 = omega (arith, c.loop-k-test, c.requires.sizes_len_bound.0) in
+    let small : c.loop-k.k < 8 = omega (arith, c.loop-k-test, c.args.axes.few) in
     let k = c.loop-k.k in
-    let row = row_of c.args.sizes.now c.args.strides.now c.args.rank in record { strides_len_bound = rw length-take (omega (arith, c.requires.sizes_len_bound.1.1)); row_value = ap (λ (t : List (List ℕ)). get_or t k []) c.loop-k.invariant ∙ fill_here 8 (replicate 64 0) [] row k small }
+    let row = row_of c.args.axes.sizes.now c.args.axes.strides.now c.args.axes.rank in record { strides_len_bound = rw length-take (omega (arith, c.args.axes.to)); row_value = ap (λ (t : List (List ℕ)). get_or t k []) c.loop-k.invariant ∙ fill_here 8 (replicate 64 0) [] row k small }
 
 pub loop-k-preserved : goal.loop-k-preserved
 loop-k-preserved c =
-    let small : c.loop-k.k < 8 = omega (arith, c.loop-k-test, c.requires.sizes_len_bound.0) in
+    let small : c.loop-k.k < 8 = omega (arith, c.loop-k-test, c.args.axes.few) in
     let k = c.loop-k.k in
-    let sizes = c.args.sizes.now in
-    let ss = c.args.strides.now in
-    let rank = c.args.rank in
+    let sizes = c.args.axes.sizes.now in
+    let ss = c.args.axes.strides.now in
+    let rank = c.args.axes.rank in
     let at = k * 64 in
     let e : at + rank - at ≡ rank = omega arith in
-    let long : length (take rank (drop at ss)) ≡ rank = length-take rank (drop at ss) ∙ omega (arith, length-drop at ss, small, c.requires.sizes_len_bound.1.0, c.requires.sizes_len_bound.1.1) in
+    let long : length (take rank (drop at ss)) ≡ rank = length-take rank (drop at ss) ∙ omega (arith, length-drop at ss, small, c.requires.strides_len, c.args.axes.to) in
     let row = row_of sizes ss rank in
     let made : List ℤ → ℕ → List ℕ = λ part n. padded 64 0 (cond (eqb (get_or sizes k 0) 0) (replicate n 1) (ranks part)) in
     ap (set c.loop-k.table k) (c.ranks_into.ensures ∙ ap (λ (n : ℕ). made (take n (drop at ss)) (length (take n (drop at ss)))) e ∙ ap (made (take rank (drop at ss))) long)
@@ -80,9 +80,9 @@ loop-k-preserved c =
 
 pub returns : goal.returns
 returns c =
-    let sizes = c.args.sizes.now in
-    let ss = c.args.strides.now in
+    let sizes = c.args.axes.sizes.now in
+    let ss = c.args.axes.strides.now in
     let e : c.loop-k.k ≡ length sizes = omega (arith, c.loop-k-test) in
     c.loop-k.invariant
-    ∙ ap (λ (n : ℕ). padded 8 (replicate 64 0) (map (row_of sizes ss c.args.rank) (run 0 n))) e
-    ∙ sym (ranks-rows sizes ss c.args.rank (replicate 64 0))
+    ∙ ap (λ (n : ℕ). padded 8 (replicate 64 0) (map (row_of sizes ss c.args.axes.rank) (run 0 n))) e
+    ∙ sym (ranks-rows sizes ss c.args.axes.rank (replicate 64 0))

@@ -14,4 +14,4 @@ row_of sizes strides rank k = padded 64 0 (rank_row sizes strides rank k)
 
 abbrev pub invariant-loop-k : goal.invariant-loop-k
 invariant-loop-k l =
-    (l.table ≡ padded 8 (replicate 64 0) (map (row_of l.sizes l.strides l.rank) (run 0 l.k)))
+    (l.table ≡ padded 8 (replicate 64 0) (map (row_of l.axes.sizes.now l.axes.strides.now l.axes.rank) (run 0 l.k)))

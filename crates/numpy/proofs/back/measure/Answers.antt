@@ -6,6 +6,6 @@ use Rattle.numpy.proofs.back.measure.Goals as goal
 
 pub returns : goal.returns
 returns c =
-    let a = c.args in
+    let a = c.args.said in
     let l = spelled_measure a.size a.shape.now a.bytes.now in
     omega (arith, l)

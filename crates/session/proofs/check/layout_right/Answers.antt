@@ -10,8 +10,8 @@ pub returns-then-rank_over : goal.returns-then-rank_over
 returns-then-rank_over c =
     let a = c.args in
     decides_not (elim c.then-rank_over.branch [
-      | then-rank_over-via-then-rank_over w ↦ layout_far a.numbers a.extents.now a.sizes.now a.strides.now c.requires.0 c.requires.1.0 c.requires.1.1 (sym c.rank_over.ensures ∙ w.if-rank_over.true)
-      | then-rank_over-via-else-rank_over+then-operands_wrong w ↦ layout_many a.numbers a.extents.now a.sizes.now a.strides.now c.requires.0 c.requires.1.0 c.requires.1.1 (sym w.operands_wrong.ensures ∙ w.if-operands_wrong.true)
+      | then-rank_over-via-then-rank_over w ↦ layout_far a.numbers a.extents.now a.sizes.now a.strides.now c.told-extents c.told-sizes c.told-strides (sym c.rank_over.ensures ∙ w.if-rank_over.true)
+      | then-rank_over-via-else-rank_over+then-operands_wrong w ↦ layout_many a.numbers a.extents.now a.sizes.now a.strides.now c.told-extents c.told-sizes c.told-strides (sym w.operands_wrong.ensures ∙ w.if-operands_wrong.true)
     ])
 
 pub returns : goal.returns
@@ -19,5 +19,5 @@ returns c =
     let axes : c.args.numbers.rank ≤ 64 = few-axes _ c.rank_over.ensures c.if-rank_over.false in
     let few : c.args.numbers.operands ≤ 8 = few_operands _ c.operands_wrong.ensures c.if-operands_wrong.false in
     let a = c.args in
-    layout_decides a.numbers a.extents.now a.sizes.now a.strides.now c.requires.0 c.requires.1.0 c.requires.1.1 axes few
+    layout_decides a.numbers a.extents.now a.sizes.now a.strides.now c.told-extents c.told-sizes c.told-strides axes few
     c.purpose_told-told.ensures c.tidy-neat.ensures c.is_ok-plain.ensures.value c.purpose_of.ensures c.check_planning-answer.ensures

@@ -1,9 +1,9 @@
 -- `session::check::ranks_right` meets its contract. Assumes nothing.
-use mathlib.Core.Path.{◌≡◌, ap, ◌∙◌}
-use Prim.Native.Nat.{ℕ, ◌*◌}
+use mathlib.Core.Path.{◌≡◌, sym, ap, ◌∙◌}
+use Prim.Native.Nat.{ℕ, ◌-◌, ◌*◌}
 use native.Mathlib.Omega.{arith}
 use native.Mathlib.Nat.{le_antisymm}
-use lib.ListN.{take}
+use lib.ListN.{take, drop}
 use Rattle.session.specs.Session.{same_nats}
 use Rattle.session.specs.Made.{rows_of}
 use Rattle.strided.specs.Step.{blank}
@@ -23,6 +23,6 @@ returns c =
     let a = c.args in
     let t = c.loop-k-test.false in
     let e : l.k ≡ a.operands = le_antisymm l.invariant.2 t in
-    ranks_decide a.table.now a.ranks.now c.requires.operands_bound.1 c.requires.ranks_len a.operands c.requires.operands_bound.0
+    ranks_decide a.table.now a.ranks.now c.requires.operands_bound.1 c.told-ranks a.operands c.requires.operands_bound.0
     (l.invariant.3 ∙ ap (λ (k : ℕ). same_nats (take (k * 64) a.ranks.now) (rows_of a.table.now k)) e)
-    (c.all_zero-rest.ensures ∙ ap blank (rest_is (a.operands * 64) a.ranks.now))
+    (c.all_zero-rest.ensures ∙ ap (λ (n : ℕ). blank (take (n - a.operands * 64) (drop (a.operands * 64) a.ranks.now))) (sym c.told-ranks) ∙ ap blank (rest_is (a.operands * 64) a.ranks.now))

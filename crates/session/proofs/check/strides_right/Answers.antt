@@ -1,9 +1,9 @@
 -- `session::check::strides_right` meets its contract. Assumes nothing.
-use mathlib.Core.Path.{◌≡◌, ap, ◌∙◌}
-use Prim.Native.Nat.{ℕ, ◌*◌}
+use mathlib.Core.Path.{◌≡◌, sym, ap, ◌∙◌}
+use Prim.Native.Nat.{ℕ, ◌-◌, ◌*◌}
 use native.Mathlib.Omega.{arith}
 use native.Mathlib.Nat.{le_antisymm}
-use lib.ListN.{take}
+use lib.ListN.{take, drop}
 use Rattle.strided.specs.Step.{blank_z}
 use Rattle.laws.specs.Fuse.Arrays.{pick_rows}
 use Rattle.session.specs.Session.{same_ints}
@@ -21,14 +21,14 @@ loop-k-preserved c =
       l.invariant.1,
       l.invariant.2,
       omega (arith, t),
-      rows_next a.strides.now a.pitch (take a.count a.axes.now) a.plan_strides.now l.invariant.2 l.k (omega (arith, f, t)) l.alike c.row_picked-alike.result l.invariant.4 c.row_picked-alike.ensures,
+      rows_next a.rows.strides.now a.rows.pitch a.axes.now a.plan_strides.now l.invariant.2 l.k (omega (arith, f, t)) l.alike c.row_picked-alike.result l.invariant.4 c.row_picked-alike.ensures,
     )
 
 pub returns : goal.returns
 returns c =
     let l = c.loop-k in
     let a = c.args in
-    let e : l.k ≡ a.operands = le_antisymm l.invariant.3 c.loop-k-test.false in
-    rows-over a.strides.now a.pitch (take a.count a.axes.now) a.plan_strides.now l.invariant.2 a.operands c.requires.operands_bound.0 l.alike c.all_zero_signed-rest.result
-    (l.invariant.4 ∙ ap (λ (k : ℕ). same_ints (pick_rows a.strides.now a.pitch (take a.count a.axes.now) k) (take (k * 64) a.plan_strides.now)) e)
-    (c.all_zero_signed-rest.ensures ∙ ap blank_z (rest_is (a.operands * 64) a.plan_strides.now))
+    let e : l.k ≡ a.rows.operands = le_antisymm l.invariant.3 c.loop-k-test.false in
+    rows-over a.rows.strides.now a.rows.pitch a.axes.now a.plan_strides.now l.invariant.2 a.rows.operands c.requires.few.0 l.alike c.all_zero-rest.result
+    (l.invariant.4 ∙ ap (λ (k : ℕ). same_ints (pick_rows a.rows.strides.now a.rows.pitch a.axes.now k) (take (k * 64) a.plan_strides.now)) e)
+    (c.all_zero-rest.ensures ∙ ap (λ (n : ℕ). blank_z (take (n - a.rows.operands * 64) (drop (a.rows.operands * 64) a.plan_strides.now))) (sym c.told-plan_strides) ∙ ap blank_z (rest_is (a.rows.operands * 64) a.plan_strides.now))

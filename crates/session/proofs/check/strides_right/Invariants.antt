@@ -8,5 +8,5 @@ use Rattle.session.proofs.check.strides_right.Given as goal
 
 abbrev pub invariant-loop-k : goal.invariant-loop-k
 invariant-loop-k l =
-    (l.operands ≤ 8) × (l.operands * l.pitch ≤ length l.strides) × (length l.plan_strides ≡ 512) × (l.k ≤ l.operands)
-    × (l.alike ≡ same_ints (pick_rows l.strides l.pitch (take l.count l.axes) l.k) (take (l.k * 64) l.plan_strides))
+    (l.rows.operands ≤ 8) × (l.rows.operands * l.rows.pitch ≤ length l.rows.strides.now) × (length l.plan_strides ≡ 512) × (l.k ≤ l.rows.operands)
+    × (l.alike ≡ same_ints (pick_rows l.rows.strides.now l.rows.pitch l.axes l.k) (take (l.k * 64) l.plan_strides))

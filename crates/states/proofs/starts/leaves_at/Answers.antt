@@ -1,33 +1,48 @@
 -- `states::starts::leaves_at` meets its contract. Assumes nothing.
-use Prim.Native.Nat.{◌≤◌, ◌<◌, ◌-◌, ◌^◌}
-use native.Mathlib.Omega.{arith}
-use Rattle.states.proofs.Ways.{placed_part, low_fits, low_le, high_fits, too_low, high_test}
+use mathlib.Core.Path.{◌≡◌, sym, ap, ◌∙◌}
+use lib.ListN.{length}
+use Rattle.strided.specs.Begin.{plan_extents, plan_row}
+use Rattle.strided.specs.Layout.{reach}
+use Rattle.laws.specs.Walk.Row9.{below_of}
+use Rattle.states.proofs.Ways.{low_le, too_low, high_test}
 use Rattle.std.proofs.Common.{rules}
 use mir.Facts.{to_z-of_z}
 use Rattle.states.proofs.starts.leaves_at.Goals as goal
 use mir.Syntax.{w64}
 
 pub span_of-span-requires : goal.span_of-span-requires
-span_of-span-requires c = placed_part _ _ _ _ _ c.requires
+span_of-span-requires c = record {
+  long = c.row.ensures.long ∙ sym c.axes.ensures.long;
+  within = rw c.axes.ensures.value c.requires.within;
+  near = rw (c.axes.ensures.value, c.row.ensures.value) c.requires.near;
+}
 
-pub room_below-requires : goal.room_below-requires
-room_below-requires c =
-    low_fits _ _ _ _ _ c.requires _ c.span_of-span.ensures.1
+pub overflow_sub-span : goal.overflow_sub-span
+overflow_sub-span c =
+    let a = c.args in
+    let l : length (plan_row a.plan.now a.k) ≡ length (plan_extents a.plan.now) = sym (ap length c.row.ensures.value) ∙ c.row.ensures.long ∙ sym c.axes.ensures.long ∙ ap length c.axes.ensures.value in
+    let u : c.span_of-span.result.below ≡ below_of (plan_extents a.plan.now) (plan_row a.plan.now a.k) a.counters.now =
+    c.span_of-span.ensures.1 ∙ (λ i. below_of (c.axes.ensures.value i) (c.row.ensures.value i) a.counters.now) in
+    let r : c.span_of-span.result.reach ≡ reach (plan_extents a.plan.now) (plan_row a.plan.now a.k) =
+    c.span_of-span.ensures.0 ∙ (λ i. reach (c.axes.ensures.value i) (c.row.ensures.value i)) in
+    low_le _ _ _ _ c.requires l _ u _ r
 
-pub overflow_sub-reach : goal.overflow_sub-reach
-overflow_sub-reach c =
-    let h : c.span_of-span.result.below ≤ c.span_of-span.result.reach = low_le _ _ _ _ _ c.requires _ c.span_of-span.ensures.1 _ c.span_of-span.ensures.0 in
-    omega (arith, h)
+pub returns-else-not-room_below : goal.returns-else-not-room_below
+returns-else-not-room_below c =
+    let a = c.args in
+    let l : length (plan_row a.plan.now a.k) ≡ length (plan_extents a.plan.now) = sym (ap length c.row.ensures.value) ∙ c.row.ensures.long ∙ sym c.axes.ensures.long ∙ ap length c.axes.ensures.value in
+    let u : c.span_of-span.result.below ≡ below_of (plan_extents a.plan.now) (plan_row a.plan.now a.k) a.counters.now =
+    c.span_of-span.ensures.1 ∙ (λ i. below_of (c.axes.ensures.value i) (c.row.ensures.value i) a.counters.now) in
+    let r : c.span_of-span.result.reach ≡ reach (plan_extents a.plan.now) (plan_row a.plan.now a.k) =
+    c.span_of-span.ensures.0 ∙ (λ i. reach (c.axes.ensures.value i) (c.row.ensures.value i)) in
+    high_test _ _ _ _ c.requires l _ u _ r _ (to_z-of_z {w = w64} (search rules)) c.room_below.ensures c.if-not-room_below.false c.room_above.ensures
 
-pub room_above-requires : goal.room_above-requires
-room_above-requires c =
-    let h : c.span_of-span.result.reach - c.span_of-span.result.below < 2 ^ 63 = high_fits _ _ _ _ _ c.requires _ c.span_of-span.ensures.1 _ c.span_of-span.ensures.0 in
-    omega (arith, h)
-
-pub returns-then-room_below : goal.returns-then-room_below
-returns-then-room_below c =
-    high_test _ _ _ _ _ c.requires _ c.span_of-span.ensures.1 _ c.span_of-span.ensures.0 _ (to_z-of_z {w = w64} (search rules)) c.room_below.ensures c.if-room_below.true c.room_above.ensures
-
-pub returns : goal.returns
-returns c =
-    too_low _ _ _ _ _ c.requires _ c.span_of-span.ensures.1 _ c.span_of-span.ensures.0 _ (to_z-of_z {w = w64} (search rules)) c.room_below.ensures c.if-room_below.false
+pub returns-then-not-room_below : goal.returns-then-not-room_below
+returns-then-not-room_below c =
+    let a = c.args in
+    let l : length (plan_row a.plan.now a.k) ≡ length (plan_extents a.plan.now) = sym (ap length c.row.ensures.value) ∙ c.row.ensures.long ∙ sym c.axes.ensures.long ∙ ap length c.axes.ensures.value in
+    let u : c.span_of-span.result.below ≡ below_of (plan_extents a.plan.now) (plan_row a.plan.now a.k) a.counters.now =
+    c.span_of-span.ensures.1 ∙ (λ i. below_of (c.axes.ensures.value i) (c.row.ensures.value i) a.counters.now) in
+    let r : c.span_of-span.result.reach ≡ reach (plan_extents a.plan.now) (plan_row a.plan.now a.k) =
+    c.span_of-span.ensures.0 ∙ (λ i. reach (c.axes.ensures.value i) (c.row.ensures.value i)) in
+    rw c.if-not-room_below.true (too_low _ _ _ _ c.requires l _ u _ r _ (to_z-of_z {w = w64} (search rules)) c.room_below.ensures c.if-not-room_below.true)

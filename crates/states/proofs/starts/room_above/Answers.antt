@@ -1,9 +1,13 @@
 -- `states::starts::room_above` meets its contract. Assumes nothing.
-use Rattle.states.proofs.Rooms.{greatest_fits, compared_above, room-over}
+use mathlib.Core.Path.{ap, ◌∙◌}
+use lib.IntN.{ℤ, pos, ◌+ℤ◌}
+use mir.Syntax.{w64}
+use mir.Facts.{to_z-of_z}
+use Rattle.strided.specs.Layout.{in_i64}
+use Rattle.states.proofs.Rooms.{fits_some}
 use Rattle.states.proofs.starts.room_above.Goals as goal
 
-pub overflow_sub-greatest : goal.overflow_sub-greatest
-overflow_sub-greatest c = greatest_fits c.args.o c.ranges.o _ c.requires
-
 pub returns : goal.returns
-returns c = room-over _ c.ranges.o _ c.requires (compared_above _ c.ranges.o _ c.requires)
+returns c =
+    fits_some _ _ _ c.checked_add_unsigned.ensures c.is_some.ensures
+    ∙ ap (λ (z : ℤ). in_i64 (z +ℤ pos c.args.above)) (to_z-of_z {w = w64} c.ranges.o)

@@ -2,22 +2,29 @@
 use Rattle.states.proofs.Ways.{stands_at}
 use Rattle.laws.specs.Refusals.Operands.{some_of_empty, some_of_step, some_of_found}
 use Rattle.strided.specs.Base.{some_of}
+use Rattle.strided.specs.declared.Plan.{Plan}
 use native.Mathlib.Nat.{le_antisymm}
 use native.Mathlib.Omega.{arith}
-use mathlib.Core.Path.{sym, ap, ◌∙◌}
+use mathlib.Core.Path.{sym, ap, ◌∙◌, subst}
+use Prim.Native.Nat.{◌≤◌, ◌<◌}
 use Rattle.states.proofs.starts.some_leave.Goals as goal
 
 pub loop-k-init : goal.loop-k-init
 loop-k-init c = (omega arith, some_of_empty _)
 
 pub leaves_at-requires : goal.leaves_at-requires
-leaves_at-requires c = stands_at _ _ _ _ _ _ c.requires c.loop-k-test.true
+leaves_at-requires c = stands_at _ _ _ _ c.requires (subst (λ (p : Plan). c.loop-k.k < p.operands) c.plan.view_is c.loop-k-test.true)
 
 pub returns-then-leaves_at : goal.returns-then-leaves_at
-returns-then-leaves_at c = sym (some_of_found _ c.loop-k.k _ c.loop-k-test.true (sym c.leaves_at.ensures ∙ c.if-leaves_at.true))
+returns-then-leaves_at c =
+    sym (some_of_found _ c.loop-k.k _ (subst (λ (p : Plan). c.loop-k.k < p.operands) c.plan.view_is c.loop-k-test.true) (sym c.leaves_at.ensures ∙ c.if-leaves_at.true))
 
 pub loop-k-preserved : goal.loop-k-preserved
-loop-k-preserved c = (omega arith, some_of_step _ c.loop-k.k c.loop-k.invariant.1 (sym c.leaves_at.ensures ∙ c.if-leaves_at.false))
+loop-k-preserved c =
+    let h = subst (λ (p : Plan). c.loop-k.k < p.operands) c.plan.view_is c.loop-k-test.true in
+    (omega (arith, h), some_of_step _ c.loop-k.k c.loop-k.invariant.1 (sym c.leaves_at.ensures ∙ c.if-leaves_at.false))
 
 pub returns : goal.returns
-returns c = sym (ap (some_of _ 0) (le_antisymm c.loop-k-test.false c.loop-k.invariant.0) ∙ c.loop-k.invariant.1)
+returns c =
+    let h = subst (λ (p : Plan). p.operands ≤ c.loop-k.k) c.plan.view_is c.loop-k-test.false in
+    sym (ap (some_of _ 0) (le_antisymm h c.loop-k.invariant.0) ∙ c.loop-k.invariant.1)

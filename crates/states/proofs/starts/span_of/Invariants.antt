@@ -1,5 +1,5 @@
 -- The invariants of `starts::span_of`.
-use Prim.Native.Nat.{◌≤◌, ◌-◌}
+use Prim.Native.Nat.{◌≤◌}
 use lib.ListN.{length}
 use Rattle.states.proofs.Ways.{Left, Further}
 use Rattle.states.proofs.starts.span_of.Given as goal

@@ -1,20 +1,21 @@
 -- `states::starts::starts_leave` meets its contract. Assumes nothing.
 use Rattle.states.proofs.Table.{standing_of}
+use Rattle.strided.specs.Begin.{plan_extents}
 use Rattle.laws.specs.Refusals.Operands.{operands_zero, operands_some}
 use Rattle.states.specs.Starts.{some_leave, leaves_at}
 use Rattle.states.proofs.starts.starts_leave.Goals as goal
 
-pub returns-then-has_zero : goal.returns-then-has_zero
+pub returns-else-not-no_block : goal.returns-else-not-no_block
 unfolding some_leave
-returns-then-has_zero c =
+returns-else-not-no_block c =
     let a = c.args in
-    operands_zero a.extents.now (leaves_at a.extents.now a.strides.now a.counters.now a.offsets.now) _ c.has_zero.ensures c.if-has_zero.true
+    rw c.if-not-no_block.false (operands_zero (plan_extents a.plan.now) (leaves_at a.plan.now a.counters.now a.offsets.now) _ c.no_block.ensures c.if-not-no_block.false)
 
 pub some_leave-requires : goal.some_leave-requires
-some_leave-requires c = standing_of _ _ _ _ _ c.requires c.has_zero.ensures c.if-has_zero.false
+some_leave-requires c = standing_of c.requires c.no_block.ensures c.if-not-no_block.true
 
-pub returns : goal.returns
+pub returns-then-not-no_block : goal.returns-then-not-no_block
 unfolding some_leave
-returns c =
+returns-then-not-no_block c =
     let a = c.args in
-    operands_some a.extents.now (leaves_at a.extents.now a.strides.now a.counters.now a.offsets.now) _ c.has_zero.ensures c.if-has_zero.false c.some_leave.ensures
+    operands_some (plan_extents a.plan.now) (leaves_at a.plan.now a.counters.now a.offsets.now) _ c.no_block.ensures c.if-not-no_block.true c.some_leave.ensures

@@ -1,7 +1,7 @@
 -- The invariants of `state::all_within`.
 use Rattle.strided.specs.Layout.{within}
 use lib.ListN.{length, drop}
-use Prim.Native.Nat.{◌≤◌, ◌-◌}
+use Prim.Native.Nat.{◌≤◌}
 use mathlib.Core.Path.{◌≡◌}
 use Rattle.states.proofs.state.all_within.Given as goal
 

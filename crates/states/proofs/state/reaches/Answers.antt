@@ -1,90 +1,49 @@
 -- `states::state::reaches` meets its contract. Assumes nothing.
-use Rattle.states.proofs.Table.{cut-length}
-use Rattle.states.proofs.Reaching.{blocks_long, counters_long, laid-here, untidy, stands_not, near_last, may-not, leave_last, begins_here}
-use native.Mathlib.Omega.{arith}
+use mathlib.Core.Path.{sym, ap, ◌∙◌, subst}
+use mathlib.Core.List.{List}
+use Prim.Native.Nat.{ℕ}
+use lib.ListN.{take}
+use Rattle.strided.specs.Refusals.{row5}
+use Rattle.strided.specs.declared.Plan.{Plan}
+use Rattle.layout.specs.Lent.{Whole}
+use Rattle.states.specs.Starts.{some_leave, Begins}
+use Rattle.states.proofs.Reaching.{untidy, stands_not, near_last, may-not, leave_last, begins_here}
 use Rattle.states.proofs.state.reaches.Goals as goal
-
-pub slice_bounds-stands-end : goal.slice_bounds-stands-end
-slice_bounds-stands-end c =
-    let a = c.args in
-    cut-length a.rank a.e.now (omega (arith, c.requires.extents, c.requires.axes))
-
-pub slice_bounds-stands-end-then-tidy : goal.slice_bounds-stands-end-then-tidy
-slice_bounds-stands-end-then-tidy c =
-    let a = c.args in
-    cut-length a.rank a.b.now (omega (arith, c.requires.blocks, c.requires.axes))
-
-pub slice_bounds-stands-end-then-tidy-2 : goal.slice_bounds-stands-end-then-tidy-2
-slice_bounds-stands-end-then-tidy-2 c =
-    let a = c.args in
-    cut-length a.rank a.c.now (omega (arith, c.requires.counters, c.requires.axes))
-
-pub stands-requires : goal.stands-requires
-stands-requires c =
-    let a = c.args in
-    (blocks_long a.ended a.rank a.operands a.e.now a.b.now a.s.now a.c.now a.o.now c.requires, counters_long a.ended a.rank a.operands a.e.now a.b.now a.s.now a.c.now a.o.now c.requires)
-
-pub slice_bounds-all_near-end : goal.slice_bounds-all_near-end
-slice_bounds-all_near-end c =
-    let a = c.args in
-    cut-length a.rank a.e.now (omega (arith, c.requires.extents, c.requires.axes))
-
-pub all_near-requires : goal.all_near-requires
-all_near-requires c =
-    let a = c.args in
-    laid-here a.ended a.rank a.operands a.e.now a.b.now a.s.now a.c.now a.o.now c.requires
-
-pub slice_bounds-total_over-end : goal.slice_bounds-total_over-end
-slice_bounds-total_over-end c =
-    let a = c.args in
-    cut-length a.rank a.e.now (omega (arith, c.requires.extents, c.requires.axes))
+use Rattle.states.proofs.state.reaches.Goals.{then-not-tidy-via-then-not-tidy, then-not-tidy-via-else-not-tidy+then-not-stands}
 
 pub returns-then-all_near : goal.returns-then-all_near
 returns-then-all_near c =
-    let a = c.args in
-    near_last a.ended a.rank a.operands a.e.now a.b.now a.s.now a.c.now a.o.now c.requires c.tidy.ensures c.if-tidy.true c.stands.ensures c.if-stands.true (c.all_near.ensures c.if-all_near.true) c.total_over.ensures
-
-pub slice_bounds-may_start-end : goal.slice_bounds-may_start-end
-slice_bounds-may_start-end c =
-    let a = c.args in
-    cut-length a.rank a.e.now (omega (arith, c.requires.extents, c.requires.axes))
-
-pub may_start-requires : goal.may_start-requires
-may_start-requires c =
-    let a = c.args in
-    laid-here a.ended a.rank a.operands a.e.now a.b.now a.s.now a.c.now a.o.now c.requires
-
-pub slice_bounds-starts_leave-end : goal.slice_bounds-starts_leave-end
-slice_bounds-starts_leave-end c =
-    let a = c.args in
-    cut-length a.rank a.e.now (omega (arith, c.requires.extents, c.requires.axes))
-
-pub slice_bounds-starts_leave-end-then-may_start : goal.slice_bounds-starts_leave-end-then-may_start
-slice_bounds-starts_leave-end-then-may_start c =
-    let a = c.args in
-    cut-length a.rank a.c.now (omega (arith, c.requires.counters, c.requires.axes))
+    let p = c.args.plan.now in
+    let A : Whole p = subst Whole c.plan.view_is c.plan.invariant in
+    near_last c.args.ended p c.args.c.now c.args.o.now A c.told-c c.told-o c.tidy.ensures c.if-not-tidy.false c.stands.ensures c.if-not-stands.false (c.all_near.ensures c.if-all_near.true)
+    (c.total_over.ensures ∙ ap (λ (es : List ℕ). (row5 es).applies) c.axes.ensures.value)
 
 pub starts_leave-requires : goal.starts_leave-requires
 starts_leave-requires c =
-    let a = c.args in
-    begins_here a.ended a.rank a.operands a.e.now a.b.now a.s.now a.c.now a.o.now c.requires c.tidy.ensures c.if-tidy.true c.stands.ensures c.if-stands.true c.may_start.ensures c.if-may_start.true
+    let p = c.args.plan.now in
+    let A : Whole p = subst Whole c.plan.view_is c.plan.invariant in
+    subst (λ (q : Plan). Begins p (take q.rank c.args.c.now) c.args.o.now) (sym c.plan.view_is)
+    (begins_here c.args.ended p c.args.c.now c.args.o.now A c.told-c c.told-o c.tidy.ensures c.if-not-tidy.false c.stands.ensures c.if-not-stands.false c.may_start.ensures c.if-may_start.true)
 
 pub returns-then-may_start : goal.returns-then-may_start
 returns-then-may_start c =
-    let a = c.args in
-    leave_last a.ended a.rank a.operands a.e.now a.b.now a.s.now a.c.now a.o.now c.requires c.tidy.ensures c.if-tidy.true c.stands.ensures c.if-stands.true c.may_start.ensures c.if-may_start.true c.starts_leave.ensures
+    let p = c.args.plan.now in
+    let A : Whole p = subst Whole c.plan.view_is c.plan.invariant in
+    leave_last c.args.ended p c.args.c.now c.args.o.now A c.told-c c.told-o c.tidy.ensures c.if-not-tidy.false c.stands.ensures c.if-not-stands.false c.may_start.ensures c.if-may_start.true
+    (c.starts_leave.ensures ∙ ap (λ (q : Plan). some_leave p (take q.rank c.args.c.now) c.args.o.now) c.plan.view_is)
 
 pub returns-else-may_start : goal.returns-else-may_start
 returns-else-may_start c =
-    let a = c.args in
-    may-not a.ended a.rank a.operands a.e.now a.b.now a.s.now a.c.now a.o.now c.requires c.tidy.ensures c.if-tidy.true c.stands.ensures c.if-stands.true c.may_start.ensures c.if-may_start.false
+    let p = c.args.plan.now in
+    let A : Whole p = subst Whole c.plan.view_is c.plan.invariant in
+    c.if-may_start.false ∙ may-not c.args.ended p c.args.c.now c.args.o.now A c.told-c c.told-o c.tidy.ensures c.if-not-tidy.false c.stands.ensures c.if-not-stands.false c.may_start.ensures c.if-may_start.false
 
-pub returns-else-stands : goal.returns-else-stands
-returns-else-stands c =
-    let a = c.args in
-    stands_not a.ended a.rank a.operands a.e.now a.b.now a.s.now a.c.now a.o.now c.requires c.tidy.ensures c.if-tidy.true c.stands.ensures c.if-stands.false
-
-pub returns-else-tidy : goal.returns-else-tidy
-returns-else-tidy c =
-    let a = c.args in
-    untidy a.ended a.rank a.operands a.e.now a.b.now a.s.now a.c.now a.o.now c.requires c.tidy.ensures c.if-tidy.false
+pub returns-then-not-tidy : goal.returns-then-not-tidy
+returns-then-not-tidy c =
+    let p = c.args.plan.now in
+    let A : Whole p = subst Whole c.plan.view_is c.plan.invariant in
+    elim c.then-not-tidy.branch [
+      | then-not-tidy-via-then-not-tidy w ↦ untidy c.args.ended p c.args.c.now c.args.o.now A c.told-c c.told-o c.tidy.ensures w.if-not-tidy.true
+      | then-not-tidy-via-else-not-tidy+then-not-stands w ↦
+          stands_not c.args.ended p c.args.c.now c.args.o.now A c.told-c c.told-o c.tidy.ensures w.if-not-tidy.false w.stands.ensures w.if-not-stands.true
+    ]

@@ -1,19 +1,34 @@
 -- `states::state::stands` meets its contract. Assumes nothing.
-use Rattle.std.proofs.Common.{◌∙◌}
+use mathlib.Core.Path.{◌≡◌, sym, ap, ◌∙◌, subst}
+use lib.ListN.{length, take}
+use native.Mathlib.Omega.{arith}
+use Rattle.layout.specs.Lent.{Whole, axes_long}
+use Rattle.strided.specs.Begin.{plan_extents}
+use Rattle.strided.specs.Layout.{within}
+use Rattle.strided.specs.Step.{blank}
+use Rattle.strided.specs.declared.Plan.{Plan}
+use Rattle.states.proofs.Table.{cut-length}
 use Rattle.states.proofs.Reaching.{stands_ended, stands_out, stands_on}
 use Rattle.states.proofs.state.stands.Goals as goal
 
 pub returns-then-ended : goal.returns-then-ended
 returns-then-ended c =
-    let a = c.args in
-    stands_ended a.extents.now a.blocks.now a.counters.now c.requires.1 c.if-ended.true c.all_zero.ensures
+    let p = c.args.plan.now in
+    let A : Whole p = subst Whole c.plan.view_is c.plan.invariant in
+    let l : length (take p.rank c.args.c.now) ≡ length (plan_extents p) =
+    sym (cut-length p.rank c.args.c.now (omega (arith, A.axes, c.told-c))) ∙ sym (axes_long A) in
+    stands_ended p c.args.c.now l c.if-ended.true (c.all_zero.ensures ∙ ap (λ (q : Plan). blank (take q.rank c.args.c.now)) c.plan.view_is)
 
 pub returns-then-all_within : goal.returns-then-all_within
 returns-then-all_within c =
-    let a = c.args in
-    stands_on a.extents.now a.blocks.now a.counters.now c.requires.1 c.if-ended.false c.all_within.ensures c.if-all_within.true c.on_start.ensures
+    let p = c.args.plan.now in
+    let is : c.all_within.result ≡ within (plan_extents p) (take p.rank c.args.c.now) =
+    c.all_within.ensures ∙ (λ i. within (c.axes.ensures.value i) (take (c.plan.view_is i).rank c.args.c.now)) in
+    stands_on p c.args.c.now c.if-ended.false is c.if-all_within.true c.on_start.ensures
 
 pub returns-else-all_within : goal.returns-else-all_within
 returns-else-all_within c =
-    let a = c.args in
-    c.if-all_within.false ∙ stands_out a.extents.now a.blocks.now a.counters.now c.requires.1 c.if-ended.false c.all_within.ensures c.if-all_within.false
+    let p = c.args.plan.now in
+    let is : c.all_within.result ≡ within (plan_extents p) (take p.rank c.args.c.now) =
+    c.all_within.ensures ∙ (λ i. within (c.axes.ensures.value i) (take (c.plan.view_is i).rank c.args.c.now)) in
+    c.if-all_within.false ∙ stands_out p c.args.c.now c.if-ended.false is c.if-all_within.false

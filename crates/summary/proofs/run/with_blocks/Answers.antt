@@ -2,7 +2,7 @@
 use Rattle.summary.proofs.Meeting.{none_met}
 use Rattle.summary.proofs.run.with_blocks.Goals as goal
 
-pub returns-then-n-eq0 : goal.returns-then-n-eq0
-returns-then-n-eq0 c =
+pub returns-then-rows-eq0 : goal.returns-then-rows-eq0
+returns-then-rows-eq0 c =
     let a = c.args in
-    none_met a.cells.now a.s a.first a.by a.count a.stride c.if-n-eq0.true
+    none_met a.cells.now a.s a.rows.first a.rows.by a.rows.count a.rows.stride c.if-rows-eq0.true

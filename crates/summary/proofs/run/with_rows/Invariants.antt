@@ -5,4 +5,4 @@ use Rattle.summary.proofs.run.with_rows.Given as goal
 
 abbrev pub invariant-loop-j : goal.invariant-loop-j
 invariant-loop-j l =
-    Rowing l.cells l.by l.count l.stride l.n (met l.cells l.initial.t (rows_from l.first l.by l.count l.stride l.n)) l.j l.t l.o
+    Rowing l.cells l.rows.by l.rows.count l.rows.stride l.rows.n (met l.cells l.initial.t (rows_from l.rows.first l.rows.by l.rows.count l.rows.stride l.rows.n)) l.j l.t l.o

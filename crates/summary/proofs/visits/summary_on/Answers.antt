@@ -1,9 +1,8 @@
 -- `summary::visits::summary_on` meets its contract: the loop keeps `Summing`. Assumes nothing.
 use native.Mathlib.Omega.{arith}
-use mathlib.Core.Path.{◌≡◌, refl, sym, ◌∙◌}
+use mathlib.Core.Path.{◌≡◌, sym, ◌∙◌, subst}
 use mathlib.Core.Bool.{true, false}
 use mathlib.Core.List.{List}
-use Prim.Native.Nat.{ℕ}
 use lib.IntN.{ℤ, pos}
 use lib.ListN.{get_or}
 use mir.Facts.{to_z-of_z}
@@ -12,49 +11,30 @@ use mir.Val.{SFits}
 use borrow.Author.Rules.{rules}
 use Rattle.strided.specs.Begin.{plan_extents}
 use Rattle.strided.specs.Layout.{has_zero}
-use Rattle.strided.specs.Memory.{plan_of}
 use Rattle.strided.specs.declared.Plan.{Plan}
-use Rattle.advance.specs.Axis.{widths_to}
+use Rattle.summary.specs.Ahead.{rows_from, Ahead, met}
 use Rattle.walker.proofs.Walked.{may_move}
-use Rattle.summary.proofs.Summing.{summable_ready, no_cells, first_taken, summing_start, summing_while, summing_asks, summing_fit, summing_rows, summing_next, summing_number, summing_less, summing_end}
+use Rattle.summary.proofs.Summing.{no_cells, first_taken, summing_start, summing_while, summing_asks, summing_fit, summing_rows, summing_next, summing_number, summing_less, summing_end}
 use Rattle.summary.proofs.visits.summary_on.Goals as goal
-
-pub no_block-requires : goal.no_block-requires
-no_block-requires c = let r = summable_ready c.requires in let l = c.requires.sized.extents-all in omega (arith, r.axes, l)
 
 pub returns-then-no_block : goal.returns-then-no_block
 returns-then-no_block c =
-    -- the plan that the arguments tell
-    let plan : Plan = let a = c.args in plan_of a.rank 1 a.e.now a.b.now a.s.now in
     -- there is no block, or there is one
-    let none : true ≡ has_zero (plan_extents plan) = sym c.if-no_block.true ∙ c.no_block.ensures in
+    let none : true ≡ has_zero (plan_extents c.args.plan.now) = sym c.if-no_block.true ∙ c.no_block.ensures in
     c.nothing_met.ensures ∙ no_cells c.requires none
-
-pub widths_into-requires : goal.widths_into-requires
-widths_into-requires c = record { rank_bound = (summable_ready c.requires).axes; w_value = refl }
-
-pub way_of-y-requires : goal.way_of-y-requires
-way_of-y-requires c = (summable_ready c.requires).axes
 
 pub moves_of-d-requires : goal.moves_of-d-requires
 moves_of-d-requires c =
-    let widthsIn : List ℕ = c.widths_into.new.w in
-    let widths-are : let a = c.args in widthsIn ≡ widths_to a.rank a.e.now a.b.now a.rank = c.widths_into.ensures in
-    let plan : Plan = let a = c.args in plan_of a.rank 1 a.e.now a.b.now a.s.now in
-    let some : false ≡ has_zero (plan_extents plan) = sym c.if-no_block.false ∙ c.no_block.ensures in
-    may_move widths-are c.way_of-y.ensures (first_taken c.requires some)
+    let some : false ≡ has_zero (plan_extents c.args.plan.now) = sym c.if-no_block.false ∙ c.no_block.ensures in
+    may_move c.widths_into.ensures c.way_of-y.ensures (first_taken c.requires some)
 
 pub loop-more-init : goal.loop-more-init
 loop-more-init c =
-    let plan : Plan = let a = c.args in plan_of a.rank 1 a.e.now a.b.now a.s.now in
-    let some : false ≡ has_zero (plan_extents plan) = sym c.if-no_block.false ∙ c.no_block.ensures in
-    let widthsIn : List ℕ = c.widths_into.new.w in
-    let widths-are : let a = c.args in widthsIn ≡ widths_to a.rank a.e.now a.b.now a.rank = c.widths_into.ensures in
-    rw (to_z-of_z {w = w64} c.ranges.start) (summing_start c.requires some widths-are c.way_of-y.ensures c.nothing_met-sum.ensures)
+    let some : false ≡ has_zero (plan_extents c.args.plan.now) = sym c.if-no_block.false ∙ c.no_block.ensures in
+    rw (to_z-of_z {w = w64} c.ranges.start) (summing_start c.requires some c.widths_into.ensures c.way_of-y.ensures c.nothing_met-sum.ensures)
 
 pub take_stretch-x-requires : goal.take_stretch-x-requires
-take_stretch-x-requires c =
-    summing_asks (summing_while c.loop-more.invariant c.loop-more-test.true)
+take_stretch-x-requires c = summing_asks (summing_while c.loop-more.invariant c.loop-more-test.true)
 
 pub with_blocks-sum-requires : goal.with_blocks-sum-requires
 with_blocks-sum-requires c =
@@ -62,10 +42,13 @@ with_blocks-sum-requires c =
     let firstIn : List ℤ = c.take_stretch-x.new.first in
     let from_is = to_z-of_z {w = w64} (let f : SFits w64 (get_or firstIn 0 (pos 0)) = search rules in f) in
     let by-is = to_z-of_z {w = w64} (let f : SFits w64 (get_or c.moves_of-d.result 0 (pos 0)) = search rules in f) in
-    let stride-is = to_z-of_z {w = w64} (let f : SFits w64 (get_or c.args.s.now 0 (pos 0)) = search rules in f) in
+    let stride-is = to_z-of_z {w = w64} (let f : SFits w64 (get_or c.plan.inside.strides.now 0 (pos 0)) = search rules in f) in
     let runs = summing_while c.loop-more.invariant c.loop-more-test.true in
     let d = c.moves_of-d.ensures in
-    rw (from_is, by-is, stride-is) (record { runs_fit = summing_fit runs c.take_stretch-x.ensures d; ahead = summing_rows runs c.take_stretch-x.ensures d })
+    let ahead = subst (λ (q : Plan). Ahead c.args.cells.now c.loop-more.sum
+    (rows_from (get_or firstIn 0 (pos 0)) (get_or c.moves_of-d.result 0 (pos 0)) c.take_stretch-x.result.count (get_or q.strides 0 (pos 0)) c.take_stretch-x.result.length))
+    (sym c.plan.view_is) (summing_rows runs c.take_stretch-x.ensures d) in
+    rw (from_is, by-is, stride-is) (record { runs_fit = summing_fit runs c.take_stretch-x.ensures d; ahead = ahead })
 
 pub overflow_add-number : goal.overflow_add-number
 overflow_add-number c =
@@ -83,9 +66,11 @@ loop-more-preserved c =
     let firstIn : List ℤ = c.take_stretch-x.new.first in
     let from_is = to_z-of_z {w = w64} (let f : SFits w64 (get_or firstIn 0 (pos 0)) = search rules in f) in
     let by-is = to_z-of_z {w = w64} (let f : SFits w64 (get_or c.moves_of-d.result 0 (pos 0)) = search rules in f) in
-    let stride-is = to_z-of_z {w = w64} (let f : SFits w64 (get_or c.args.s.now 0 (pos 0)) = search rules in f) in
+    let stride-is = to_z-of_z {w = w64} (let f : SFits w64 (get_or c.plan.inside.strides.now 0 (pos 0)) = search rules in f) in
+    let made = rw (from_is, by-is, stride-is) at c.with_blocks-sum.ensures in
     summing_next runs c.take_stretch-x.ensures c.moves_of-d.ensures
-    (rw (from_is, by-is, stride-is) at c.with_blocks-sum.ensures)
+    (subst (λ (q : Plan). c.with_blocks-sum.result ≡ met c.args.cells.now c.loop-more.sum
+    (rows_from (get_or firstIn 0 (pos 0)) (get_or c.moves_of-d.result 0 (pos 0)) c.take_stretch-x.result.count (get_or q.strides 0 (pos 0)) c.take_stretch-x.result.length)) c.plan.view_is made)
 
 pub returns : goal.returns
 returns c =

@@ -1,27 +1,28 @@
 -- `views::memory::found_into` meets its contract: index finding judges row 11 before anything is written. Assumes nothing.
-use mathlib.Core.Path.{refl, sym, subst}
-use Prim.Native.Nat.{ℕ, ◌≤◌}
-use lib.ListN.{take}
-use Rattle.finding.proofs.Answers.{fitting, cells-few}
-use Rattle.walk.proofs.Stepping.{axes-few}
+use Rattle.std.proofs.Common.{refl, ap, take}
+use Rattle.std.proofs.lemmas.Result.{err_from_is_err_and}
+use Rattle.strided.specs.declared.Plan.{Plan}
+use Rattle.finding.specs.Mapped.{found_original}
 use Rattle.views.proofs.Answers.{told_as, countable, visit_refused_lem, visit_block}
 use Rattle.views.proofs.memory.found_into.Goals as goal
 
-pub told_into-told-requires : goal.told_into-told-requires
-told_into-told-requires c =
-    let a = c.args in
-    let k = c.requires.state in record { layout = fitting a.extents.now a.sizes.now a.strides.now a.purpose c.requires.layout; total = cells-few a.extents.now a.sizes.now a.strides.now a.purpose c.requires.layout; counters = subst (λ (n : ℕ). a.rank ≤ n) (sym k.counters-all) (axes-few _ _ k) }
-
 pub number_of-requires : goal.number_of-requires
-number_of-requires c =
-    countable _ _ c.requires.state refl
+number_of-requires c = countable _ _ c.requires.state refl
 
-pub returns-in-Err : goal.returns-in-Err
-returns-in-Err c =
+pub returns-in_err-original_of_into : goal.returns-in_err-original_of_into
+returns-in_err-original_of_into c =
     let a = c.args in
-    visit_refused_lem _ _ c.requires.state refl a.extents.now a.sizes.now a.strides.now a.purpose (told_as a.extents.now a.sizes.now a.strides.now a.purpose c.requires.layout (take a.rank a.counters.now) c.in-Err.is c.told_into-told.ensures) _ _
+    let l = a.layout in
+    let tell = found_original l.extents.now l.operands l.strides.now a.purpose in
+    let p = err_from_is_err_and c.from_residual.result c.from_residual.ensures.1 in
+    rw (p.1, p.2) (visit_refused_lem tell _ _ c.requires.state refl
+    (told_as (ap (λ (q : Plan). tell (take q.rank a.counters.now)) c.plan.view_is) c.in_err-original_of_into.was c.original_of_into.ensures) _ _)
 
-pub returns-in-Ok : goal.returns-in-Ok
-returns-in-Ok c =
+pub returns : goal.returns
+returns c =
     let a = c.args in
-    visit_block _ _ c.requires.state refl a.extents.now a.sizes.now a.strides.now a.purpose (told_as a.extents.now a.sizes.now a.strides.now a.purpose c.requires.layout (take a.rank a.counters.now) c.in-Ok.is c.told_into-told.ensures) c.number_of.ensures c.block_into.ensures
+    let l = a.layout in
+    let tell = found_original l.extents.now l.operands l.strides.now a.purpose in
+    visit_block tell _ _ c.requires.state refl
+    (told_as (ap (λ (q : Plan). tell (take q.rank a.counters.now)) c.plan.view_is) c.in_ok-original_of_into.was c.original_of_into.ensures)
+    c.number_of.ensures c.block_into.ensures

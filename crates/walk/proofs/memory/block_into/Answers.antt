@@ -1,18 +1,18 @@
 -- `walk::memory::block_into` meets its contract. Assumes nothing.
 use mathlib.Core.Path.{refl}
 use mathlib.Core.List.{[], ◌∷◌}
-use Rattle.walk.proofs.Answered.{steps_of, step_block}
-use Rattle.walk.proofs.Stepping.{axes-few, roomy_here, block_step}
+use Rattle.walk.proofs.Answered.{handed_some}
+use Rattle.walk.proofs.Stepping.{roomy_here, block_step}
 use Rattle.walk.proofs.memory.block_into.Goals as goal
 
 pub length_on-bl-requires : goal.length_on-bl-requires
-length_on-bl-requires c = let k = c.requires in (axes-few _ _ k, (roomy_here _ _ k refl).within 0)
+length_on-bl-requires c = (roomy_here _ _ c.requires refl []).within 0
 
 pub advance_on-more-requires : goal.advance_on-more-requires
-advance_on-more-requires c = roomy_here _ _ c.requires refl
+advance_on-more-requires c = roomy_here _ _ c.requires refl _
 
 pub returns : goal.returns
 returns c =
     let last = c.advance_on-more.new in
-    steps_of (block_step _ _ c.requires refl _ refl c.length_on-bl.ensures c.firsts-bs.ensures c.advance_on-more.ensures.1) refl
-    (step_block refl (λ i. record { walk = record { ended = c.flag.ensures i ∷ []; counters = last.c; offsets = last.o }; counters = c.args.counters.now; length = c.length_on-bl.result ∷ []; offsets = c.args.offsets.now; strides = c.firsts-bs.result }))
+    handed_some (block_step _ _ c.requires refl _ refl c.length_on-bl.ensures c.firsts-bs.ensures c.advance_on-more.ensures.1)
+    (λ i. record { walk = record { ended = c.flag.ensures i ∷ []; counters = last.c; offsets = last.o }; counters = c.args.counters.now; length = c.length_on-bl.result ∷ []; offsets = c.args.offsets.now; strides = c.firsts-bs.result })

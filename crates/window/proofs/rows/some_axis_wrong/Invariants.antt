@@ -9,4 +9,4 @@ use Rattle.window.proofs.rows.some_axis_wrong.Given as goal
 
 -- no axis before i is wrong
 abbrev pub invariant-loop-i : goal.invariant-loop-i
-invariant-loop-i l = (l.i ≤ length l.extents) × (some_of (axis_wrong_at l.extents l.firsts l.counts l.steps) 0 l.i ≡ false)
+invariant-loop-i l = (l.i ≤ length l.extents) × (some_of (axis_wrong_at l.extents l.picks.firsts.now l.picks.counts.now l.picks.steps.now) 0 l.i ≡ false)

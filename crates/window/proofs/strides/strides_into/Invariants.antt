@@ -9,4 +9,4 @@ use Rattle.window.proofs.strides.strides_into.Given as goal
 
 abbrev pub invariant-loop-j : goal.invariant-loop-j
 invariant-loop-j l =
-    (l.j ≤ length l.strides) × (l.table ≡ padded 512 (pos 0) (take l.j (window_strides l.counts l.steps l.strides l.rank l.operands))) × (l.i ≡ l.j % l.rank)
+    (l.j ≤ length l.layout.strides.now) × (l.table ≡ padded 512 (pos 0) (take l.j (window_strides l.picks.counts.now l.picks.steps.now l.layout.strides.now (length l.layout.extents.now) l.layout.operands))) × (l.i ≡ l.j % (length l.layout.extents.now))

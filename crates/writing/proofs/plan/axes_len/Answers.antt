@@ -2,19 +2,18 @@
 -- `longest`.
 -- Assumes nothing.
 use native.Mathlib.Omega.{arith}
-use mathlib.Core.Path.{ap, ◌∙◌}
-use mathlib.Core.List.{List}
-use Prim.Native.Nat.{ℕ}
+use mathlib.Core.Path.{ap, ◌∙◌, subst}
+use Prim.Native.Nat.{◌<◌}
 use lib.ListN.{length, length-append}
+use Rattle.strided.specs.declared.Plan.{Plan}
 use Rattle.writing.specs.Plan.{axis_at}
 use Rattle.writing.proofs.Axes.{run_at}
 use Rattle.writing.proofs.plan.axes_len.Goals as goal
 
 pub loop-i-preserved : goal.loop-i-preserved
 loop-i-preserved c =
-    -- an axis's line
-    let lineOn : ℕ → List ℕ = let a = c.args in axis_at a.operands a.e.now a.b.now a.s.now in
+    let line = axis_at c.args.plan.now in
     let i = c.loop-i.i in
-    let line = lineOn in
-    let h = ap length (run_at line i _ c.loop-i-test.true) ∙ length-append (line i) _ in
+    let here : i < c.args.plan.now.rank = subst (λ (p : Plan). i < p.rank) c.plan.view_is c.loop-i-test.true in
+    let h = ap length (run_at line i _ here) ∙ length-append (line i) _ in
     omega arith

@@ -9,5 +9,5 @@ use Rattle.writing.proofs.plan.axes_len.Given as goal
 
 abbrev pub invariant-loop-i : goal.invariant-loop-i
 invariant-loop-i l =
-    (l.k + length (over (run l.i (l.rank - l.i)) (axis_at l.operands l.e l.b l.s)) ≡ length (over (run 0 l.rank) (axis_at l.operands l.e l.b l.s)))
-    × (l.k ≤ longest * l.i) × (l.i ≤ l.rank)
+    (l.k + length (over (run l.i (l.plan.rank - l.i)) (axis_at l.plan)) ≡ length (over (run 0 l.plan.rank) (axis_at l.plan)))
+    × (l.k ≤ longest * l.i) × (l.i ≤ l.plan.rank)

@@ -6,4 +6,4 @@ use Rattle.writing.proofs.Putting.{Doing}
 use Rattle.writing.proofs.plan.put_axes.Given as goal
 
 abbrev pub invariant-loop-i : goal.invariant-loop-i
-invariant-loop-i l = Doing l.initial.out l.at (over (run 0 l.rank) (axis_at l.operands l.e l.b l.s)) l.out l.next (over (run l.i (l.rank - l.i)) (axis_at l.operands l.e l.b l.s))
+invariant-loop-i l = Doing l.initial.out l.at (over (run 0 l.plan.rank) (axis_at l.plan)) l.out l.next (over (run l.i (l.plan.rank - l.i)) (axis_at l.plan))

@@ -1,7 +1,6 @@
 -- The invariants of `plan::put_walk`.
 use Prim.Native.Nat.{◌-◌}
 use lib.ListN.{length}
-use Rattle.strided.specs.Memory.{plan_of}
 use Rattle.writing.specs.Plan.{rest_from}
 use Rattle.writing.proofs.Putting.{Doing}
 use Rattle.writing.proofs.Walks.{W, Walks}
@@ -9,8 +8,8 @@ use Rattle.writing.proofs.plan.put_walk.Given as goal
 
 abbrev pub invariant-loop-more : goal.invariant-loop-more
 invariant-loop-more l =
-    Walks (plan_of l.rank l.operands l.e l.b l.s) l.y l.w l.number l.cells l.more l.t l.c l.o
-    × Doing l.initial.out l.at (rest_from (plan_of l.rank l.operands l.e l.b l.s) 0) l.out l.next (rest_from (plan_of l.rank l.operands l.e l.b l.s) l.number)
+    Walks l.plan l.y l.w l.number l.cells l.more l.stands
+    × Doing l.initial.out l.at (rest_from l.plan 0) l.out l.next (rest_from l.plan l.number)
 
 abbrev pub decreases-loop-more : goal.decreases-loop-more
-decreases-loop-more l = length (W (plan_of l.rank l.operands l.e l.b l.s)) - l.number
+decreases-loop-more l = length (W l.plan) - l.number

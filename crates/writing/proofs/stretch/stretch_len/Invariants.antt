@@ -7,6 +7,6 @@ use Rattle.writing.proofs.stretch.stretch_len.Given as goal
 
 abbrev pub invariant-loop-j : goal.invariant-loop-j
 invariant-loop-j l =
-    Before l.count l.operands l.d l.initial.o l.j l.o
-    × (l.total + length (lines_at l.count l.size l.number l.operands l.d l.initial.o l.j) ≡ l.used + length (lines_at l.count l.size l.number l.operands l.d l.initial.o 0))
+    Before l.count l.plan.operands l.d l.initial.o l.j l.o
+    × (l.total + length (lines_at l.count l.size l.number l.plan.operands l.d l.initial.o l.j) ≡ l.used + length (lines_at l.count l.size l.number l.plan.operands l.d l.initial.o 0))
     × (l.total ≤ l.limit)

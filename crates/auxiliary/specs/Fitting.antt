@@ -1,8 +1,0 @@
--- What the functions of ranks, weights and loop order ask of a layout: few axes and operands, and a stride for each axis and operand.
--- Assumes nothing.
-use Rattle.std.specs.Prelude.{◌≡◌, List, ℕ, ◌*◌, ◌≤◌, ℤ, length}
-
-pub record Fitting (ss : List ℤ) (rank operands : ℕ) : Type 0 where
-  pub rank-few : rank ≤ 64
-  pub operands_few : operands ≤ 8
-  pub strides_all : length ss ≡ rank * operands

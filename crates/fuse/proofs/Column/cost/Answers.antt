@@ -1,0 +1,33 @@
+-- `fuse::Column::cost` meets its contract: each answer is one of the three costs, by the tests that led there. Assumes nothing.
+use mathlib.Core.Path.{◌≡◌, sym, ap, ◌∙◌}
+use mathlib.Core.Bool.{Bool, true, false, not}
+use Prim.Native.Nat.{ℕ, ◌<◌}
+use native.Mathlib.Omega.{arith}
+use mir.Val.{bool_byte}
+use Rattle.strided.specs.Base.{least}
+use Rattle.strided.specs.Costs.{still, cost_of, cost_number}
+use Rattle.laws.specs.Cut.Ranges.{least_in}
+use Rattle.laws.specs.Cut.Tables.{cost_none, cost_one, cost_twice, still-not}
+use Rattle.fuse.proofs.Costing.{size_at}
+use Rattle.fuse.proofs.Column.cost.Goals as goal
+
+-- where the least size is not 0, operand 0 moves
+twice : (size : ℕ → ℕ) (operands : ℕ) → 0 < operands → (least size 0 operands ≡ 0 → ⊥) → still size operands ≡ false
+twice size operands h n = still-not size operands 0 h (λ e. n (omega (arith, least_in size 0 operands 0 (omega arith) (omega arith), e)))
+
+-- where it is 0, the cost is 1, and there is none if nobody moves
+once : (v : Bool) (size : ℕ → ℕ) (operands : ℕ) → v ≡ still size operands → least size 0 operands ≡ 0 → bool_byte (not v) ≡ cost_number (cost_of size operands)
+once true size operands e m = sym (ap cost_number (cost_none size operands (sym e)))
+once false size operands e m = sym (ap cost_number (cost_one size operands (sym e) m))
+
+pub returns-then-size-eq0 : goal.returns-then-size-eq0
+returns-then-size-eq0 c =
+    let a = c.args in
+    c.from.ensures ∙ once c.stays.result (size_at a.self.strides.now a.self.axis) a.self.operands c.stays.ensures (sym c.least_size-size.ensures ∙ c.if-size-eq0.true)
+
+pub returns : goal.returns
+returns c =
+    let a = c.args in
+    let f : ℕ → ℕ = size_at a.self.strides.now a.self.axis in
+    let n : least f 0 a.self.operands ≡ 0 → ⊥ = λ e. c.if-size-eq0.false (c.least_size-size.ensures ∙ e) in
+    omega (arith, c.least_size-size.ensures, ap cost_number (cost_twice f a.self.operands (twice f a.self.operands c.args.self.inside.0 n) n))
