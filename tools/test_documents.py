@@ -81,6 +81,9 @@ class Documents(unittest.TestCase):
                                 ("`check_layout`", "`check_layouts`", "no source has this word")):
             self.refused(words, ("docs/ARCHITECTURE.md", old, new))
 
+    def test_handed_on_in_a_list(self):
+        self.assertEqual(judged(("crates/walk/src/lib.rt", "start::begin;", "start::{Lent, begin};"))[0], 0)
+
     def test_paths_of_a_machine(self):
         place = "/" + "tmp/gougelily"  # put together, so that this file names no such place itself
         self.refused(f"{place} is a path of one machine", ("README.md", "See ", f"See {place}, "))

@@ -105,6 +105,11 @@ class Promises(unittest.TestCase):
         self.refused("gougelily::gougelily_plan cites `◌⊕◌` of strided/specs/Plan, which", (PAGE, "Plan: planned, ◌⊕◌", "Plan: planned"))
         self.refused("walk::begin cites `Lists` of strided/specs/Text, which", (PAGE, " `Text: Lists`", ""))
 
+    def test_handed_on_in_a_list(self):
+        listed = ("crates/walk/src/lib.rt", "start::begin;", "start::{Lent, begin};")
+        self.assertEqual(judged(listed)[0], 0)
+        self.refused("walk::begin cites `Lists` of crate text", listed, ("crates/states/src/start.rt", "Rattle.strided.specs", "Rattle.text.specs"))
+
     def test_a_precondition(self):
         self.refused("kernel::plan has a precondition", ("crates/kernel/src/lib.rt", "    ensures", "    requires { 0 < 1 }\n    ensures"))
 

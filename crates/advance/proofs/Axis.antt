@@ -1,7 +1,6 @@
 -- Laws of one axis: a counter stays below its extent, the tile start that is kept is that of the counter, and the length of a block.
 -- Assumes nothing.
 use mathlib.Core.Path.{◌≡◌, refl, sym, ap, subst, ◌∙◌}
-use mathlib.Core.List.{List}
 use mathlib.Core.Bool.{Bool, true, false, cond}
 use Prim.Native.Nat.{ℕ, ◌+◌, ◌-◌, ◌*◌, ◌/◌, ◌%◌, ◌≤◌, ◌<◌}
 use native.Mathlib.Nat.{lt_of_le_of_lt, div-mul-le_self, div-add-mod', mod-lt, add-div_right, add-mul-div_right, mul-div_cancel, div-eq_of_lt, div-one, mul-one, zero-div, zero-mul}
@@ -13,7 +12,7 @@ use borrow.Author.Tests.{ltb-true, lt-ltb, le-ltb, ne_eqb}
 use Rattle.advance.specs.declared.Goal.{Goal}
 use Rattle.advance.specs.Axis.{start_of, inside_goal, tile_goal, goal_of, ahead, back}
 use Rattle.strided.specs.declared.Plan.{Plan}
-use Rattle.advance.specs.Blocks.{length_of}
+use Rattle.advance.specs.Blocks.{length_by}
 
 -- of a choice by a test, what holds in both cases, where each may use what the test says
 by_test : {X : Type 0} (P : X → Type 0) (t : Bool) (x y : X) → (t ≡ true → P x) → (t ≡ false → P y) → P (cond t x y)
@@ -90,13 +89,13 @@ module _ (extent w at : ℕ) (pos : 0 < w) (h : at < extent) where
 
 -- ---- the length of a block
 
-module _ (p : Plan) (w c : List ℕ) (nz : p.rank ≡ 0 → ⊥) where
-  pub length_cut : get_or w 0 0 < get_or p.extents 0 0 - get_or c 0 0 → get_or w 0 0 ≡ length_of p w c
-  unfolding length_of
+module _ (p : Plan) (width at : ℕ) (nz : p.rank ≡ 0 → ⊥) where
+  pub length_cut : width < get_or p.extents 0 0 - at → width ≡ length_by p width at
+  unfolding length_by
   length_cut h = sym (simp (ne_eqb _ _ nz, lt-ltb _ _ h))
 
-  pub length-left : get_or p.extents 0 0 - get_or c 0 0 ≤ get_or w 0 0 → get_or p.extents 0 0 - get_or c 0 0 ≡ length_of p w c
-  unfolding length_of
+  pub length-left : get_or p.extents 0 0 - at ≤ width → get_or p.extents 0 0 - at ≡ length_by p width at
+  unfolding length_by
   length-left h = sym (simp (ne_eqb _ _ nz, le-ltb _ _ h))
 
 -- ---- the aims, by the tests that led there; s is the tile's start as it is kept

@@ -11,14 +11,14 @@ use native.Mathlib.Numerals.{add-one}
 use native.Mathlib.Omega.{arith}
 use lib.Dec.{ltb}
 use lib.ListN.{length, get_or, take, set, length-set}
-use lib.Seq.{get_or-set_other}
+use lib.Seq.{get_or-set_other, set-get_or}
 use borrow.Author.Tests.{ltb-true, ltb-false, lt-ltb, le-ltb}
 use Rattle.strided.specs.Base.{padded, or_else}
 use Rattle.strided.specs.Walk.{CutAxis, ax, len_at, next_in, next_start, next_inner, next_tile, tile_of, next, zeros}
 use Rattle.laws.specs.Walk.States.{Inside, Wide}
 use Rattle.laws.specs.Walk.Cuts.{length-zeros}
 use Rattle.laws.specs.Base.Arrays.{length-padded, take_counted}
-use Rattle.advance.specs.Filled.{set_self}
+use Rattle.std.proofs.lemmas.List.{set-get_or}
 use Rattle.advance.specs.Axis.{start_of, ahead, back, inside_goal, tile_goal, goal_of}
 use Rattle.advance.specs.Carry.{Carried, carry_of, next_of}
 
@@ -53,7 +53,7 @@ from-set a j v i (suc n) h = ap₂ (λ (x : ℕ) (r : List ℕ). x ∷ r) (get_o
 overlay_self : (c : List ℕ) (i n : ℕ) → i + n ≤ length c → overlay c i (from c i n) ≡ c
 overlay_self c i zero h = refl
 overlay_self c i (suc n) h =
-    ap (λ (a : List ℕ). overlay a (suc i) (from c (suc i) n)) (set_self 0 c i (omega arith)) ∙ overlay_self c (suc i) n (omega arith)
+    ap (λ (a : List ℕ). overlay a (suc i) (from c (suc i) n)) (set-get_or c i 0) ∙ overlay_self c (suc i) n (omega arith)
 
 -- what lies behind is as it was
 overlay-set : (c : List ℕ) (i x n : ℕ) → i + suc n ≤ length c → overlay (set c i x) (suc i) (from c (suc i) n) ≡ set c i x
@@ -87,15 +87,30 @@ abbrev pub laid : List ℕ → ℕ → List ℕ → Option (List ℕ) → Carrie
 laid c i t None = record { more = false; counters = overlay c i t }
 laid c i t (Some v) = record { more = true; counters = overlay c i v }
 
+-- ---- a carry: an axis that goes ahead ends it, one that goes back leaves it to the axes behind
+
+module _ (inside : Bool) (e ws : List ℕ) (n i : ℕ) (c : List ℕ) (l : i + suc n ≤ length c) (b : ℕ) (t : List ℕ) where
+  behind : (o : Option (List ℕ)) → laid (set c i b) (suc i) t o ≡ laid c i (b ∷ t) (or_else (or_else None (λ v. b ∷ v) o) (λ k. k ∷ from c (suc i) n) None)
+  behind None = refl
+  behind (Some v) = refl
+
+  carry_step : (o : Option (List ℕ)) {q : Option ℕ} {y s : ℕ} → ((q ≡ Some y) × (goal_of inside (get_or e i 0) (get_or ws i 0) (get_or c i 0) ≡ ahead y s))
+      ⊎ ((q ≡ None) × (goal_of inside (get_or e i 0) (get_or ws i 0) (get_or c i 0) ≡ back b))
+      → carry_of inside e ws n (suc i) (set c i b) ≡ laid (set c i b) (suc i) t o
+      → carry_of inside e ws (suc n) i c ≡ laid c i (b ∷ t) (or_else (or_else None (λ v. b ∷ v) o) (λ k. k ∷ from c (suc i) n) q)
+  unfolding carry_of
+  carry_step o {y = y} (inl p) r = rw (p.0, p.1) (ap {B = Carried} (λ (u : List ℕ). record { more = true; counters = u }) (sym (overlay-set c i y n l)))
+  carry_step o (inr p) r = rw (p.0, p.1) (r ∙ behind o)
+
 -- ---- inside a tile
 
 div_le : (k w : ℕ) → k / w * w ≤ k
 div_le k w = let h = div-add-mod' k w in omega (arith, h)
 
 inside_step : (e w k : ℕ) → 0 < w → k < e
-    → ((next_in (k / w * w + len_at e w (k / w * w)) k ≡ Some (suc k)) × (inside_goal e w k ≡ ahead (k + 1) (start_of w k)))
-    ⊎ ((next_in (k / w * w + len_at e w (k / w * w)) k ≡ None) × (inside_goal e w k ≡ back (k / w * w)))
-unfolding inside_goal
+    → ((next_in (k / w * w + len_at e w (k / w * w)) k ≡ Some (k + 1)) × (goal_of true e w k ≡ ahead (k + 1) (start_of w k)))
+    ⊎ ((next_in (k / w * w + len_at e w (k / w * w)) k ≡ None) × (goal_of true e w k ≡ back (k / w * w)))
+unfolding goal_of inside_goal
 inside_step e w k hw hk = go (ltb (k - s) (w - 1)) refl (ltb k (e - 1)) refl
   where
     s : ℕ
@@ -105,66 +120,32 @@ inside_step e w k hw hk = go (ltb (k - s) (w - 1)) refl (ltb k (e - 1)) refl
     sk = div_le k w
 
     go : (a : Bool) → ltb (k - s) (w - 1) ≡ a → (b : Bool) → ltb k (e - 1) ≡ b
-        → ((next_in (s + len_at e w s) k ≡ Some (suc k)) × (cond a (cond b (ahead (k + 1) s) (back s)) (back s) ≡ ahead (k + 1) s))
+        → ((next_in (s + len_at e w s) k ≡ Some (k + 1)) × (cond a (cond b (ahead (k + 1) s) (back s)) (back s) ≡ ahead (k + 1) s))
         ⊎ ((next_in (s + len_at e w s) k ≡ None) × (cond a (cond b (ahead (k + 1) s) (back s)) (back s) ≡ back s))
-    go true p true q = inl (rw (lt-ltb (suc k) (s + min w (e - s)) (omega (arith, ltb-true (k - s) (w - 1) p, ltb-true k (e - 1) q, sk))), refl)
+    go true p true q = inl (rw (lt-ltb (suc k) (s + min w (e - s)) (omega (arith, ltb-true (k - s) (w - 1) p, ltb-true k (e - 1) q, sk))) (ap Some (sym (add-one k))), refl)
     go true p false q = inr (rw (le-ltb (suc k) (s + min w (e - s)) (omega (arith, ltb-false k (e - 1) q, sk, hk))), refl)
     go false p b q = inr (rw (le-ltb (suc k) (s + min w (e - s)) (omega (arith, ltb-false (k - s) (w - 1) p, sk, hw))), refl)
 
 inner_carry : (e ws : List ℕ) (n i : ℕ) (c : List ℕ) → Wide (axes_at e ws i n) → Inside (axes_at e ws i n) (from c i n) → i + n ≤ length c
     → carry_of true e ws n i c
     ≡ laid c i (tile_of (axes_at e ws i n) (from c i n)) (next_inner (axes_at e ws i n) (tile_of (axes_at e ws i n) (from c i n)) (from c i n))
-unfolding carry_of goal_of
+unfolding carry_of
 inner_carry e ws zero i c wd h l = refl
-inner_carry e ws (suc n) i c wd h l = go (inside_step x w k wd.0 h.0) (inner_carry e ws n (suc i) (set c i s) wd.1)
-  where
-    x : ℕ
-    x = get_or e i 0
-
-    w : ℕ
-    w = get_or ws i 0
-
-    k : ℕ
-    k = get_or c i 0
-
-    s : ℕ
-    s = k / w * w
-
-    axs : List CutAxis
-    axs = axes_at e ws (suc i) n
-
-    v : List ℕ
-    v = from c (suc i) n
-
-    same : from (set c i s) (suc i) n ≡ v
-    same = from-set c i s (suc i) n (omega arith)
-
-    Hyp : Type 0
-    Hyp = Inside axs (from (set c i s) (suc i) n) → suc i + n ≤ length (set c i s)
-        → carry_of true e ws n (suc i) (set c i s)
-        ≡ laid (set c i s) (suc i) (tile_of axs (from (set c i s) (suc i) n)) (next_inner axs (tile_of axs (from (set c i s) (suc i) n)) (from (set c i s) (suc i) n))
-
-    rest : Hyp → carry_of true e ws n (suc i) (set c i s) ≡ laid (set c i s) (suc i) (tile_of axs v) (next_inner axs (tile_of axs v) v)
-    rest ih =
-        ih (subst (Inside axs) (sym same) h.1) (subst (λ (m : ℕ). suc i + n ≤ m) (sym (length-set c i s)) (omega arith))
-        ∙ ap (λ (u : List ℕ). laid (set c i s) (suc i) (tile_of axs u) (next_inner axs (tile_of axs u) u)) same
-
-    behind : (o : Option (List ℕ)) → laid (set c i s) (suc i) (tile_of axs v) o ≡ laid c i (s ∷ tile_of axs v) (or_else (or_else None (λ v'. s ∷ v') o) (λ k'. k' ∷ v) None)
-    behind None = refl
-    behind (Some u) = refl
-
-    go : ((next_in (s + len_at x w s) k ≡ Some (suc k)) × (inside_goal x w k ≡ ahead (k + 1) s)) ⊎ ((next_in (s + len_at x w s) k ≡ None) × (inside_goal x w k ≡ back s)) → Hyp
-        → cond (inside_goal x w k).more (record { more = true; counters = set c i (inside_goal x w k).to }) (carry_of true e ws n (suc i) (set c i (inside_goal x w k).to))
-        ≡ laid c i (s ∷ tile_of axs v) (or_else (or_else None (λ v'. s ∷ v') (next_inner axs (tile_of axs v) v)) (λ k'. k' ∷ v) (next_in (s + len_at x w s) k))
-    go (inl p) ih =
-        rw (p.0, p.1) (ap {B = Carried} (λ (u : List ℕ). record { more = true; counters = u }) (ap (set c i) (add-one k) ∙ sym (overlay-set c i (suc k) n l)))
-    go (inr p) ih = rw (p.0, p.1) (rest ih ∙ behind (next_inner axs (tile_of axs v) v))
+inner_carry e ws (suc n) i c wd h l =
+    let axs : List CutAxis = axes_at e ws (suc i) n in
+    let d : List ℕ = set c i (get_or c i 0 / get_or ws i 0 * get_or ws i 0) in
+    let v : List ℕ = from c (suc i) n in
+    let same : from d (suc i) n ≡ v = from-set c i _ (suc i) n (omega arith) in
+    carry_step true e ws n i c l _ (tile_of axs v) (next_inner axs (tile_of axs v) v)
+    (inside_step (get_or e i 0) (get_or ws i 0) (get_or c i 0) wd.0 h.0)
+    (inner_carry e ws n (suc i) d wd.1 (subst (Inside axs) (sym same) h.1) (subst (λ (m : ℕ). suc i + n ≤ m) (sym (length-set c i _)) (omega arith))
+    ∙ ap (λ (u : List ℕ). laid d (suc i) (tile_of axs u) (next_inner axs (tile_of axs u) u)) same)
 
 -- ---- from tile to tile
 
 tile_step : (e w s : ℕ) → start_of w s ≡ s
-    → ((next_start e w s ≡ Some (s + w)) × (tile_goal e w s ≡ ahead (s + w) (s + w))) ⊎ ((next_start e w s ≡ None) × (tile_goal e w s ≡ back 0))
-unfolding tile_goal
+    → ((next_start e w s ≡ Some (s + w)) × (goal_of false e w s ≡ ahead (s + w) (s + w))) ⊎ ((next_start e w s ≡ None) × (goal_of false e w s ≡ back 0))
+unfolding goal_of tile_goal
 tile_step e w s q = rw q (go (ltb w (e - s)) refl)
   where
     go : (a : Bool) → ltb w (e - s) ≡ a
@@ -175,48 +156,18 @@ tile_step e w s q = rw q (go (ltb w (e - s)) refl)
 -- every axis stands where its tile starts
 tile_carry : (e ws : List ℕ) (n i : ℕ) (c : List ℕ) → tile_of (axes_at e ws i n) (from c i n) ≡ from c i n → i + n ≤ length c
     → carry_of false e ws n i c ≡ laid c i (zeros (axes_at e ws i n)) (next_tile (axes_at e ws i n) (from c i n))
-unfolding carry_of goal_of
+unfolding carry_of
 tile_carry e ws zero i c on l = refl
 tile_carry e ws (suc n) i c on l =
-    let here : start_of w k ≡ k = cc in
+    let axs : List CutAxis = axes_at e ws (suc i) n in
+    let here : start_of (get_or ws i 0) (get_or c i 0) ≡ get_or c i 0 = cc in
+    let v : List ℕ = from c (suc i) n in
     let there : tile_of axs v ≡ v = cc in
-    go (tile_step x w k here) (tile_carry e ws n (suc i) (set c i 0) (ap (tile_of axs) same ∙ there ∙ sym same))
-  where
-    x : ℕ
-    x = get_or e i 0
-
-    w : ℕ
-    w = get_or ws i 0
-
-    k : ℕ
-    k = get_or c i 0
-
-    axs : List CutAxis
-    axs = axes_at e ws (suc i) n
-
-    v : List ℕ
-    v = from c (suc i) n
-
-    same : from (set c i 0) (suc i) n ≡ v
-    same = from-set c i 0 (suc i) n (omega arith)
-
-    Hyp : Type 0
-    Hyp = suc i + n ≤ length (set c i 0) → carry_of false e ws n (suc i) (set c i 0) ≡ laid (set c i 0) (suc i) (zeros axs) (next_tile axs (from (set c i 0) (suc i) n))
-
-    rest : Hyp → carry_of false e ws n (suc i) (set c i 0) ≡ laid (set c i 0) (suc i) (zeros axs) (next_tile axs v)
-    rest ih =
-        ih (subst (λ (m : ℕ). suc i + n ≤ m) (sym (length-set c i 0)) (omega arith))
-        ∙ ap (λ (u : List ℕ). laid (set c i 0) (suc i) (zeros axs) (next_tile axs u)) same
-
-    behind : (o : Option (List ℕ)) → laid (set c i 0) (suc i) (zeros axs) o ≡ laid c i (0 ∷ zeros axs) (or_else (or_else None (λ t. 0 ∷ t) o) (λ s. s ∷ v) None)
-    behind None = refl
-    behind (Some u) = refl
-
-    go : ((next_start x w k ≡ Some (k + w)) × (tile_goal x w k ≡ ahead (k + w) (k + w))) ⊎ ((next_start x w k ≡ None) × (tile_goal x w k ≡ back 0)) → Hyp
-        → cond (tile_goal x w k).more (record { more = true; counters = set c i (tile_goal x w k).to }) (carry_of false e ws n (suc i) (set c i (tile_goal x w k).to))
-        ≡ laid c i (0 ∷ zeros axs) (or_else (or_else None (λ t. 0 ∷ t) (next_tile axs v)) (λ s. s ∷ v) (next_start x w k))
-    go (inl p) ih = rw (p.0, p.1) (ap {B = Carried} (λ (u : List ℕ). record { more = true; counters = u }) (sym (overlay-set c i (k + w) n l)))
-    go (inr p) ih = rw (p.0, p.1) (rest ih ∙ behind (next_tile axs v))
+    let same : from (set c i 0) (suc i) n ≡ v = from-set c i 0 (suc i) n (omega arith) in
+    carry_step false e ws n i c l 0 (zeros axs) (next_tile axs v)
+    (tile_step (get_or e i 0) (get_or ws i 0) (get_or c i 0) here)
+    (tile_carry e ws n (suc i) (set c i 0) (ap (tile_of axs) same ∙ there ∙ sym same) (subst (λ (m : ℕ). suc i + n ≤ m) (sym (length-set c i 0)) (omega arith))
+    ∙ ap (λ (u : List ℕ). laid (set c i 0) (suc i) (zeros axs) (next_tile axs u)) same)
 
 -- ---- the next block
 

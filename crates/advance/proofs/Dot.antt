@@ -94,7 +94,6 @@ module _ (p : Plan) (at : State) (r : Roomy p at) (i v : ℕ) (axis : i < p.rank
 
   pub roomy_shifts : Shifts p i (get_or at.counters i 0) v at.offsets
   roomy_shifts = record {
-    few = r.few;
     inside = lt_of_lt_of_le axis r.axes;
     offered = r.offered;
     each = λ k h. record {
@@ -130,16 +129,16 @@ roomy_offset {p} {at} r k h =
     subst (SFits w64) (-ℤ-+ℤ_cancel (get_or at.offsets k (pos 0)) (dot_to p.rank k at.counters p.strides)) (r.reach k h at.counters r.within)
 
 -- a move to where the axis stands
-pub unmoved : (n axis at : ℕ) (s o : List ℤ) → n ≤ length o → o ≡ shifted_to n axis at at s o
+pub unmoved : (n axis at : ℕ) (s o : List ℤ) → o ≡ shifted_to n axis at at s o
 unfolding after_move
-unmoved n axis at s o l =
-    sym (filled_same o (moved_at axis at at s o) (pos 0) n l
+unmoved n axis at s o =
+    sym (filled_same o (moved_at axis at at s o) (pos 0) n
     (λ k h. let z : sub_ℕ at at ≡ pos 0 = ahead at at (le_refl at) ∙ ap pos (let g : at - at ≡ 0 = omega arith in g) in
     ap (λ (d : ℤ). get_or o k (pos 0) +ℤ d *ℤ get_or s (k * 64 + axis) (pos 0)) z
     ∙ ap (λ (d : ℤ). get_or o k (pos 0) +ℤ d) (zero-*ℤ (get_or s (k * 64 + axis) (pos 0))) ∙ +ℤ_idr (get_or o k (pos 0))))
 
-pub unmoved_at : (n axis from to : ℕ) (s o : List ℤ) → n ≤ length o → from ≡ to → o ≡ shifted_to n axis from to s o
-unmoved_at n axis from to s o l e = subst (λ (t : ℕ). o ≡ shifted_to n axis from t s o) e (unmoved n axis from s o l)
+pub unmoved_at : (n axis from to : ℕ) (s o : List ℤ) → from ≡ to → o ≡ shifted_to n axis from to s o
+unmoved_at n axis from to s o e = subst (λ (t : ℕ). o ≡ shifted_to n axis from t s o) e (unmoved n axis from s o)
 
-pub unmoved_plan : (p : Plan) (axis from to : ℕ) (o : List ℤ) → p.operands ≤ length o → from ≡ to → o ≡ shifted p axis from to o
-unmoved_plan p axis from to o l e = unmoved_at p.operands axis from to p.strides o l e
+pub unmoved_plan : (p : Plan) (axis from to : ℕ) (o : List ℤ) → from ≡ to → o ≡ shifted p axis from to o
+unmoved_plan p axis from to o e = unmoved_at p.operands axis from to p.strides o e

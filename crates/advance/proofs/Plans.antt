@@ -31,7 +31,7 @@ use Rattle.laws.specs.Walk.Steps.{Ready, wide, rows-many, as_many, cut-many, cou
 use Rattle.advance.specs.Filled.{by_lt, filled_to, filled_length, filled_above, filled_at}
 use Rattle.advance.specs.Axis.{width_of, width_at, widths, start_of}
 use Rattle.advance.specs.Carry.{carry_of, next_of, dot_to, start_at}
-use Rattle.advance.specs.Blocks.{length_of, stride_on, column_to, firsts_of, offset_at, offsets_at}
+use Rattle.advance.specs.Blocks.{length_by, length_of, stride_on, column_to, firsts_of, offset_at, offsets_at}
 use Rattle.advance.proofs.Bridge.{from, from-take, axes_at, put, next_carry}
 use Rattle.advance.proofs.Offsets.{dot_list}
 use Rattle.advance.specs.Sized.{Sized}
@@ -93,7 +93,7 @@ next_any (suc n) e ws [] lc h wd i o ly = absurd (omega arith)
 next_any (suc n) e ws (s ∷ v) lc h wd i o ly = next_carry n 63 e ws s v (omega arith) (omega arith) wd i o ly
 
 length_any : (p : Plan) (ws c : List ℕ) (n : ℕ) → p.rank ≡ n → length c ≡ n → length_of p ws (padded 64 0 c) ≡ length_at (axes_at p.extents ws 0 n) c
-unfolding length_of
+unfolding length_by
 length_any p ws c zero q lc = rw (eq-eqb p.rank 0 q)
 length_any p ws [] (suc n) q lc = absurd (omega arith)
 length_any p ws (s ∷ v) (suc n) q lc = rw (ne_eqb p.rank 0 (λ z. bad n (sym q ∙ z))) (go (ltb w (get_or p.extents 0 0 - s)) refl)

@@ -5,11 +5,15 @@ use Rattle.strided.specs.declared.Plan.{Plan}
 use Rattle.advance.specs.Filled.{filled_to}
 use Rattle.advance.specs.Carry.{dot_to, start_at}
 
--- the length of the block at the counters c: 1 at rank 0, else the block size or what is left of axis 0
-unfoldable pub length_of : Plan → List ℕ → List ℕ → ℕ
-length_of p w c =
-    let left : ℕ = get_or p.extents 0 0 - get_or c 0 0 in
-    cond (eqb p.rank 0) 1 (cond (ltb (get_or w 0 0) left) (get_or w 0 0) left)
+-- the length of a block: 1 at rank 0, else the block size or what is left of axis 0 from its counter on
+unfoldable pub length_by : Plan → ℕ → ℕ → ℕ
+length_by p width at =
+    let left : ℕ = get_or p.extents 0 0 - at in
+    cond (eqb p.rank 0) 1 (cond (ltb width left) width left)
+
+-- that of the block at the counters c
+abbrev pub length_of : Plan → List ℕ → List ℕ → ℕ
+length_of p w c = length_by p (get_or w 0 0) (get_or c 0 0)
 
 -- operand k's stride on an axis, and these of the first n operands
 abbrev pub stride_on : ℕ → List ℤ → ℕ → ℤ

@@ -43,6 +43,8 @@ abbrev pub Below : Plan → List ℕ → Type 0
 Below p c = (i : ℕ) → i < p.rank → get_or c i 0 < get_or p.extents i 0
 
 -- every offset that the plan reaches from the start fits 64 bits, and so does the way along each axis
+-- Kept: axes and few, which a lent plan's invariant says too. The laws on moves (proofs/Dot, proofs/Turns, walker/proofs/Leaving) are on plans
+-- that nobody lends, and each would take Whole beside Roomy.
 pub record Roomy (p : Plan) (at : State) : Type 0 where
   pub axes : p.rank ≤ 64
   pub few : p.operands ≤ 8

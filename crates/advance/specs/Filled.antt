@@ -1,12 +1,12 @@
 -- An array whose first places a loop sets, one after the other: the definition, and what is read back.
 -- Assumes nothing.
-use Rattle.std.specs.Prelude.{◌≡◌, Bool, true, false, List, [], ◌∷◌, ltb}
+use Rattle.std.specs.Prelude.{◌≡◌, Bool, true, false, List, ltb}
 use Rattle.std.proofs.Math.Path.{refl, ap, subst}
 use Rattle.std.proofs.Common.{sym, ◌∙◌, add-one, get_or-set_same, ltb-true, ltb-false}
 use Prim.Native.Nat.{ℕ, zero, suc, ◌+◌, ◌≤◌, ◌<◌}
 use native.Mathlib.Omega.{arith}
 use Rattle.std.proofs.Math.ListN.{length, get_or, set, length-set}
-use Rattle.std.proofs.Math.Seq.{get_or-set_other}
+use Rattle.std.proofs.Math.Seq.{get_or-set_other, set-get_or}
 
 -- a test, as a case
 pub by_lt : {P : Type 0} (a b : ℕ) → (a < b → P) → (b ≤ a → P) → P
@@ -17,12 +17,6 @@ by_lt {P} a b below above = go (ltb a b) refl
     go false e = above (ltb-false a b e)
 
 module _ {A : Type 0} where
-  -- what stands there already is set again
-  pub set_self : (d : A) (a : List A) (i : ℕ) → i < length a → set a i (get_or a i d) ≡ a
-  set_self d [] i h = refl
-  set_self d (x ∷ a) zero h = refl
-  set_self d (x ∷ a) (suc i) h = ap (λ (r : List A). x ∷ r) (set_self d a i (omega arith))
-
   -- the array a with f 0, f 1, .. in its first n places
   unfoldable pub filled_to : List A → (ℕ → A) → ℕ → List A
   filled_to a f zero = a
@@ -58,9 +52,9 @@ module _ {A : Type 0} where
         (λ le. subst (λ (j : ℕ). get_or (set (filled_to a f n) n (f n)) j d ≡ f j) (let g : n ≡ k = omega arith in g)
         (get_or-set_same (filled_to a f n) n (f n) d (subst (λ (m : ℕ). n < m) (sym (filled_length n)) (let g : n < length a = omega arith in g))))
 
-    pub filled_same : (d : A) (n : ℕ) → n ≤ length a → ((k : ℕ) → k < n → f k ≡ get_or a k d) → filled_to a f n ≡ a
+    pub filled_same : (d : A) (n : ℕ) → ((k : ℕ) → k < n → f k ≡ get_or a k d) → filled_to a f n ≡ a
     unfolding filled_to
-    filled_same d zero l h = refl
-    filled_same d (suc n) l h =
-        (λ i. set (filled_same d n (let g : n ≤ length a = omega arith in g) (λ k q. h k (let g : k < suc n = omega arith in g)) i) n (h n (let g : n < suc n = omega arith in g) i))
-        ∙ set_self d a n (let g : n < length a = omega arith in g)
+    filled_same d zero h = refl
+    filled_same d (suc n) h =
+        (λ i. set (filled_same d n (λ k q. h k (let g : k < suc n = omega arith in g)) i) n (h n (let g : n < suc n = omega arith in g) i))
+        ∙ set-get_or a n d

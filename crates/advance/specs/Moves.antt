@@ -1,6 +1,6 @@
 -- What a move along one axis makes of an offset.
 -- Assumes nothing.
-use Rattle.std.specs.Prelude.{ℕ, ◌+◌, ◌-◌, ◌*◌, ◌<◌, ◌≤◌, ◌^◌, ℤ, pos, nat_abs, ◌+ℤ◌, ◌*ℤ◌, length, get_or, List, ◌≡◌}
+use Rattle.std.specs.Prelude.{ℕ, ◌+◌, ◌-◌, ◌*◌, ◌<◌, ◌^◌, ℤ, pos, nat_abs, ◌+ℤ◌, ◌*ℤ◌, length, get_or, List, ◌≡◌}
 use Rattle.std.proofs.Math.IntN.{sub_ℕ}
 use Rattle.std.specs.Int.{w64}
 use Rattle.std.proofs.Common.{SFits}
@@ -29,7 +29,6 @@ shifted p axis from to o = shifted_to p.operands axis from to p.strides o
 
 -- such a move of each operand's offset stays within 64 bits
 pub record Shifts (p : Plan) (axis from to : ℕ) (o : List ℤ) : Type 0 where
-  pub few : p.operands ≤ 8
   pub inside : axis < 64
   pub offered : length o ≡ 8
   pub each : (k : ℕ) → k < p.operands → Moves (get_or o k (pos 0)) (get_or p.strides (k * 64 + axis) (pos 0)) from to

@@ -2,12 +2,12 @@
 // No division is made on the way: the block size in force and the start of the tile are kept for each axis beside its counter.
 #![tactic(auto)]
 
-ghost use Rattle.std.specs.Prelude.{◌≡◌, ℕ, ◌<◌, ◌≤◌, get_or, replicate};
+ghost use Rattle.std.specs.Prelude.{◌≡◌, ℕ, ◌<◌, ◌≤◌, get_or};
 ghost use Rattle.strided.specs.Walk.{effective};
 ghost use Rattle.advance.specs.Moves.{Moves, after_move, Shifts, shifted};
 ghost use Rattle.advance.specs.Axis.{width_of, width_at, widths, start_of, inside_goal, tile_goal, goal_of, starts_to};
 ghost use Rattle.advance.specs.Carry.{Roomy, Tiled, Single, CarriedTo, WentAhead, AdvancedTo};
-ghost use Rattle.advance.specs.Blocks.{length_of, column_to, firsts_of};
+ghost use Rattle.advance.specs.Blocks.{length_by, column_to, firsts_of};
 
 use layout::LentPlan;
 
@@ -85,30 +85,28 @@ pub fn width_on(plan: &LentPlan, axis: usize) -> u64
     width_of(plan.rank, axis, plan.extents[axis], plan.blocks[axis])
 }
 
-// The block sizes in force, written into an array of zeros.
-pub fn widths_into(plan: &LentPlan, w: &mut [u64; 64])
-    requires { w.old ≡ replicate 64 0 }
-    ensures { w.new ≡ widths plan.now }
-{
-    for i in 0..plan.rank {
-        w[i] = width_on(plan, i);
-    }
-}
-
 // The block sizes in force.
 pub fn widths(plan: &LentPlan) -> [u64; 64]
     ensures { result ≡ widths plan.now }
 {
     let mut w = [0u64; 64];
-    widths_into(plan, &mut w);
+    for i in 0..plan.rank {
+        w[i] = width_on(plan, i);
+    }
     w
 }
 
-// Where the tile starts that a counter is in.
-fn tile_start(width: u64, at: u64) -> u64
+// Where the tile starts that a counter is in. Blocks of 1 and the first tile need no division.
+pub fn tile_start(width: u64, at: u64) -> u64
     requires { 0 < width }
     ensures { result ≡ start_of width at }
 {
+    if width == 1 {
+        return at;
+    }
+    if at < width {
+        return 0;
+    }
     at / width * width
 }
 
@@ -201,7 +199,9 @@ pub fn inner_axes(plan: &LentPlan, w: &[u64; 64]) -> usize
 }
 
 // A carry along the axes from `first` to `last`, inside a tile or from tile to tile. Says whether an axis went ahead.
-// Kept: `inside`, a literal at each call: the two carries are one loop, and two functions of it would be twins. The definitions tell it so.
+// Kept: `inside`, a literal at each call: the two carries are one loop, and two functions of it would be twins. A closure that tells the goal was
+// weighed: the definitions have the bool, so the contract would hold for whichever bool the closure's goals are those of, and every call, here and
+// in walker, would have to show which.
 // Kept, here and below: Roomy and Tiled as clauses. They bind a state to a plan and its block sizes, and every move makes them anew; a type of
 // all three would hold a reference to the plan beside the state that it changes, and each caller would have to open it.
 pub fn carry(
@@ -259,15 +259,15 @@ pub fn advance(inner: usize, plan: &LentPlan, w: &[u64; 64], at: &mut State) -> 
     carry(true, 1, inner, plan, w, at) || carry(false, 0, plan.rank, plan, w, at)
 }
 
-// The length of the block at the counters.
-pub fn length_of<'a>(plan: &LentPlan, w: &'a [u64; 64], c: &'a [u64; 64]) -> u64
-    requires { 0 < plan.now.rank → get_or c.now 0 0 < get_or plan.now.extents 0 0 }
-    ensures { result ≡ length_of plan.now w.now c.now }
+// The length of a block, by the block size in force on axis 0 and the counter there.
+pub fn length_by(plan: &LentPlan, width: u64, at: u64) -> u64
+    requires { 0 < plan.now.rank → at < get_or plan.now.extents 0 0 }
+    ensures { result ≡ length_by plan.now width at }
 {
     if plan.rank == 0 {
         return 1;
     }
-    w[0].min(plan.extents[0] - c[0])
+    width.min(plan.extents[0] - at)
 }
 
 // The strides of an axis, one for each operand.

@@ -1,84 +1,85 @@
 // Cutting: block sizes whose region fits the cache, by the axis ranks, the byte strides and the costs of the plan's axes.
 #![tactic(auto)]
 
-ghost use Rattle.std.specs.Prelude.{◌≡◌, ◌<◌};
+ghost use Rattle.std.specs.Prelude.{◌≡◌, ℕ, ◌<◌};
 ghost use Rattle.strided.specs.Base.{least};
 ghost use Rattle.strided.specs.Region.{byte_at};
-ghost use Rattle.strided.specs.Cut.{rank_at, least_rank, least_byte, keeps_first, ones, cutting};
+ghost use Rattle.strided.specs.Cut.{rank_at, keeps_first, ones, cutting};
 ghost use Rattle.laws.specs.Cut.Steps.{ScoresFit};
 ghost use Rattle.region.specs.Tail.{axes};
 
 use region::{Tail, memory_region};
 use shrink::shrink;
 
-// A tail that has an axis and an operand, with the ranks of all the plan's axes within each operand.
+// A tail that has an axis and an operand.
 #[derive(Clone, Copy)]
-struct Ranked<'a> {
+struct NonEmptyTail<'a> {
     tail: Tail<'a>,
-    ranks: &'a [[u8; 64]; 8],
     ghost some: { 0 < tail.operands },
     ghost axis: { tail.offset < tail.rank },
 }
 
-// The least rank of operand k in the tail.
-fn least_rank_at(ranked: Ranked, k: usize) -> u8
-    requires { k < ranked.tail.operands }
-    ensures { let r = ranked.entry in result ≡ least (rank_at r.ranks.now k) r.tail.offset (axes r.tail) }
+// A number for each operand and axis: its rank, or its byte stride.
+trait Table: Copy {
+    ghost at: { Self → ℕ → ℕ → ℕ };
+
+    // That of operand k on axis i.
+    fn at(self, k: usize, i: usize) -> u64
+        requires { (k < 8) × (i < 64) }
+        ensures { result ≡ at self k i };
+}
+
+impl<'a> Table for &'a [[u8; 64]; 8] {
+    ghost at = { λ t. rank_at t.now };
+
+    fn at(self, k: usize, i: usize) -> u64 {
+        u64::from(self[k][i])
+    }
+}
+
+impl<'a> Table for &'a [u32; 512] {
+    ghost at = { λ t. byte_at t.now };
+
+    fn at(self, k: usize, i: usize) -> u64 {
+        u64::from(self[k * 64 + i])
+    }
+}
+
+// The least number of operand k in the tail.
+fn least_at<T: Table>(table: T, some: NonEmptyTail, k: usize) -> u64
+    requires { k < some.tail.operands }
+    ensures { let t = some.entry.tail in result ≡ least (T.at table k) t.offset (axes t) }
 {
-    let mut m = ranked.ranks[k][ranked.tail.offset];
-    for i in ranked.tail.offset + 1..ranked.tail.rank {
-        m = m.min(ranked.ranks[k][i]);
+    let mut m = table.at(k, some.tail.offset);
+    for i in some.tail.offset + 1..some.tail.rank {
+        m = m.min(table.at(k, i));
     }
     m
 }
 
-// The least rank that any operand has in the tail.
-fn least_rank(ranked: Ranked) -> u8
-    ensures { let r = ranked.entry in result ≡ least_rank r.ranks.now r.tail.operands r.tail.offset (axes r.tail) }
+// The least number that any operand has in the tail.
+fn least_in<T: Table>(table: T, some: NonEmptyTail) -> u64
+    ensures { let t = some.entry.tail in result ≡ least (λ k. least (T.at table k) t.offset (axes t)) 0 t.operands }
 {
-    let mut m = least_rank_at(ranked, 0);
-    for k in 1..ranked.tail.operands {
-        m = m.min(least_rank_at(ranked, k));
+    let mut m = least_at(table, some, 0);
+    for k in 1..some.tail.operands {
+        m = m.min(least_at(table, some, k));
     }
     m
 }
 
 // Whether every operand's first rank is the least rank of the tail.
-fn keeps_first(ranked: Ranked) -> bool
-    ensures { let r = ranked.entry in result ≡ keeps_first r.ranks.now r.tail.operands r.tail.offset (axes r.tail) }
+fn keeps_first(ranks: &[[u8; 64]; 8], some: NonEmptyTail) -> bool
+    ensures { let t = some.entry.tail in result ≡ keeps_first ranks.now t.operands t.offset (axes t) }
 {
-    let m = least_rank(ranked);
-    let first = ranked.tail.offset;
-    for k in 0..ranked.tail.operands {
-        if ranked.ranks[k][first] != m {
+    let m = least_in(ranks, some);
+    let first = some.tail.offset;
+    for k in 0..some.tail.operands {
+        if ranks.at(k, first) != m {
             return false;
         }
     }
     true
-}
-
-// The least byte stride of operand k in the tail.
-// Kept: beside `least_rank_at`, whose numbers are of another type; one function for both would ask for an order with laws, and is no plainer.
-fn least_byte_at(ranked: Ranked, k: usize) -> u32
-    requires { k < ranked.tail.operands }
-    ensures { let t = ranked.entry.tail in result ≡ least (byte_at t.bytes.now k) t.offset (axes t) }
-{
-    let mut m = ranked.tail.bytes[k * 64 + ranked.tail.offset];
-    for i in ranked.tail.offset + 1..ranked.tail.rank {
-        m = m.min(ranked.tail.bytes[k * 64 + i]);
-    }
-    m
-}
-
-// The least byte stride that any operand has in the tail.
-fn least_byte(ranked: Ranked) -> u32
-    ensures { let t = ranked.entry.tail in result ≡ least_byte t.bytes.now t.operands t.offset (axes t) }
-{
-    let mut m = least_byte_at(ranked, 0);
-    for k in 1..ranked.tail.operands {
-        m = m.min(least_byte_at(ranked, k));
-    }
-    m
 }
 
 // The blocks of the tail become 1.
@@ -106,8 +107,8 @@ pub fn compute_blocks_at<'a>(
     if memory_region(tail, blocks) <= tail.machine.numbers.cache {
         return;
     }
-    let ranked = Ranked { tail, ranks };
-    if keeps_first(ranked) {
+    let some = NonEmptyTail { tail };
+    if keeps_first(ranks, some) {
         let offset = tail.offset + 1;
         let rest = Tail {
             machine: tail.machine,
@@ -119,7 +120,7 @@ pub fn compute_blocks_at<'a>(
         compute_blocks_at(rest, costs, ranks, blocks);
         return;
     }
-    if tail.machine.numbers.cache < u64::from(least_byte(ranked)) {
+    if tail.machine.numbers.cache < least_in(tail.bytes, some) {
         set_ones(tail, blocks);
         return;
     }

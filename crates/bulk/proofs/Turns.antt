@@ -69,13 +69,6 @@ returned {p} {u} room n {v} k h e l f =
 module _ {p : Plan} {u : Walk} {y : Way} {w ls₀ : List ℕ} {os₀ : List ℤ} {n : ℕ} {at : State} {ls : List ℕ} {os : List ℤ} (d : Turned p u y w ls₀ os₀ n at ls os)
     {room : ℕ} (fits : HasRoom room p.operands ls₀ os₀) where
   module _ (h : n ≤ room) where
-    pub turned-many : length ls ≡ length ls₀
-    turned-many =
-        let a = length-map (next_blocks n p u) (λ (s : Block). s.length) in
-        let b = d.walked.full in
-        let f = fits.lengths in
-        ap length d.lengths ∙ laid_long (lengths_of (next_blocks n p u)) ls₀ (omega (arith, a, b, f, h))
-
     pub turned_long : length os ≡ length os₀
     turned_long =
         let a = d.long in
@@ -93,9 +86,6 @@ module _ {p : Plan} {u : Walk} {y : Way} {w ls₀ : List ℕ} {os₀ : List ℤ}
 
     pub count_fits : n + count ≤ room
     count_fits = omega (arith, h, count-is)
-
-    pub count-place : n + count ≤ length ls
-    count-place = let k = count_fits in let b = turned-many below in let f = fits.lengths in omega (arith, k, b, f)
 
     places : (n + count) * p.operands ≤ length os
     places =
@@ -206,9 +196,9 @@ module _ {y : Way} {limit : ℕ} {p : Plan} {w : List ℕ} {at : State} {left le
   pub strode_past : Passed y limit p w at more at' → Strode y limit p w at (record { count = count; length = len; more = more }) at.offsets at'
   strode_past h = strode_of a b n refl h
 
-module _ {y : Way} {p : Plan} {w : List ℕ} {at at₁ : State} (k : at₁ ≡ at) where
-  pub kept_asks : Strides y p w at → {left : ℕ} → left ≡ left_of y p w at.counters → Strides y p w at₁ × (left ≡ left_of y p w at₁.counters)
-  kept_asks m a = (subst (Strides y p w) (sym k) m, a ∙ ap (λ (x : State). left_of y p w x.counters) (sym k))
+module _ {p : Plan} {w : List ℕ} {at at₁ : State} (k : at₁ ≡ at) where
+  pub kept_asks : (y : Way) → Strides p w at → {left : ℕ} → left ≡ left_of y p w at.counters → Strides p w at₁ × (left ≡ left_of y p w at₁.counters)
+  kept_asks y m a = (subst (Strides p w) (sym k) m, a ∙ ap (λ (x : State). left_of y p w x.counters) (sym k))
 
-  pub kept_passed : {limit : ℕ} {more : Bool} {at' : State} → Passed y limit p w at₁ more at' → Passed y limit p w at more at'
-  kept_passed {limit} {more} {at'} h = subst (λ (x : State). Passed y limit p w x more at') k h
+  pub kept_passed : {y : Way} {limit : ℕ} {more : Bool} {at' : State} → Passed y limit p w at₁ more at' → Passed y limit p w at more at'
+  kept_passed {y} {limit} {more} {at'} h = subst (λ (x : State). Passed y limit p w x more at') k h

@@ -8,11 +8,10 @@ ghost use Rattle.strided.specs.Memory.{walk_of};
 ghost use Rattle.walk.specs.Lent.{Taken};
 ghost use Rattle.bulk.specs.Blocks.{handed, HasRoom, Wrote, row_at, rows_for, RowFits, MayPut};
 
-use advance::{State, tile_starts, widths};
 use layout::LentPlan;
 use strided::{Plan, Refusal, Several, Walk};
-use walk::answer_of;
-use walker::{go_behind, hop, moves_of, stretch_here, way_of};
+use walk::{LentWalk, answer_of};
+use walker::Course;
 
 // Blocks were written, and the walk stands there.
 fn blocks_written(blocks: usize, ended: bool, counters: [u64; 64], offsets: [i64; 8]) -> Several
@@ -95,25 +94,18 @@ fn put_blocks(
     ensures { Wrote most plan.now (walk_of false counters start)
         lengths.old offsets.old result lengths.new offsets.new }
 {
-    let w = widths(plan);
-    let y = way_of(plan, &w);
-    let d = moves_of(y, plan);
-    let mut at = State {
-        tile_starts: tile_starts(plan, &w, &counters),
-        counters,
-        offsets: start,
-    };
+    let course = Course::of(plan);
+    let d = course.moves();
+    let mut at = course.state_at(counters, start);
     let mut n = 0;
     while n < most {
-        let x = stretch_here(y, plan, &w, &at);
+        let x = course.stretch_here(&at);
         let limit = (most - n) as u64;
         let count = limit.min(x.left) as usize;
         put_lengths(count, n, x.length, &mut *lengths);
         put_rows(count, plan, n, &d, &at.offsets, &mut *offsets);
         n += count;
-        if !hop(y, limit, x.left, plan, &w, &mut at)
-            && !go_behind(y, limit, x.left, plan, &w, &mut at)
-        {
+        if !course.hop(limit, x.left, &mut at) && !course.go_behind(limit, x.left, &mut at) {
             return blocks_written(n, true, at.counters, at.offsets);
         }
     }
@@ -130,11 +122,16 @@ pub fn step_many_on(
 ) -> Result<Several, Refusal>
     ensures { many_of result lengths.new offsets.new ≡ stepped_many plan.now walk lengths.old offsets.old }
 {
-    let c = walk.counters;
-    let o = walk.offsets;
-    if answer_of(plan, walk.ended, &c, &o)? {
+    if answer_of(plan, &LentWalk::of(&walk))? {
         let room = room_for(plan, lengths.len(), offsets.len());
-        return Ok(put_blocks(room, plan, c, o, &mut *lengths, &mut *offsets));
+        return Ok(put_blocks(
+            room,
+            plan,
+            walk.counters,
+            walk.offsets,
+            &mut *lengths,
+            &mut *offsets,
+        ));
     }
     Ok(Several { blocks: None, walk })
 }

@@ -1,8 +1,8 @@
 -- Runs copied side by side: the same cells in another order, and so the same bytes.
 -- Assumes nothing.
 use mathlib.Core.Path.{◌≡◌, refl, sym, ap, ◌∙◌, subst}
-use mathlib.Core.List.{List, [], ◌∷◌, ◌++◌}
-use Prim.Native.Nat.{ℕ, suc, ◌+◌, ◌-◌, ◌≤◌, ◌<◌}
+use mathlib.Core.List.{List, [], ◌∷◌, ◌++◌, map, map-append}
+use Prim.Native.Nat.{ℕ, ◌+◌, ◌-◌, ◌≤◌, ◌<◌}
 use native.Mathlib.Nat.{add-zero, zero-add}
 use native.Mathlib.Omega.{arith}
 use lib.ListN.{length}
@@ -10,11 +10,11 @@ use Rattle.strided.specs.Base.{over, run}
 use Rattle.laws.specs.Base.Lists.{run-append, over_last}
 use Rattle.cells.specs.declared.Side.{Side}
 use Rattle.cells.specs.Copy.{Pair, pair, moved, copied, In, Same, AllIn, Apart}
-use Rattle.cells.specs.Meaning.{copied-same, to_eq, from_eq}
+use Rattle.cells.specs.Meaning.{copied-same, copied-one, to_eq, from_eq}
 use Rattle.cells.specs.Patch.{place, cell_at, run_cells}
 use Rattle.cells.specs.Patches.{map_each, map_only, over_each, over_only, run_in_lem, run-within, run_each, run_only}
 use Rattle.cells.specs.Reaching.{CellIn, RunsIn, runs_from, across, crossing}
-use Rattle.cells.proofs.Running.{then_copied}
+use Rattle.cells.proofs.Running.{as_long, then_copied}
 
 -- ---- where runs lie
 
@@ -29,35 +29,32 @@ pub runs_fewer : (w len n j count : ℕ) (o : Side) (m : ℕ) → RunsIn w len n
 unfolding RunsIn
 runs_fewer w len n j count o m h l i k a b = h i k (omega (arith, l, a)) b
 
+-- in a copy so far, which is as long as before
+pub still_runs : (w n j count : ℕ) (o : Side) (ps : List Pair) (dst src : List ℕ) {mid : List ℕ} → RunsIn w (length dst) n j count o → mid ≡ copied w ps dst src
+    → RunsIn w (length mid) n j count o
+still_runs w n j count o ps dst src h e = subst (λ (len : ℕ). RunsIn w len n j count o) (sym (as_long w ps dst src e)) h
+
 -- ---- cell by cell
 
--- four cells, one after the other
-pub four_copied : (w j : ℕ) (to from : Side) (i : ℕ) (dst src a b c d : List ℕ)
-    → a ≡ moved dst (place to i j) src (place from i j) w
-    → b ≡ moved a (place to i (j + 1)) src (place from i (j + 1)) w
-    → c ≡ moved b (place to i (j + 2)) src (place from i (j + 2)) w
-    → d ≡ moved c (place to i (j + 3)) src (place from i (j + 3)) w
-    → d ≡ copied w (across j 4 to from i) dst src
-unfolding copied
-four_copied w j to from i dst src a b c d p q r s =
-    let e1 : j + 1 ≡ suc j = omega arith in
-    let e2 : j + 2 ≡ suc (suc j) = omega arith in
-    let e3 : j + 3 ≡ suc (suc (suc j)) = omega arith in
-    s
-    ∙ ap (λ (k : ℕ). moved c (place to i k) src (place from i k) w) e3
-    ∙ ap (λ (x : List ℕ). next (suc (suc (suc j))) x) (r ∙ ap (λ (k : ℕ). moved b (place to i k) src (place from i k) w) e2)
-    ∙ ap (λ (x : List ℕ). next (suc (suc (suc j))) (next (suc (suc j)) x)) (q ∙ ap (λ (k : ℕ). moved a (place to i k) src (place from i k) w) e1)
-    ∙ ap (λ (x : List ℕ). next (suc (suc (suc j))) (next (suc (suc j)) (next (suc j) x))) p
-  where
-    next : ℕ → List ℕ → List ℕ
-    next k x = moved x (place to i k) src (place from i k) w
+pub across_first : (w j : ℕ) (to from : Side) (i : ℕ) (dst src : List ℕ) {out : List ℕ}
+    → out ≡ moved dst (place to i j) src (place from i j) w → out ≡ copied w (across j 1 to from i) dst src
+across_first w j to from i dst src e = e ∙ sym (copied-one w (place to i j) (place from i j) dst src)
 
-pub crossing_more : (w j count : ℕ) (to from : Side) (dst src : List ℕ) (n : ℕ)
-    → copied w (across j count to from n) (copied w (crossing n j count to from) dst src) src ≡ copied w (crossing (n + 1) j count to from) dst src
+pub across_more : (w j : ℕ) (to from : Side) (i : ℕ) (dst src : List ℕ) (k : ℕ) {mid out : List ℕ}
+    → mid ≡ copied w (across j k to from i) dst src → out ≡ moved mid (place to i (j + k)) src (place from i (j + k)) w
+    → out ≡ copied w (across j (k + 1) to from i) dst src
+across_more w j to from i dst src k {mid} e f =
+    then_copied w (across j k to from i) (cell_at to from (j + k) i ∷ []) dst src e (f ∙ sym (copied-one w (place to i (j + k)) (place from i (j + k)) mid src))
+    ∙ ap (λ (ps : List Pair). copied w ps dst src)
+    (sym (ap (map (λ (x : ℕ). cell_at to from x i)) (run-append k 1 j) ∙ map-append (λ (x : ℕ). cell_at to from x i) (run j k) ((j + k) ∷ [])))
+
+pub crossing_more : (w j count : ℕ) (to from : Side) (dst src : List ℕ) (n : ℕ) {mid out : List ℕ}
+    → mid ≡ copied w (crossing n j count to from) dst src → out ≡ copied w (across j count to from n) mid src
+    → out ≡ copied w (crossing (n + 1) j count to from) dst src
 unfolding crossing
-crossing_more w j count to from dst src n =
+crossing_more w j count to from dst src n e f =
     let z : 0 + n ≡ n = zero-add n in
-    then_copied w (crossing n j count to from) (across j count to from n) dst src
+    then_copied w (crossing n j count to from) (across j count to from n) dst src e f
     ∙ ap (λ (ps : List Pair). copied w ps dst src)
     (sym (ap (λ (l : List ℕ). over l (across j count to from)) (run-append n 1 0 ∙ ap (λ (k : ℕ). run 0 n ++ (k ∷ [])) z) ∙ over_last (run 0 n) n (across j count to from)))
 

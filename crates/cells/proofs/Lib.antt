@@ -1,4 +1,3 @@
-pub mod Moving
 pub mod Running
 pub mod Crossing
 pub mod Patching

@@ -5,10 +5,13 @@ use mathlib.Core.List.{List, []}
 use Prim.Native.Nat.{ℕ, zero, suc, ◌^◌, ◌<◌}
 use native.Mathlib.Omega.{arith}
 use lib.IntN.{ℤ, pos, ◌+ℤ◌, ◌*ℤ◌, zero-*ℤ, +ℤ_idr}
+use lib.ListN.{length}
 use Rattle.strided.specs.Base.{over, run}
 use Rattle.cells.specs.declared.Side.{Side}
+use Rattle.cells.specs.declared.patch.Patch.{Patch}
 use Rattle.cells.specs.Copy.{Pair, copied}
 use Rattle.cells.specs.Patch.{spot, run_cells, patch_cells, Inside, Lies}
+use Rattle.cells.specs.Patched.{LieIn, ReachIn}
 use Rattle.cells.specs.Reaching.{run_spot, PatchIn}
 use Rattle.cells.proofs.Running.{none_copied}
 use Rattle.cells.proofs.Patching.{patch_start}
@@ -36,6 +39,13 @@ lies_in w len n0 n1 o h l m n i j a b =
       };
       inside = cell.to;
     }
+
+-- both sides of a patch
+pub lies_both : (p : Patch) (dst src : List ℕ) → LieIn p dst src → length dst < 2 ^ 63 → length src < 2 ^ 63 → ReachIn p dst src
+lies_both p dst src h l m = record {
+  to = lies_in p.width (length dst) p.n0 p.n1 p.to h.to l p.few.0 p.few.1;
+  from = lies_in p.width (length src) p.n0 p.n1 p.from h.from m p.few.0 p.few.1;
+}
 
 no_cells : (n1 s : ℕ) (to from : Side) → over (run s n1) (run_cells 0 to from) ≡ []
 no_cells zero s to from = refl

@@ -1,6 +1,6 @@
 -- Runs without gaps: the copy of their cells is one move of bytes.
 -- Assumes nothing.
-use mathlib.Core.Path.{◌≡◌, sym, ap, ap₂, ◌∙◌, subst}
+use mathlib.Core.Path.{◌≡◌, refl, sym, ap, ap₂, ◌∙◌, subst}
 use mathlib.Core.List.{List}
 use Prim.Native.Nat.{ℕ, zero, suc, ◌+◌, ◌-◌, ◌*◌, ◌≤◌, ◌<◌}
 use native.Mathlib.Nat.{zero-mul}
@@ -50,7 +50,7 @@ module _ (w : ℕ) (to from : Side) (dst src : List ℕ) (e : to.step0 ≡ pos w
   packed-run j a b (suc n) =
       let s : n + 1 ≡ suc n = add-one n in
       sym (ap (λ (k : ℕ). copied w (run_cells k to from j) dst src) s)
-      ∙ sym (cell_more w to from dst src j n)
+      ∙ sym (cell_more w to from dst src j n refl refl)
       ∙ ap₂ (λ (x y : ℕ). moved (copied w (run_cells n to from j) dst src) x src y w) (packed-place to w n j a e) (packed-place from w n j b f)
       ∙ ap (λ (x : List ℕ). moved x (begin to j + n * w) src (begin from j + n * w) w) (packed-run j a b n)
       ∙ moved-add dst (begin to j) src (begin from j) (n * w) w
@@ -65,7 +65,7 @@ module _ (w n0 : ℕ) (to from : Side) (dst src : List ℕ) (e : to.step0 ≡ po
       let s : n + 1 ≡ suc n = add-one n in
       let b : ℕ = n0 * w in
       sym (ap (λ (k : ℕ). copied w (patch_cells n0 k to from) dst src) s)
-      ∙ sym (run_more w to from dst src n0 n)
+      ∙ sym (run_more w to from dst src n0 n refl refl)
       ∙ packed-run w to from (copied w (patch_cells n0 n to from) dst src) src e f n (packed-from to b n g) (packed-from from b n h) n0
       ∙ ap₂ (λ (x y : ℕ). moved (copied w (patch_cells n0 n to from) dst src) x src y b) (packed-begin to b n g) (packed-begin from b n h)
       ∙ ap (λ (x : List ℕ). moved x (to.first + n * b) src (from.first + n * b) b) (packed-patch n)

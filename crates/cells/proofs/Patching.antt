@@ -8,12 +8,14 @@ use native.Mathlib.Omega.{arith}
 use Rattle.strided.specs.Base.{over, run}
 use Rattle.laws.specs.Base.Lists.{run-append, over-append}
 use Rattle.cells.specs.declared.Side.{Side}
+use Rattle.cells.specs.declared.patch.Patch.{Patch}
 use Rattle.cells.specs.Copy.{Pair, copied, In, Apart}
 use Rattle.cells.specs.Meaning.{copied_none, apart_some}
 use Rattle.cells.specs.Patch.{run_cells, patch_cells}
+use Rattle.cells.specs.Patched.{ReachIn}
 use Rattle.cells.specs.Patches.{patch_none, patch_each}
 use Rattle.cells.specs.Reaching.{CellIn, RunIn, RunsIn, PatchIn, runs_from}
-use Rattle.cells.proofs.Running.{then_copied}
+use Rattle.cells.proofs.Running.{as_long, then_copied}
 use Rattle.cells.proofs.Crossing.{runs_only}
 
 pub patch_cell : (w len n0 n1 : ℕ) (o : Side) (i j : ℕ) → PatchIn w len n0 n1 o → i < n0 → j < n1 → CellIn w len o i j
@@ -28,6 +30,10 @@ pub patch_runs : (w len n0 n1 : ℕ) (o : Side) (j count : ℕ) → PatchIn w le
 unfolding PatchIn RunsIn
 patch_runs w len n0 n1 o j count h b i k a l = h i (j + k) a (omega (arith, b, l))
 
+-- the copy so far is as long as before, so that the rest lies in it
+pub still_in : (p : Patch) (ps : List Pair) (dst src : List ℕ) {mid : List ℕ} → ReachIn p dst src → mid ≡ copied p.width ps dst src → ReachIn p mid src
+still_in p ps dst src r e = record { to = subst (λ (len : ℕ). PatchIn p.width len p.n0 p.n1 p.to) (sym (as_long p.width ps dst src e)) r.to; from = r.from }
+
 pub patch_start : (w n0 : ℕ) (to from : Side) (dst src : List ℕ) → dst ≡ copied w (patch_cells n0 0 to from) dst src
 patch_start w n0 to from dst src = sym (ap (λ (ps : List Pair). copied w ps dst src) (patch_none n0 to from) ∙ copied_none w dst src)
 
@@ -40,10 +46,11 @@ module _ (n0 : ℕ) (to from : Side) where
       ∙ over-append (run 0 j) (run j count) (run_cells n0 to from)
 
   -- some runs more
-  pub runs_more : (w : ℕ) (dst src : List ℕ) (j count : ℕ)
-      → copied w (runs_from n0 j count to from) (copied w (patch_cells n0 j to from) dst src) src ≡ copied w (patch_cells n0 (j + count) to from) dst src
-  runs_more w dst src j count =
-      then_copied w (patch_cells n0 j to from) (runs_from n0 j count to from) dst src
+  pub runs_more : (w : ℕ) (dst src : List ℕ) (j count : ℕ) {mid out : List ℕ}
+      → mid ≡ copied w (patch_cells n0 j to from) dst src → out ≡ copied w (runs_from n0 j count to from) mid src
+      → out ≡ copied w (patch_cells n0 (j + count) to from) dst src
+  runs_more w dst src j count e f =
+      then_copied w (patch_cells n0 j to from) (runs_from n0 j count to from) dst src e f
       ∙ ap (λ (ps : List Pair). copied w ps dst src) (sym (patch-add j count))
 
   -- they lie apart as the patch does

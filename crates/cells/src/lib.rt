@@ -6,17 +6,18 @@ ghost use Rattle.std.specs.Prelude.{◌≡◌};
 ghost use Rattle.cells.specs.Copy.{Apart};
 ghost use Rattle.cells.specs.Patched.{cells_of, copy_of, LieIn};
 
+pub use bytes::move_pieces;
 use packed::{both_down, both_step, copy_down, copy_packed};
 pub use patch::Patch;
 use widths::{copy_fours_by_width, copy_runs_by_width};
 
-pub mod bytes;
-pub mod fours;
-pub mod packed;
+mod bytes;
+mod fours;
+mod packed;
 mod patch;
-pub mod patches;
-pub mod runs;
-pub mod widths;
+mod patches;
+mod runs;
+mod widths;
 
 // Where an operand's cells of a patch lie: the place of the first cell's first byte, and how many bytes it is, up or down, from a cell to
 // the next of its run (`step0`) and from a run to the next (`step1`).
@@ -30,7 +31,8 @@ pub struct Side {
 // Whether four runs are better copied at once: they are long, and the lines that a run touches share few sets of the cache.
 fn crowded(patch: Patch) -> bool {
     16 <= patch.n0
-        && (patch.to.step0.unsigned_abs() % 512 == 0 || patch.from.step0.unsigned_abs() % 512 == 0)
+        && (patch.to.step0.unsigned_abs().is_multiple_of(512)
+            || patch.from.step0.unsigned_abs().is_multiple_of(512))
 }
 
 // THE COPY OF A PATCH, from where its cells lie in the source to where they lie in the destination.

@@ -28,7 +28,7 @@ fn move_runs(destination: &mut [u8], source: &[u8], patch: Patch)
     for j in 0..patch.n1 {
         let d = place_of(patch.to, 0, j);
         let s = place_of(patch.from, 0, j);
-        move_pieces(destination, d, source, s, bytes);
+        move_pieces(&mut destination[d..d + bytes], &source[s..s + bytes]);
     }
 }
 
@@ -40,13 +40,10 @@ pub fn copy_packed(destination: &mut [u8], source: &[u8], patch: Patch)
 {
     let bytes = (patch.n0 as usize) * patch.width;
     if both_step(bytes, patch.to.step1, patch.from.step1) {
-        move_pieces(
-            destination,
-            patch.to.first,
-            source,
-            patch.from.first,
-            bytes * (patch.n1 as usize),
-        );
+        let all = bytes * (patch.n1 as usize);
+        let d = patch.to.first;
+        let s = patch.from.first;
+        move_pieces(&mut destination[d..d + all], &source[s..s + all]);
         return;
     }
     move_runs(destination, source, patch);

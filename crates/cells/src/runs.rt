@@ -39,7 +39,8 @@ pub fn copy_cell(destination: &mut [u8], source: &[u8], patch: Patch, i: u64, j:
 {
     let d = place_of(patch.to, i, j);
     let s = place_of(patch.from, i, j);
-    move_bytes(destination, d, source, s, patch.width);
+    let w = patch.width;
+    move_bytes(&mut destination[d..d + w], &source[s..s + w]);
 }
 
 // The cells of run j.

@@ -90,20 +90,20 @@ fn size_of(operand: Operand) -> u64
 }
 
 // Whether axis i steps by whole lines and by no less than the span so far.
-fn keeps_apart(machine: AllowedMachine, slabs: Slabs, i: usize) -> bool
+fn keeps_apart(slabs: Slabs, i: usize) -> bool
     requires { i < 64 }
-    ensures { let s = slabs.entry in let o = s.operand in result ≡ apart_at machine.numbers o.axes o.k s.cut s.width i }
+    ensures { let s = slabs.entry in let o = s.operand in result ≡ apart_at s.machine.numbers o.axes o.k s.cut s.width i }
 {
     let s = stride_size(slabs.operand, i);
-    whole_lines(machine, s, size_of(slabs.operand)) && span_so_far(slabs, i) <= s
+    whole_lines(slabs.machine, s, size_of(slabs.operand)) && span_so_far(slabs, i) <= s
 }
 
 // Whether every axis from the cut on keeps the slabs apart.
-fn tail_separated(machine: AllowedMachine, slabs: Slabs) -> bool
-    ensures { let s = slabs.entry in let o = s.operand in result ≡ apart_to o.axes.rank machine.numbers o.axes o.k s.cut s.width }
+fn tail_separated(slabs: Slabs) -> bool
+    ensures { let s = slabs.entry in let o = s.operand in result ≡ apart_to o.axes.rank s.machine.numbers o.axes o.k s.cut s.width }
 {
     for i in slabs.cut..slabs.operand.axes.rank {
-        if !keeps_apart(machine, slabs, i) {
+        if !keeps_apart(slabs, i) {
             return false;
         }
     }
@@ -111,11 +111,11 @@ fn tail_separated(machine: AllowedMachine, slabs: Slabs) -> bool
 }
 
 // Whether no two slabs share a line.
-fn slabs_share_no_line(machine: AllowedMachine, slabs: Slabs) -> bool
-    ensures { let s = slabs.entry in let o = s.operand in result ≡ share_none machine.numbers o.axes o.k s.cut s.width }
+fn slabs_share_no_line(slabs: Slabs) -> bool
+    ensures { let s = slabs.entry in let o = s.operand in result ≡ share_none s.machine.numbers o.axes o.k s.cut s.width }
 {
     let size = size_of(slabs.operand);
-    size == 0 || whole_lines(machine, slabs.width, size) && tail_separated(machine, slabs)
+    size == 0 || whole_lines(slabs.machine, slabs.width, size) && tail_separated(slabs)
 }
 
 // Whether every operand's slabs at the first cut, which is not axis 0, share no line.
@@ -124,19 +124,23 @@ pub fn declines_tiles(machine: AllowedMachine, axes: Axes, blocks: &[u64; 64]) -
     ensures { let a = axes.entry in result ≡ declined machine.numbers (byte_table a.sizes.now a.strides.now)
         a.sizes.now (length a.sizes.now) a.extents.now a.rank blocks.now }
 {
-    let cut = first_below(blocks, axes.extents, axes.rank);
-    if cut == 0 || cut == axes.rank {
+    let extents = axes.extents;
+    let Some(cut) = first_below(&blocks[..axes.rank], &extents[..axes.rank]) else {
+        return false;
+    };
+    if cut == 0 {
         return false;
     }
     for k in 0..axes.sizes.len() {
         let operand = Operand { axes, k };
         let width = slab_width(operand, cut);
         let slabs = Slabs {
+            machine,
             operand,
             cut,
             width,
         };
-        if !slabs_share_no_line(machine, slabs) {
+        if !slabs_share_no_line(slabs) {
             return false;
         }
     }

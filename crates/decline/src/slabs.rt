@@ -1,14 +1,15 @@
-// One operand's slabs at a cut, and that row 6 bounds what they span.
+// One operand's slabs at a cut on a machine, and that row 6 bounds what they span.
 ghost use Rattle.std.specs.Prelude.{◌+◌, ◌-◌, ◌^◌, ◌≤◌};
 ghost use Rattle.strided.specs.Base.{sum};
 ghost use Rattle.laws.specs.Cut.Rising.{way_of};
 ghost use Rattle.laws.specs.Cut.Tables.{stride_size};
 
-use region::Operand;
+use region::{AllowedMachine, Operand};
 
 // A slab spans the axes before the cut, `width` elements, and the axes from the cut on lead from slab to slab.
 #[derive(Clone, Copy)]
 pub struct Slabs<'a> {
+    pub machine: AllowedMachine,
     pub operand: Operand<'a>,
     pub cut: usize,
     pub width: u64,

@@ -2,7 +2,7 @@
 -- Assumes nothing.
 use mathlib.Core.Path.{◌≡◌, refl, sym, ap, ◌∙◌, subst}
 use mathlib.Core.Logic.{inl, inr, ⊎_elim}
-use mathlib.Core.Bool.{true, false, false≢true}
+use mathlib.Core.Bool.{Bool, true, false}
 use mathlib.Core.List.{List, [], ◌∷◌}
 use Prim.Native.Nat.{ℕ, zero, suc, ◌+◌, ◌-◌, ◌*◌, ◌/◌, ◌%◌, ◌<◌, ◌≤◌}
 use native.Mathlib.Nat.{add-mul, mul_comm, mul-le-mul_right, div-add-mod', mod-lt, div-lt_iff_lt-mul, le-div_iff_mul-le}
@@ -19,11 +19,20 @@ use Rattle.distinct.proofs.Merging.{in_front}
 abbrev pub Missing : List ℕ → ℕ → ℕ → Type 0
 Missing l n x = (i : ℕ) → i < n → get_or l i 0 ≡ x → ⊥
 
-pub looked_found : (l : List ℕ) (n x i : ℕ) → i < n → get_or l i 0 ≡ x → Looked l n x true
-looked_found l n x i h e = record { found = λ q. (i, h, e); missing = λ q. absurd (false≢true (sym q)) }
+pub looked_front : (l : List ℕ) (n x : ℕ) (r : Bool) → n ≤ length l → Looked (take n l) (length (take n l)) x r → Looked l n x r
+looked_front l n x r h w = record { found = found; missing = missing }
+  where
+    long : length (take n l) ≡ n
+    long = length-take-le n l h
 
-pub looked_missing : (l : List ℕ) (n x i : ℕ) → n ≤ i → Missing l i x → Looked l n x false
-looked_missing l n x i h m = record { found = λ q. absurd (false≢true q); missing = λ q k p e. m k (omega arith) e }
+    found : r ≡ true → (i : ℕ) × (i < n) × (get_or l i 0 ≡ x)
+    found e =
+        let f = w.found e in
+        let p : f.0 < n = omega (arith, f.1, long) in
+        (f.0, p, sym (get_or-take n l f.0 0 p) ∙ f.2)
+
+    missing : r ≡ false → Missing l n x
+    missing e i p q = w.missing e i (omega (arith, p, long)) (get_or-take n l i 0 p ∙ q)
 
 -- ---- places
 

@@ -4,13 +4,13 @@ use mathlib.Core.Logic.{inl, inr, ◌↔◌}
 use mathlib.Core.Bool.{true, false, false≢true}
 use mathlib.Core.List.{List, [], ◌∷◌}
 use Prim.Native.Nat.{ℕ, zero, suc, ◌+◌, ◌-◌, ◌*◌, ◌^◌, ◌<◌, ◌≤◌}
-use native.Mathlib.Nat.{mul_comm, mul-le-mul_left, mul-le-mul_right}
+use native.Mathlib.Nat.{mul_comm, mul-le-mul_left}
 use native.Mathlib.Omega.{arith}
 use lib.IntN.{ℤ, pos, nat_abs}
 use lib.ListN.{length, get_or, take, drop}
 use lib.Seq.{drop-cons, drop-length}
 use Rattle.strided.specs.Layout.{Within, NoZero, total, reach}
-use Rattle.laws.specs.Base.Layouts.{nozero_at}
+use Rattle.laws.specs.Base.Layouts.{nozero_at, total-drop}
 use Rattle.laws.specs.Refusals.Reaches.{reach-drop}
 use Rattle.laws.specs.Refusals.Zeros.{total_some}
 use Rattle.distinct.specs.Lists.{In, top, Low}
@@ -96,14 +96,7 @@ near-drop [] (t ∷ ts) (suc i) z l s = absurd (omega arith)
 near-drop (e ∷ es) [] (suc i) z l s = absurd (omega arith)
 near-drop (e ∷ es) (t ∷ ts) (suc i) z l s = near-later e es t ts z.0 (near-drop es ts i z.1 (omega arith) s)
 
--- ---- the total of the axes behind
-
-total-drop : (es : List ℕ) (i : ℕ) → NoZero es → total (drop i es) ≤ total es
-total-drop es zero z = omega arith
-total-drop [] (suc i) z = omega arith
-total-drop (e ∷ es) (suc i) z =
-    let g : 1 * total es ≤ e * total es = mul-le-mul_right (total es) z.0 in
-    omega (arith, total-drop es i z.1)
+-- ---- the axes behind
 
 nozero_drop : (es : List ℕ) (i : ℕ) → NoZero es → NoZero (drop i es)
 nozero_drop es zero z = z

@@ -4,7 +4,7 @@
 ghost use Rattle.std.specs.Prelude.{◌≡◌, ◌↔◌, true, ◌≤◌};
 ghost use Rattle.strided.specs.Layout.{total};
 ghost use Rattle.strided.specs.Mark.{Shared};
-ghost use Rattle.distinct.specs.Operand.{Sound};
+ghost use Rattle.distinct.specs.Operand.{NearOffsets};
 
 use copies::spread;
 use few::few_repeat;
@@ -19,7 +19,7 @@ mod merge;
 pub struct Operand<'a> {
     pub extents: &'a [u64],
     pub strides: &'a [i64],
-    pub ghost sound: { Sound extents.now strides.now },
+    pub ghost sound: { NearOffsets extents.now strides.now },
 }
 
 // The rising list of at most 4,096 cells begins with the one offset of no axis and is spread over the axes, the last first. Sizes of strides

@@ -1,17 +1,17 @@
 -- Offsets and strides in bytes: what fits, and that a stretch is the patch of its bytes.
 -- Assumes nothing.
-use mathlib.Core.Path.{◌≡◌, refl, sym, ap, ap₂, ◌∙◌, subst}
+use mathlib.Core.Path.{◌≡◌, sym, ap, ap₂, ◌∙◌, subst}
 use mathlib.Core.Bool.{true}
-use mathlib.Core.List.{List, ◌∷◌, ◌++◌, map}
-use Prim.Native.Nat.{ℕ, zero, suc, ◌+◌, ◌*◌, ◌/◌, ◌^◌, ◌≤◌, ◌<◌}
+use mathlib.Core.List.{List}
+use Prim.Native.Nat.{ℕ, ◌*◌, ◌/◌, ◌^◌, ◌≤◌, ◌<◌}
 use native.Mathlib.Nat.{mul-le-mul_right, div-mul-le_self}
 use native.Mathlib.Omega.{arith}
 use lib.IntN.{ℤ, pos, nat_abs, ◌+ℤ◌, ◌*ℤ◌}
 use lib.ListN.{get_or}
 use mir.Syntax.{w64}
 use mir.Val.{SFits}
-use Rattle.strided.specs.Base.{over, run}
 use Rattle.laws.specs.Base.Integers.{nat_abs_product, mag_size}
+use Rattle.laws.specs.Base.Lists.{map_agree, over_agree}
 use Rattle.span.specs.Span.{in_cells}
 use Rattle.cells.specs.declared.Side.{Side}
 use Rattle.cells.specs.Copy.{pair, Apart}
@@ -76,14 +76,6 @@ module _ (w len n0 n1 : ℕ) (z t u : ℤ) (some : 1 ≤ w) (most : w ≤ 16) (f
 
 -- ---- the patch
 
-map-run : {A : Type 0} (f g : ℕ → A) (n s : ℕ) → ((i : ℕ) → i < s + n → f i ≡ g i) → map f (run s n) ≡ map g (run s n)
-map-run f g zero s h = refl
-map-run f g (suc n) s h = ap₂ (λ a l. a ∷ l) (h s (omega arith)) (map-run f g n (suc s) (λ i b. h i (omega (arith, b))))
-
-over-run : {A : Type 0} (f g : ℕ → List A) (n s : ℕ) → ((i : ℕ) → i < s + n → f i ≡ g i) → over (run s n) f ≡ over (run s n) g
-over-run f g zero s h = refl
-over-run f g (suc n) s h = ap₂ (λ a l. a ++ l) (h s (omega arith)) (over-run f g n (suc s) (λ i b. h i (omega (arith, b))))
-
 -- A STRETCH IS A PATCH
 module _ (w n0 n1 : ℕ) (ss d first : List ℤ) (to from : Side)
     (a : (i j : ℕ) → i < n0 → j < n1 → nat_abs ((pos to.first +ℤ pos j *ℤ to.step1) +ℤ pos i *ℤ to.step0) ≡ place_at w (offset_at ss d first 0 j i))
@@ -91,9 +83,9 @@ module _ (w n0 n1 : ℕ) (ss d first : List ℤ) (to from : Side)
   pub patch_is : patch_cells n0 n1 to from ≡ stretch_cells w n0 n1 ss d first
   unfolding patch_cells stretch_cells
   patch_is =
-      over-run (run_cells n0 to from) (row_cells w n0 ss d first) n1 0
-      (λ j hj. map-run (cell_at to from j) (λ i. pair (place_at w (offset_at ss d first 0 j i)) (place_at w (offset_at ss d first 1 j i))) n0 0
-      (λ i hi. ap₂ pair (a i j (omega (arith, hi)) (omega (arith, hj))) (b i j (omega (arith, hi)) (omega (arith, hj)))))
+      over_agree (run_cells n0 to from) (row_cells w n0 ss d first) 0 n1
+      (λ j l hj. map_agree (cell_at to from j) (λ i. pair (place_at w (offset_at ss d first 0 j i)) (place_at w (offset_at ss d first 1 j i))) 0 n0
+      (λ i m hi. ap₂ pair (a i j (omega (arith, hi)) (omega (arith, hj))) (b i j (omega (arith, hi)) (omega (arith, hj)))))
 
 -- ---- numbers that the code has read from its arrays
 

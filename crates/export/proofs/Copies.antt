@@ -4,27 +4,22 @@ use mathlib.Core.Path.{◌≡◌, refl, sym, ap, ◌∙◌, subst}
 use mathlib.Core.Bool.{Bool, true, false}
 use mathlib.Core.List.{List, [], ◌∷◌, ◌++◌, map}
 use mathlib.Core.Logic.{inr}
-use Prim.Native.Nat.{ℕ, zero, suc, ◌+◌, ◌-◌, ◌/◌, ◌^◌, ◌≤◌, ◌<◌}
+use Prim.Native.Nat.{ℕ, zero, suc, ◌+◌, ◌/◌, ◌^◌, ◌≤◌, ◌<◌}
 use native.Mathlib.Omega.{arith}
 use lib.IntN.{ℤ, pos, ◌+ℤ◌, ◌*ℤ◌}
-use lib.ListN.{length, get_or, take, drop, length-map, length-take}
-use borrow.Author.Tests.{ltb-false}
+use lib.ListN.{length, get_or, take, drop}
 use Rattle.strided.specs.Base.{over, run}
-use Rattle.strided.specs.Layout.{total, max_u}
-use Rattle.strided.specs.Walk.{counters, length_at, block_at}
-use Rattle.strided.specs.Begin.{plan_extents, begin_rows, begin_refused, started}
+use Rattle.strided.specs.Walk.{counters, length_at}
+use Rattle.strided.specs.Begin.{started}
 use Rattle.strided.specs.Step.{plan_cut_axes}
 use Rattle.strided.specs.Memory.{walk_of}
 use Rattle.strided.specs.declared.Plan.{Plan}
 use Rattle.strided.specs.declared.Walk.{Walk}
 use Rattle.laws.specs.Base.Lists.{over-append, over-map}
-use Rattle.laws.specs.Base.Refusals.{NoneApplies, none_applies}
-use Rattle.laws.specs.Refusals.Zeros.{row5-total}
-use Rattle.laws.specs.Text.Totals.{walk_blocks}
 use Rattle.laws.specs.Walk.Placed.{Placed, placed_from, placed_walk, placed-over}
 use Rattle.laws.specs.Walk.Places.{length_pos}
 use Rattle.laws.specs.Walk.Reach.{state-nth}
-use Rattle.laws.specs.Walk.Steps.{Ready, ready, wide}
+use Rattle.laws.specs.Walk.Steps.{Ready, ready_sized, wide}
 use Rattle.advance.specs.Axis.{widths, starts_to}
 use Rattle.advance.specs.Carry.{state_of}
 use Rattle.advance.specs.declared.State.{State}
@@ -34,8 +29,8 @@ use Rattle.walk.proofs.Stepping.{begun_taken, running}
 use Rattle.walker.specs.declared.Way.{Way}
 use Rattle.walker.specs.declared.Next.{Next}
 use Rattle.walker.specs.Stretch.{Stretch, moved_on, block_in, laid, told}
-use Rattle.walker.specs.Way.{Leads, moves_of, Strides, Strode}
-use Rattle.walker.proofs.Walked.{Walked, walked_none, walked_asks, walked_some, walked_most, walked_next, walked_part, walked_fit, walked_within, walked_over}
+use Rattle.walker.specs.Way.{Leads, moves_of, Strode}
+use Rattle.walker.proofs.Walked.{Walking, walked_none, walked_some, walked_most, walked_fit, walking_next, walking_part, walking_over}
 use Rattle.span.specs.Span.{in_cells}
 use Rattle.cells.specs.Copy.{Pair, pair, copied, In}
 use Rattle.cells.specs.Meaning.{copied-length, copied-append, apart_some}
@@ -80,29 +75,12 @@ module _ (w m : ℕ) (ss d first : List ℤ) (r : Next) (two : m ≡ 2) (many : 
 
 module _ {p : Plan} {zs : List ℤ} {w to from : ℕ} (h : Copyable p zs w to from) where
   pub copy_ready : Ready p zs
-  unfolding begin_refused NoneApplies
-  copy_ready =
-      let a : NoneApplies (begin_rows p zs) = none_applies (begin_rows p zs) h.begins in
-      let axes : p.rank ≤ 64 = ltb-false 64 p.rank a.0 in
-      let l = length-take p.rank p.extents in
-      let s = h.sized.extents-all in
-      ready p zs (omega (arith, l, axes, s)) h.begins
-
-  -- the walk has at most 2^64 - 1 blocks
-  blocks_fit : length (placed_walk p zs) < 2 ^ 64
-  unfolding begin_refused NoneApplies
-  blocks_fit =
-      let a : NoneApplies (begin_rows p zs) = none_applies (begin_rows p zs) h.begins in
-      let b = ltb-false max_u (total (plan_extents p)) (sym (row5-total (plan_extents p)) ∙ a.1.1.0) in
-      let d = walk_blocks p in
-      let e = length-map (counters (plan_cut_axes p)) (placed_from p zs) in
-      let f = length-map (counters (plan_cut_axes p)) (block_at (plan_cut_axes p)) in
-      omega (arith, b, d, e, f)
+  copy_ready = ready_sized p zs h.sized.extents-all h.begins
 
 -- ---- the walk before block n: `now` is the destination, from which what is left makes what all of it makes from `old`
 
 pub record Copies (p : Plan) (zs : List ℤ) (wd : ℕ) (y : Way) (w : List ℕ) (old src : List ℕ) (n : ℕ) (more : Bool) (at : State) (now : List ℕ) : Type 0 where
-  pub walked : (u : Walk) × (u ≡ started p zs) × Walked p u y w n more at
+  pub walking : Walking p zs y w n more at
   pub long : length now ≡ length old
   pub left : copied wd (over (drop n (placed_walk p zs)) (block_cells wd p.strides)) now src ≡ copied wd (walk_cells wd p zs) old src
 
@@ -133,14 +111,15 @@ module _ {p : Plan} {zs : List ℤ} {wd to from : ℕ} (h : Copyable p zs wd to 
         → {t : List ℕ} → t ≡ starts_to w u.counters p.rank → (dst src : List ℕ) → Copies p zs wd y w dst src 0 true (state_of t u.counters u.offsets) dst
     unfolding walk_cells
     copies_start ws l f dst src =
-        record { walked = (walk_of false u.counters u.offsets, running_is, walked_none ws l first_taken f); long = refl; left = refl }
+        record {
+          walking = record { ready = copy_ready h; first = walk_of false u.counters u.offsets; begins = running_is; walked = walked_none ws l first_taken f };
+          long = refl;
+          left = refl;
+        }
 
 -- while it runs
 module _ {p : Plan} {zs : List ℤ} {wd : ℕ} {y : Way} {w old src : List ℕ} (h : Copyable p zs wd (length old) (length src)) {n : ℕ} {at : State} {now : List ℕ}
     (k : Copies p zs wd y w old src n true at now) where
-  pub copies_asks : Strides y p w at
-  copies_asks = walked_asks k.walked.2
-
   -- a stretch of it
   module _ {limit : ℕ} (some : 1 ≤ limit) (most : limit < 2 ^ 63) {r : Next} {first : List ℤ} {at' : State}
       (x : Strode y limit p w at r first at') {d : List ℤ} (d-is : d ≡ moves_of y p) where
@@ -151,13 +130,13 @@ module _ {p : Plan} {zs : List ℤ} {wd : ℕ} {y : Way} {w old src : List ℕ} 
     W = placed_walk p zs
 
     part : drop n W ≡ laid S ++ drop (n + r.count) W
-    part = walked_part k.walked.2 x d-is (copy_ready h) k.walked.1
+    part = walking_part k.walking x d-is
 
     many : length d ≡ 8
-    many = (walked_fit k.walked.2 x d-is).moves
+    many = (walked_fit k.walking.walked x d-is).moves
 
     all : length first ≡ 8
-    all = (walked_fit k.walked.2 x d-is).offered
+    all = (walked_fit k.walking.walked x d-is).offered
 
     laid_in : (b : Placed) → In b (laid S) → In b W
     laid_in b i = in_drop n W b (subst (In b) (sym part) (in_left b (laid S) (drop (n + r.count) W) i))
@@ -172,7 +151,7 @@ module _ {p : Plan} {zs : List ℤ} {wd : ℕ} {y : Way} {w old src : List ℕ} 
     long_as j l = sym (ap (λ (b : Placed). b.length) (block_of j l).2)
 
     pub stretch_some : 1 ≤ r.count
-    stretch_some = walked_some k.walked.2 x some
+    stretch_some = walked_some k.walking.walked x some
 
     cells_of : over (laid S) (block_cells wd p.strides) ≡ stretch_cells wd r.length r.count p.strides d first
     cells_of = stretch-cells wd p.operands p.strides d first r h.two many all
@@ -185,7 +164,7 @@ module _ {p : Plan} {zs : List ℤ} {wd : ℕ} {y : Way} {w old src : List ℕ} 
         let m = in_nth (counters (plan_cut_axes p)) q.0 q.1 in
         let z = length_pos (plan_cut_axes p) m.0 q.0 (wide p zs (copy_ready h)) (state-nth (plan_cut_axes p) (wide p zs (copy_ready h)) m.0 ∙ m.1) in
         let s = h.short q.0 q.1 in
-        let b = walked_most k.walked.2 x in
+        let b = walked_most k.walking.walked x in
         record {
           strides = h.sized.strides_all;
           moves = many;
@@ -226,7 +205,7 @@ module _ {p : Plan} {zs : List ℤ} {wd : ℕ} {y : Way} {w old src : List ℕ} 
         → Copies p zs wd y w old src (n + r.count) r.more at' new
     copies_next {new} e =
         record {
-          walked = (k.walked.0, k.walked.1, walked_next k.walked.2 x);
+          walking = walking_next k.walking x;
           long = ap length e ∙ copied-length wd (stretch_cells wd r.length r.count p.strides d first) now src ∙ k.long;
           left =
               ap (λ (v : List ℕ). copied wd rest v src) (e ∙ ap (λ (l : List Pair). copied wd l now src) (sym cells_of))
@@ -238,18 +217,9 @@ module _ {p : Plan} {zs : List ℤ} {wd : ℕ} {y : Way} {w old src : List ℕ} 
         rest : List Pair
         rest = over (drop (n + r.count) W) (block_cells wd p.strides)
 
-    within : n + r.count ≤ length W
-    within = walked_within (walked_next k.walked.2 x) (copy_ready h) k.walked.1
-
-    pub number_fits : n + r.count < 2 ^ 64
-    number_fits = let a = within in let b = blocks_fit h in omega (arith, a, b)
-
-    pub copies_less : length (placed_walk p zs) - (n + r.count) < length (placed_walk p zs) - n
-    copies_less = let a = within in let b = stretch_some in omega (arith, a, b)
-
 -- at its end nothing is left
 pub copies_end : {p : Plan} {zs : List ℤ} {wd : ℕ} {y : Way} {w old src : List ℕ} → Copyable p zs wd (length old) (length src) → {n : ℕ} {at : State} {now : List ℕ}
     → Copies p zs wd y w old src n false at now → now ≡ copied wd (walk_cells wd p zs) old src
 unfolding copied
 copies_end {p} {zs} {wd} {y} {w} {old} {src} h {n} {at} {now} k =
-    sym (ap (λ (l : List Placed). copied wd (over l (block_cells wd p.strides)) now src) (walked_over k.walked.2 (copy_ready h) k.walked.1)) ∙ k.left
+    sym (ap (λ (l : List Placed). copied wd (over l (block_cells wd p.strides)) now src) (walking_over k.walking)) ∙ k.left

@@ -10,7 +10,7 @@ use lib.IntN.{ℤ, pos}
 use lib.ListN.{length, get_or, drop, drop_of_length-le}
 use lib.Seq.{drop-cons, drop-length}
 use Rattle.strided.specs.Layout.{stride_row, total}
-use Rattle.laws.specs.Base.Rows.{stride_at, length_strides}
+use Rattle.laws.specs.Base.Rows.{length_strides}
 use Rattle.export.specs.Packed.{packed_from}
 
 -- the strides before axis i are right, so that all are where those from it on are, n apart on axis i
@@ -60,9 +60,3 @@ product_end es n i h e =
 module _ (ss : List ℤ) (rank : ℕ) (many : length ss ≡ rank * 2) where
   pub row_long : (k : ℕ) → k < 2 → length (stride_row ss rank k) ≡ rank
   row_long k h = length_strides ss rank 2 k many h
-
-  pub to_at : (i : ℕ) → i < rank → get_or (stride_row ss rank 0) i (pos 0) ≡ get_or ss i (pos 0)
-  to_at i h = stride_at ss rank 0 i h ∙ ap (λ (k : ℕ). get_or ss k (pos 0)) (let e : 0 * rank + i ≡ i = omega arith in e)
-
-  pub from_at : (i : ℕ) → i < rank → get_or (stride_row ss rank 1) i (pos 0) ≡ get_or ss (rank + i) (pos 0)
-  from_at i h = stride_at ss rank 1 i h ∙ ap (λ (k : ℕ). get_or ss k (pos 0)) (let e : 1 * rank + i ≡ rank + i = omega arith in e)

@@ -1,8 +1,8 @@
 -- ROW 17 IS EXACT: it applies exactly if some cell of an operand has a byte before its buffer or behind it.
 -- Assumes nothing.
-use Rattle.std.specs.Prelude.{◌≡◌, refl, ◌↔◌, Bool, true, false, cond, ◌||◌, List, ℕ, zero, suc, ◌+◌, ◌*◌, ◌/◌, ◌≤◌, ◌<◌, T, ltb, ℤ, pos, negsuc, nat_abs, length, get_or}
+use Rattle.std.specs.Prelude.{◌≡◌, refl, ◌↔◌, Bool, true, false, cond, List, ℕ, zero, suc, ◌+◌, ◌*◌, ◌/◌, ◌≤◌, ◌<◌, T, ltb, ℤ, pos, negsuc, nat_abs, length, get_or}
 use Rattle.std.proofs.Common.{sym, ◌∙◌, ⊎_elim, arith, ltb-true, lt-ltb}
-use Rattle.std.proofs.lemmas.Bool.{false≢true}
+use Rattle.std.proofs.lemmas.Bool.{false≢true, or_left, or_right}
 use Rattle.std.specs.Int.Signed.{non_neg}
 use Rattle.strided.specs.Layout.{stride_row, Within}
 use Rattle.laws.specs.Base.Tests.{or_cases}
@@ -73,16 +73,9 @@ module _ (es sizes : List ℕ) (ss zs : List ℤ) (to from : ℕ) (many : length
           ⊎_elim (λ a. found 0 (omega arith) a) (λ b. found 1 (omega arith) b)
           (or_cases (outside_at es sizes ss zs 0 to) (outside_at es sizes ss zs 1 from) e)
 
-      left : (a b : Bool) → a ≡ true → (a || b) ≡ true
-      left a b h = rw h
-
-      right : (a b : Bool) → b ≡ true → (a || b) ≡ true
-      right true b h = refl
-      right false b h = h
-
       pick : (k : ℕ) → k < 2 → outside_at es sizes ss zs k (lengths to from k) ≡ true → (row17 es sizes ss zs to from).applies ≡ true
-      pick zero h e = left (outside_at es sizes ss zs 0 to) (outside_at es sizes ss zs 1 from) e
-      pick (suc zero) h e = right (outside_at es sizes ss zs 0 to) (outside_at es sizes ss zs 1 from) e
+      pick zero h e = or_left (outside_at es sizes ss zs 0 to) (outside_at es sizes ss zs 1 from) e
+      pick (suc zero) h e = or_right (outside_at es sizes ss zs 0 to) (outside_at es sizes ss zs 1 from) e
       pick (suc (suc k)) h e = absurd (let z : ⊥ = omega arith in z)
 
       back : Leaving es sizes ss zs (lengths to from) → (row17 es sizes ss zs to from).applies ≡ true

@@ -70,14 +70,14 @@ module _ (es : List ℕ) (ss : List ℤ) (h : Marking es ss) where
   mark_told = ap (λ (o : Option Refusal). served_unless o (mark_of es (take (length es) ss))) not-refused ∙ ap (λ (ts : List ℤ). Ok (mark_of es ts)) first-row
 
   -- so what it answers says whether row 18 applies
-  pub mark_says : {given : Result Mark Refusal} → given ≡ marked es (take (length es) ss) → {m : Mark} → given ≡ Ok m → not (is_no m) ≡ (row18 es ss).applies
+  pub mark_says : {given : Result Mark Refusal} → given ≡ marked es (stride_row ss (length es) 0) → {m : Mark} → given ≡ Ok m → not (is_no m) ≡ (row18 es ss).applies
   mark_says is q =
-      let e : Ok _ ≡ Ok (mark_of es (stride_row ss (length es) 0)) = sym q ∙ is ∙ mark_told in
+      let e : Ok _ ≡ Ok (mark_of es (stride_row ss (length es) 0)) = sym q ∙ is ∙ ap (marked es) (sym first-row) ∙ mark_told in
       ap (λ (m : Mark). not (is_no m)) (cc e)
 
-  pub mark_given : {given : Result Mark Refusal} → given ≡ marked es (take (length es) ss) → {r : Refusal} → given ≡ Err r → ⊥
+  pub mark_given : {given : Result Mark Refusal} → given ≡ marked es (stride_row ss (length es) 0) → {r : Refusal} → given ≡ Err r → ⊥
   mark_given is {r} q =
-      let e : Err r ≡ Ok (mark_of es (stride_row ss (length es) 0)) = sym q ∙ is ∙ mark_told in
+      let e : Err r ≡ Ok (mark_of es (stride_row ss (length es) 0)) = sym q ∙ is ∙ ap (marked es) (sym first-row) ∙ mark_told in
       cc e
 
 -- ---- what planning's rows have let through

@@ -23,11 +23,10 @@ use Rattle.strided.specs.declared.Purpose.TheVariants.{PointwiseInto}
 use Rattle.strided.specs.declared.Plan.{Plan}
 use Rattle.laws.specs.Base.Lists.{get_d_run}
 use Rattle.laws.specs.Base.Integers.{nat_abs_mul, nat_abs_zero}
-use Rattle.laws.specs.Base.Layouts.{table_row, length-extents}
+use Rattle.laws.specs.Base.Layouts.{table_row}
 use Rattle.laws.specs.Refusals.Accepted.{Accepted, accepted}
 use Rattle.laws.specs.Refusals.Record.{planning_layout}
 use Rattle.laws.specs.Plan.Bounds.{plan_few}
-use Rattle.laws.specs.Plan.Places.{plan_extents_lem, plan_blocks_lem, plan_strides}
 use Rattle.laws.specs.Text.Totals.{planned-extents}
 use Rattle.laws.specs.Text.Begins.{planned_operands}
 use Rattle.laws.specs.Fuse.Maps.{plan_in, orig_in, orig_plan, plan_orig, same-dot}
@@ -37,8 +36,9 @@ use Rattle.laws.specs.Walk.Reach.{state-nth}
 use Rattle.laws.specs.Walk.Places.{MeetsPlan, meets_inside, meets-all}
 use Rattle.laws.specs.Walk.Offsets.{place_offset}
 use Rattle.laws.specs.Walk.Placed.{Placed, placed_from, placed_walk}
-use Rattle.laws.specs.Walk.Steps.{Ready, ready, wide, as_many, rows-many, cut-many}
-use Rattle.advance.specs.Sized.{Sized}
+use Rattle.laws.specs.Walk.Steps.{Ready, ready_sized, wide, as_many, rows-many, cut-many}
+use Rattle.advance.specs.Sized.{whole_sized}
+use Rattle.kernel.proofs.Plans.{planned_whole}
 use Rattle.layout.specs.Lent.{Whole}
 use Rattle.span.specs.Span.{in_cells}
 use Rattle.cells.specs.Copy.{Pair, pair, In, copied, Clear}
@@ -213,34 +213,12 @@ module _ (mc : Machine) (es sizes : List ℕ) (ss : List ℤ) (hp : planning_ref
   extents_are : plan_extents p_plan ≡ extents (plan_axes es (length sizes) ss (PointwiseInto 0))
   extents_are = planned-extents mc es sizes ss (PointwiseInto 0) hp
 
-  rank_is : p_plan.rank ≡ length (plan_axes es (length sizes) ss (PointwiseInto 0))
-  unfolding plan_from
-  rank_is = refl
+  -- it may be lent
+  plan_lent : Whole p_plan
+  plan_lent = planned_whole mc es sizes ss (PointwiseInto 0) hp
 
   pub plan_ready : (zs : List ℤ) → begin_refused p_plan zs ≡ None → Ready p_plan zs
-  plan_ready zs b = ready p_plan zs (ap length extents_are ∙ length-extents (plan_axes es (length sizes) ss (PointwiseInto 0)) ∙ sym rank_is) b
-
-  plan_sized : Sized p_plan
-  plan_sized =
-      record {
-        extents-all = plan_extents_lem mc es sizes (plan_axes es (length sizes) ss (PointwiseInto 0)) (PointwiseInto 0);
-        blocks_all = plan_blocks_lem mc es sizes (plan_axes es (length sizes) ss (PointwiseInto 0)) (PointwiseInto 0);
-        strides_all = plan_strides mc es sizes (plan_axes es (length sizes) ss (PointwiseInto 0)) (PointwiseInto 0);
-      }
-
-  -- so that it may be lent
-  pub plan_whole : Whole p_plan
-  plan_whole =
-      let s = plan_sized in
-      let o = planned_operands mc es sizes ss (PointwiseInto 0) hp in
-      record {
-        axes = omega (arith, rank_is, plan_few es sizes ss (PointwiseInto 0) taken);
-        one = omega (arith, o, taken.one);
-        few = omega (arith, o, taken.few);
-        extents-all = s.extents-all;
-        blocks_all = s.blocks_all;
-        strides_all = s.strides_all;
-      }
+  plan_ready zs b = ready_sized p_plan zs plan_lent.extents-all b
 
   module _ (zs : List ℤ) (b : begin_refused p_plan zs ≡ None) where
     -- what stands in a block of it
@@ -301,7 +279,7 @@ module _ (mc : Machine) (es sizes : List ℕ) (ss : List ℤ) (hp : planning_ref
       pub plan_copyable : to < 2 ^ 63 → Copyable p_plan zs (width_of sizes) to from
       plan_copyable f =
           record {
-            sized = plan_sized;
+            sized = whole_sized plan_lent;
             begins = b;
             two = planned_operands mc es sizes ss (PointwiseInto 0) hp ∙ c.two;
             some = c.some;

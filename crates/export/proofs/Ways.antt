@@ -3,7 +3,7 @@
 use mathlib.Core.Path.{◌≡◌, refl, sym, ap, ap₂, ◌∙◌, subst}
 use mathlib.Core.Bool.{Bool, true, false, cond, not}
 use mathlib.Core.List.{List, ◌∷◌}
-use Rattle.std.specs.Prelude.{None, Some, Ok, Err, Result, eqb}
+use Rattle.std.specs.Prelude.{None, Some, Ok, Err, Result}
 use Prim.Native.Nat.{ℕ, ◌*◌, ◌^◌, ◌<◌}
 use native.Mathlib.Omega.{arith}
 use lib.IntN.{ℤ, pos}
@@ -12,8 +12,7 @@ use borrow.Author.Tests.{eq-eqb, ne_eqb}
 use Rattle.strided.specs.Layout.{stride_row}
 use Rattle.strided.specs.Refusals.{Row, refused_by, answered, row8, row9, planning_refused}
 use Rattle.strided.specs.Plan.{the_plan}
-use Rattle.strided.specs.Begin.{plan_extents, plan_row, begin_rows, begin_refused, begun_at, started}
-use Rattle.strided.specs.Text.{zero_starts}
+use Rattle.strided.specs.Begin.{begin_refused, begun_at, started}
 use Rattle.strided.specs.Memory.{plan_of}
 use Rattle.strided.specs.declared.Machine.{Machine}
 use Rattle.strided.specs.declared.Plan.{Plan}
@@ -22,14 +21,9 @@ use Rattle.strided.specs.declared.Purpose.TheVariants.{PointwiseInto}
 use Rattle.strided.specs.declared.Refusal.{Refusal}
 use Rattle.strided.specs.declared.Refusal.TheVariants.{StartCount, Offsets}
 use Rattle.laws.specs.Base.Arrays.{take_counted}
-use Rattle.laws.specs.Base.Refusals.{NoneApplies, none_applies}
-use Rattle.laws.specs.Plan.Begins.{begins_to, begins_from}
-use Rattle.laws.specs.Refusals.Accepted.{Accepted, accepted}
-use Rattle.laws.specs.Refusals.Record.{planning_layout}
+use Rattle.laws.specs.Plan.Begins.{begins_to, begins_from, begins_offsets}
 use Rattle.laws.specs.Refusals.Rows.{served_none, served_is, refused_some}
-use Rattle.laws.specs.Text.Begins.{planned_operands, planned_begins}
 use Rattle.kernel.specs.Made.{Made}
-use Rattle.layout.specs.Lent.{Whole}
 use Rattle.cells.specs.Copy.{moved, copied}
 use Rattle.cells.specs.Offsets.{place_at}
 use Rattle.export.specs.Export.{width_of, exported, cell_rows, copy_refused, copy_done, Done}
@@ -37,7 +31,7 @@ use Rattle.export.specs.Rows.{copy_as_planning, copy_planned, Clean, clean}
 use Rattle.export.specs.Packed.{Plain}
 use Rattle.export.proofs.Plains.{plain_passes, plain_row9, plain_exported}
 use Rattle.export.specs.Blocks.{walk_cells, starts_of, Copyable}
-use Rattle.export.proofs.Walks.{plan_whole, plan_copyable, walk-exported}
+use Rattle.export.proofs.Walks.{plan_copyable, walk-exported}
 
 module _ (mc : Machine) (es sizes : List ℕ) (ss zs : List ℤ) (dst src : List ℕ) where
   -- what the definition says, once it is known what is refused
@@ -51,9 +45,8 @@ module _ (mc : Machine) (es sizes : List ℕ) (ss zs : List ℤ) (dst src : List
   served_done e o = rw e (record { answer = refl; destination = o })
 
   -- planning refuses
-  pub not-planned : {r : Refusal} → Err r ≡ answered (planning_refused mc es sizes ss (PointwiseInto 0)) → Done (copy_done mc es sizes ss zs dst src) dst dst (Err r)
-  not-planned {r} e =
-      refused_done (copy_as_planning mc es sizes ss zs (length dst) (length src) r (refused_some (planning_refused mc es sizes ss (PointwiseInto 0)) tt (sym e)))
+  pub not-planned : {r : Refusal} → planning_refused mc es sizes ss (PointwiseInto 0) ≡ Some r → Done (copy_done mc es sizes ss zs dst src) dst dst (Err r)
+  not-planned {r} e = refused_done (copy_as_planning mc es sizes ss zs (length dst) (length src) r e)
 
   module _ (hp : planning_refused mc es sizes ss (PointwiseInto 0) ≡ None) where
     abbrev nine : Row
@@ -64,9 +57,6 @@ module _ (mc : Machine) (es sizes : List ℕ) (ss zs : List ℤ) (dst src : List
 
     rest : copy_refused mc es sizes ss zs (length dst) (length src) ≡ refused_by (row8 (length sizes) zs ∷ nine ∷ cells)
     rest = copy_planned mc es sizes ss zs (length dst) (length src) hp
-
-    pub planned_taken : Accepted es sizes ss (PointwiseInto 0)
-    planned_taken = accepted es sizes ss (PointwiseInto 0) (planning_layout mc es sizes ss (PointwiseInto 0) hp)
 
     -- row 8
     pub no_starts : (length zs ≡ length sizes → ⊥) → Done (copy_done mc es sizes ss zs dst src) dst dst (Err StartCount)
@@ -82,28 +72,9 @@ module _ (mc : Machine) (es sizes : List ℕ) (ss zs : List ℤ) (dst src : List
     plain_done p out o =
         served_done (eight p.starts ∙ ap (λ (b : Bool). cond b (Some Offsets) (refused_by cells)) (plain_row9 p) ∙ plain_passes p) (o ∙ sym (plain_exported p dst src))
 
-    -- the plan that is made may be lent
-    pub made_whole : {rank : ℕ} {E B : List ℕ} {S : List ℤ} → Made mc es sizes ss (PointwiseInto 0) rank E B S → Whole (plan_of rank (length sizes) E B S)
-    made_whole made = subst Whole (sym made.is) (plan_whole mc es sizes ss hp)
-
     module _ (many : length zs ≡ length sizes) (rank : ℕ) (E B : List ℕ) (S : List ℤ) (made : Made mc es sizes ss (PointwiseInto 0) rank E B S) where
       abbrev P : Plan
       P = the_plan mc es sizes ss (PointwiseInto 0)
-
-      -- of the rows of its beginning only 9 can apply
-      begin_is : begin_refused P zs ≡ cond (row9 (plan_extents P) P.operands (plan_row P) zs).applies (Some Offsets) None
-      unfolding begin_refused NoneApplies
-      begin_is =
-          let n : NoneApplies (begin_rows P (zero_starts P)) = none_applies (begin_rows P (zero_starts P)) (planned_begins mc es sizes ss (PointwiseInto 0) hp) in
-          let few : not (eqb (length zs) P.operands) ≡ false = ap not (eq-eqb (length zs) P.operands (many ∙ sym (planned_operands mc es sizes ss (PointwiseInto 0) hp))) in
-          rw (n.0, n.1.0, n.1.1.0, n.1.1.1.0, few)
-
-      only_offsets : (r : Refusal) → begin_refused P zs ≡ Some r → r ≡ Offsets
-      only_offsets r q = go (row9 (plan_extents P) P.operands (plan_row P) zs).applies (sym begin_is ∙ q)
-        where
-          go : (b : Bool) → cond b (Some Offsets) None ≡ Some r → r ≡ Offsets
-          go true e = cc e
-          go false e = cc e
 
       module _ (a : Result Walk Refusal) (is : a ≡ begun_at (plan_of rank (length sizes) E B S) zs) where
         begun_is : a ≡ begun_at P zs
@@ -112,7 +83,7 @@ module _ (mc : Machine) (es sizes : List ℕ) (ss zs : List ℤ) (dst src : List
         -- row 9
         pub offsets_leave : (r : Refusal) → a ≡ Err r → Done (copy_done mc es sizes ss zs dst src) dst dst (Err r)
         unfolding begun_at
-        offsets_leave r e = refused_done (eight many ∙ go nine.applies refl ∙ ap (λ (s : Refusal). Some s) (sym (only_offsets r leave)))
+        offsets_leave r e = refused_done (eight many ∙ go nine.applies refl ∙ ap (λ (s : Refusal). Some s) (sym (begins_offsets mc es sizes ss (PointwiseInto 0) hp zs many r leave)))
           where
             leave : begin_refused P zs ≡ Some r
             leave = refused_some (begin_refused P zs) _ (sym begun_is ∙ e)

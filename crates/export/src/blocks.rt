@@ -5,10 +5,9 @@ ghost use Rattle.cells.specs.Copy.{copied};
 ghost use Rattle.export.specs.Blocks.{walk_cells, starts_of, Copyable};
 
 use super::patch::copy_stretch;
-use advance::{State, tile_starts, widths};
 use layout::LentPlan;
 use strided::Walk;
-use walker::{moves_of, take_stretch, way_of};
+use walker::Course;
 
 // A stretch has at most so many blocks: as many as a patch may have.
 const MOST: u64 = 1 << 62;
@@ -23,21 +22,16 @@ pub fn copy_blocks(plan: &LentPlan, width: usize, walk: Walk, destination: &mut 
     if walk.ended {
         return;
     }
-    let w = widths(plan);
-    let y = way_of(plan, &w);
-    let d = moves_of(y, plan);
+    let course = Course::of(plan);
+    let d = course.moves();
     let counters = walk.counters;
     let offsets = walk.offsets;
-    let mut at = State {
-        tile_starts: tile_starts(plan, &w, &counters),
-        counters,
-        offsets,
-    };
+    let mut at = course.state_at(counters, offsets);
     let mut first = offsets;
     let mut more = true;
     let mut number: u64 = 0;
     while more {
-        let x = take_stretch(y, MOST, plan, &w, &mut at, &mut first);
+        let x = course.take_stretch(MOST, &mut at, &mut first);
         copy_stretch(
             x,
             width,

@@ -11,7 +11,7 @@ ghost use Rattle.export.specs.Export.{copy_done, Done};
 
 use asked::Asked;
 use blocks::copy_blocks;
-use cells::bytes::move_pieces;
+use cells::move_pieces;
 use kernel::{Aim, plan_into};
 use layout::{LentPlan, check_planning};
 use packed::plain_cells;
@@ -32,8 +32,8 @@ fn copy_planned(
     destination: &mut [u8],
     source: &[u8],
 ) -> Result<(), Refusal>
-    requires { planning_refused machine asked.extents.now asked.sizes.now asked.strides.now (PointwiseInto 0) ≡ None }
-    ensures { let a = asked.entry in Done (copy_done machine a.extents.now a.sizes.now a.strides.now a.starts.now destination.old source.now)
+    requires { planning_refused machine asked.layout.extents.now asked.sizes.now asked.layout.strides.now (PointwiseInto 0) ≡ None }
+    ensures { let a = asked.entry in Done (copy_done machine a.layout.extents.now a.sizes.now a.layout.strides.now a.starts.now destination.old source.now)
         destination.old destination.new result }
 {
     if asked.starts.len() != asked.sizes.len() {
@@ -44,15 +44,7 @@ fn copy_planned(
     let mut s = [0i64; 512];
     let purpose = Purpose::PointwiseInto(0);
     let aim = Aim { purpose, machine };
-    let rank = plan_into(
-        aim,
-        asked.extents,
-        asked.sizes,
-        asked.strides,
-        &mut e,
-        &mut b,
-        &mut s,
-    );
+    let rank = plan_into(aim, asked.layout, asked.sizes, &mut e, &mut b, &mut s);
     let plan = LentPlan {
         rank,
         operands: asked.sizes.len(),
@@ -83,8 +75,8 @@ fn copy_accepted(
     destination: &mut [u8],
     source: &[u8],
 ) -> Result<(), Refusal>
-    requires { planning_refused machine asked.extents.now asked.sizes.now asked.strides.now (PointwiseInto 0) ≡ None }
-    ensures { let a = asked.entry in Done (copy_done machine a.extents.now a.sizes.now a.strides.now a.starts.now destination.old source.now)
+    requires { planning_refused machine asked.layout.extents.now asked.sizes.now asked.layout.strides.now (PointwiseInto 0) ≡ None }
+    ensures { let a = asked.entry in Done (copy_done machine a.layout.extents.now a.sizes.now a.layout.strides.now a.starts.now destination.old source.now)
         destination.old destination.new result }
 {
     let to = destination.len();
@@ -95,7 +87,8 @@ fn copy_accepted(
     let width = asked.sizes[0] as usize;
     let d = first_byte(asked.starts[0], width);
     let s = first_byte(asked.starts[1], width);
-    move_pieces(destination, d, source, s, (cells as usize) * width);
+    let n = (cells as usize) * width;
+    move_pieces(&mut destination[d..d + n], &source[s..s + n]);
     Ok(())
 }
 
@@ -113,11 +106,10 @@ pub fn copy<'a>(
         destination.old source.now) destination.old destination.new result }
 {
     let purpose = Purpose::PointwiseInto(0);
-    check_planning(extents, sizes, strides, purpose, machine)?;
+    let layout = check_planning(extents, sizes, strides, purpose, machine)?;
     let asked = Asked {
-        extents,
+        layout,
         sizes,
-        strides,
         starts,
     };
     copy_accepted(asked, machine, destination, source)

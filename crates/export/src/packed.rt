@@ -17,16 +17,18 @@ fn differs(stride: i64, n: u64) -> bool
 
 // How many cells there are, where the strides of two operands are those of cells without gaps.
 fn gapless(asked: Asked) -> Option<u64>
-    requires { (0 < total asked.extents.now) × (length asked.sizes.now ≡ 2) }
-    ensures { let a = asked.entry in IfSome result (Gapless a.extents.now a.strides.now) }
+    requires { (0 < total asked.layout.extents.now) × (length asked.sizes.now ≡ 2) }
+    ensures { let a = asked.entry in IfSome result (Gapless a.layout.extents.now a.layout.strides.now) }
 {
-    let rank = asked.extents.len();
+    let rank = asked.layout.extents.len();
+    let to = asked.layout.row(0).strides;
+    let from = asked.layout.row(1).strides;
     let mut n: u64 = 1;
     for i in 0..rank {
-        if differs(asked.strides[i], n) || differs(asked.strides[rank + i], n) {
+        if differs(to[i], n) || differs(from[i], n) {
             return None;
         }
-        n *= asked.extents[i];
+        n *= asked.layout.extents[i];
     }
     Some(n)
 }
@@ -45,9 +47,9 @@ fn beyond(start: i64, cells: u64, size: u64, len: usize) -> bool
 // not be asked: where each stride exceeds the reach of those before it, it is no.
 pub fn plain_cells(asked: Asked, to: usize, from: usize) -> Option<u64>
     requires { (to < 2 ^ 63) × (from < 2 ^ 63) }
-    ensures { let a = asked.entry in IfSome result (Plain a.extents.now a.sizes.now a.strides.now a.starts.now to from) }
+    ensures { let a = asked.entry in IfSome result (Plain a.layout.extents.now a.sizes.now a.layout.strides.now a.starts.now to from) }
 {
-    if sizes_wrong(asked.sizes) || asked.starts.len() != 2 || has_zero(asked.extents) {
+    if sizes_wrong(asked.sizes) || asked.starts.len() != 2 || has_zero(asked.layout.extents) {
         return None;
     }
     let cells = gapless(asked)?;

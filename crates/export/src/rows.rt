@@ -21,16 +21,12 @@ pub fn sizes_wrong(sizes: &[u64]) -> bool
 fn outside_at(asked: Asked, k: usize, len: usize) -> bool
     requires there { (k < length asked.sizes.now) × (length asked.starts.now ≡ length asked.sizes.now) }
     requires some { 0 < get_or asked.sizes.now k 0 }
-    ensures { let a = asked.entry in result ≡ outside a.extents.now (stride_row a.strides.now (length a.extents.now) k)
+    ensures { let a = asked.entry in result ≡ outside a.layout.extents.now (stride_row a.layout.strides.now (length a.layout.extents.now) k)
         (get_or a.starts.now k (pos 0)) (len / get_or a.sizes.now k 0) }
 {
-    let rank = asked.extents.len();
-    let from = k * rank;
-    let strides = asked.strides;
-    let row = &strides[from..from + rank];
     cell_outside(
-        asked.extents,
-        row,
+        asked.layout.extents,
+        asked.layout.row(k).strides,
         asked.starts[k],
         (len as u64) / asked.sizes[k],
     )
@@ -39,10 +35,9 @@ fn outside_at(asked: Asked, k: usize, len: usize) -> bool
 // Row 18.
 // Kept: an arm for each mark, and not `!matches!`: the row says of each what it counts as.
 fn repeats(asked: Asked) -> bool
-    ensures { let a = asked.entry in result ≡ (row18 a.extents.now a.strides.now).applies }
+    ensures { let a = asked.entry in result ≡ (row18 a.layout.extents.now a.layout.strides.now).applies }
 {
-    let strides = asked.strides;
-    match repeat_mark(asked.extents, &strides[..asked.extents.len()]) {
+    match repeat_mark(asked.layout.extents, asked.layout.row(0).strides) {
         Ok(Mark::No) => false,
         Ok(Mark::Yes) => true,
         Ok(Mark::Undecided) => true,
@@ -53,7 +48,7 @@ fn repeats(asked: Asked) -> bool
 // Rows 16, 17 and 18, where there is a start for each operand. `to` and `from` are the lengths of the buffers.
 pub fn check_cells(asked: Asked, to: usize, from: usize) -> Result<(), Refusal>
     requires { length asked.starts.now ≡ length asked.sizes.now }
-    ensures { let a = asked.entry in result ≡ answered (refused_by (cell_rows a.extents.now a.sizes.now a.strides.now a.starts.now to from)) }
+    ensures { let a = asked.entry in result ≡ answered (refused_by (cell_rows a.layout.extents.now a.sizes.now a.layout.strides.now a.starts.now to from)) }
 {
     if sizes_wrong(asked.sizes) {
         return Err(Refusal::CopySizes);

@@ -2,7 +2,7 @@
 use mathlib.Core.Path.{◌≡◌, refl, sym, ap, ◌∙◌, subst}
 use mathlib.Core.Bool.{Bool, true, false}
 use mathlib.Core.List.{List, [], ◌∷◌}
-use Rattle.std.specs.Prelude.{None, Some, Ok, Err, Result}
+use Rattle.std.specs.Prelude.{Some, Ok, Err, Result}
 use Prim.Native.Nat.{ℕ, ◌<◌, ◌^◌}
 use lib.IntN.{ℤ}
 use lib.ListN.{length, get_or}
@@ -16,11 +16,12 @@ use Rattle.strided.specs.declared.Purpose.{Purpose}
 use Rattle.strided.specs.declared.Refusal.{Refusal}
 use Rattle.strided.specs.declared.Refusal.TheVariants.{Index}
 use Rattle.strided.specs.declared.Told.{Told}
-use Rattle.laws.specs.Base.Refusals.{layout_counts}
 use Rattle.laws.specs.Refusals.Accepted.{accepted}
-use Rattle.layout.specs.Fitting.{Fitting}
+use Rattle.layout.specs.declared.slices.Layout.{Layout}
+use Rattle.layout.specs.Checked.{Laid}
+use Rattle.layout.proofs.Checks.{laid_is}
 use Rattle.finding.specs.Memory.{Leaves}
-use Rattle.finding.specs.Mapped.{Fused, Sound, unraveled_by, raveled_by, unraveled}
+use Rattle.finding.specs.Mapped.{Fused, Sound, unraveled_by, raveled_by, unraveled, found_original}
 use Rattle.finding.proofs.Maps.{extents_are, unraveled_is, raveled_is}
 
 pub same-told : {s t : Result Told Refusal} {c x c' x' : List ℕ} {r : Result (Unit {0}) Refusal} → s ≡ t → Leaves s c x c' x' r → Leaves t c x c' x' r
@@ -52,24 +53,20 @@ module _ {es : List ℕ} {m : ℕ} {ss : List ℤ} {u : Purpose} {order fused : 
 
 -- ---- the entries: planning's rows first
 
-module _ (es sizes : List ℕ) (ss : List ℤ) (u : Purpose) (h : layout_refused es sizes ss u ≡ None) where
-  pub fitting : Fitting ss (length es) (length sizes)
-  fitting = let n = layout_counts es sizes ss u h in record { rank-few = n.axes; operands_few = n.operands; strides_all = n.strides }
+module _ (es sizes : List ℕ) (ss : List ℤ) (u : Purpose) {l : Layout} (c : Laid (layout_refused es sizes ss u) es sizes ss l) where
+  pub cells-few : total l.extents.now < 2 ^ 64
+  cells-few = rw c.extents ((accepted es sizes ss u c.served).cells)
 
-  pub cells-few : total es < 2 ^ 64
-  cells-few = (accepted es sizes ss u h).cells
+  module _ (x : List ℕ) where
+    pub original_passed : found_original l.extents.now l.operands l.strides.now u x ≡ told_original es sizes ss u x
+    unfolding told_original
+    original_passed = laid_is c (λ e m s. found_original e m s u x) ∙ rw c.served
+
+    pub plan_passed : served_unless (refused_by (row11 l.extents.now x ∷ [])) (told (index_in_plan l.extents.now l.operands l.strides.now u x)) ≡ told_plan es sizes ss u x
+    unfolding told_plan
+    plan_passed = laid_is c (λ e m s. served_unless (refused_by (row11 e x ∷ [])) (told (index_in_plan e m s u x))) ∙ rw c.served
 
 module _ (es sizes : List ℕ) (ss : List ℤ) (u : Purpose) (x : List ℕ) where
-  pub original_passed : layout_refused es sizes ss u ≡ None
-      → served_unless (refused_by (row11 (extents (plan_axes es (length sizes) ss u)) x ∷ [])) (told (original_index es (length sizes) ss u x)) ≡ told_original es sizes ss u x
-  unfolding told_original
-  original_passed h = rw h
-
-  pub plan_passed : layout_refused es sizes ss u ≡ None
-      → served_unless (refused_by (row11 es x ∷ [])) (told (index_in_plan es (length sizes) ss u x)) ≡ told_plan es sizes ss u x
-  unfolding told_plan
-  plan_passed h = rw h
-
   module _ (r : Refusal) (h : layout_refused es sizes ss u ≡ Some r) {c i : List ℕ} where
     pub original_refused : Leaves (told_original es sizes ss u x) c i c i (Err r)
     unfolding told_original

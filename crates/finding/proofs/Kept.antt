@@ -16,7 +16,7 @@ use Rattle.strided.specs.Layout.{within}
 use Rattle.laws.specs.Cut.Ranges.{le_or_lt}
 use Rattle.laws.specs.Fuse.Radix.{kept}
 use Rattle.finding.specs.Mapped.{or_one, kept_extents}
-use Rattle.finding.proofs.Ranges.{other_length}
+use Rattle.layout.proofs.Ranges.{other_length}
 
 -- ---- the kept extents from place i on
 

@@ -1,4 +1,3 @@
-pub mod Ranges
 pub mod Kept
 pub mod Turns
 pub mod Maps

@@ -19,11 +19,10 @@ use Rattle.laws.specs.Fuse.Joined.{extents-keep}
 use Rattle.laws.specs.Fuse.Radix.{kept}
 use Rattle.laws.specs.Fuse.Maps.{plan_nozero}
 use Rattle.laws.specs.Fuse.Finding.{fusing_length, fusing_below, fusing_total}
-use Rattle.laws.specs.Fuse.Places.{axes_by}
 use Rattle.layout.specs.Fitting.{Fitting}
 use Rattle.arrange.specs.Axes.{InOrder}
 use Rattle.arrange.specs.Fusing.{take_order, in_order_lem}
-use Rattle.fuse.proofs.Planning.{put-axes}
+use Rattle.fuse.specs.Planned.{extents_in}
 use Rattle.finding.specs.Mapped.{Fused, Sound, fused_extents, or_one, kept_extents, or_nought, unraveled, raveled}
 
 -- ---- made
@@ -33,18 +32,11 @@ module _ (es : List ℕ) (m : ℕ) (ss : List ℤ) (u : Purpose) (fits : Fitting
   pub ordered : InOrder (length es) (take (length es) order)
   ordered = in_order_lem es m ss u fits.rank-few is
 
-  -- the rows that are fused are the layout's
-  pub fused_made : {rs : List ℤ} {p o : ℕ} → rs ≡ ss → p ≡ length es → o ≡ m
-      → {E : List ℕ} → E ≡ padded 64 0 (pick 0 es (take (length es) order))
-      → {F : List ℕ} → F ≡ padded 64 0 (extents (fuse (axes_by rs p o (take (length es) order) (take (length (take (length es) order)) E))))
-      → Fused es m ss u order F
-  fused_made same pitch operands put fused =
+  pub fused_made : {F : List ℕ} → F ≡ padded 64 0 (extents_in es m ss (take (length es) order)) → Fused es m ss u order F
+  fused_made made =
       record {
         order_is = is;
-        fused_is =
-            fused
-            ∙ ap (λ (xs : List Axis). padded 64 0 (extents (fuse xs)))
-            (put-axes es fits ordered same pitch operands put ∙ ap (pick no_axis (axes_of es m ss)) (take_order es m ss u fits.rank-few is));
+        fused_is = made ∙ ap (λ (o : List ℕ). padded 64 0 (extents_in es m ss o)) (take_order es m ss u fits.rank-few is);
       }
 
 -- ---- an axis stays where none is kept

@@ -3,7 +3,7 @@ use mathlib.Core.Path.{◌≡◌, refl, sym, ap, ap₂, ◌∙◌, subst}
 use mathlib.Core.Bool.{Bool, true, false, cond}
 use mathlib.Core.List.{List, [], ◌∷◌, ◌++◌, append-nil}
 use Prim.Native.Nat.{ℕ, zero, suc, ◌+◌, ◌-◌, ◌*◌, ◌/◌, ◌%◌, ◌^◌, ◌≤◌, ◌<◌}
-use native.Mathlib.Nat.{mul_comm, mul-pos, le_refl, le_trans}
+use native.Mathlib.Nat.{mul_comm, mul-pos, le_trans}
 use native.Mathlib.Numerals.{add-one}
 use native.Mathlib.Omega.{arith}
 use lib.Arith.{digits_lt}
@@ -15,7 +15,7 @@ use Rattle.strided.specs.Base.{padded, unless}
 use Rattle.strided.specs.Layout.{Within, NoZero, total}
 use Rattle.strided.specs.Order.{pick, place}
 use Rattle.strided.specs.Index.{hd, tl, unravel, ravel, ravel_step, Raveled}
-use Rattle.laws.specs.Base.Layouts.{within-length}
+use Rattle.laws.specs.Base.Layouts.{within-length, within-drop, within-total, nozero_at, total_nozero, total-drop}
 use Rattle.laws.specs.Base.Stores.{set-padded, blank-first}
 use Rattle.laws.specs.Order.Picked.{length-pick, length-place}
 use Rattle.laws.specs.Fuse.Radix.{kept}
@@ -83,22 +83,6 @@ left_lt (e ∷ es) (f ∷ fs) (i ∷ is) r = go (eqb f 1) (left_lt es fs is r.1)
     go true h = rw (mul_comm e (total es)) (digits_lt h r.0)
     go false h = mul-pos (omega (arith, r.0)) (omega arith)
 
-within-drop : (E I : List ℕ) (i : ℕ) → Within E I → Within (drop i E) (drop i I) × (total (drop i E) ≤ total E)
-within-drop E I zero r = (r, le_refl (total E))
-within-drop [] [] (suc i) r = (tt, le_refl 1)
-within-drop [] (x ∷ I) (suc i) r = absurd r
-within-drop (e ∷ E) [] (suc i) r = absurd r
-within-drop (e ∷ E) (x ∷ I) (suc i) r =
-    let h : Within (drop i E) (drop i I) × (total (drop i E) ≤ total E) = within-drop E I i r.1 in
-    (h.0, le_trans h.1 (grow e (total E) (omega (arith, r.0))))
-  where
-    grow : (e p : ℕ) → 0 < e → p ≤ e * p
-    grow zero p h = absurd (bad h)
-      where
-        bad : 0 < 0 → ⊥
-        bad h = omega arith
-    grow (suc e) p h = omega arith
-
 -- as many counters as extents are kept
 length-counters : (es fs is : List ℕ) → length fs ≡ length es → length is ≡ length es → length (ravel es fs is).counters ≡ length (kept fs)
 length-counters [] [] is p q = refl
@@ -129,11 +113,10 @@ module _ (E F I : List ℕ) (h : ℕ) (a : h < length E) (b : h < length F) (d :
   -- the sum of a turn is below the total
   sum_fits_lem : Within E I → total E < 2 ^ 64 → sum < 2 ^ 64
   sum_fits_lem r t =
-      let w : Within (drop h E) (drop h I) × (total (drop h E) ≤ total E) = within-drop E I h r in
-      let w' : Within (get_or E h 0 ∷ drop (suc h) E) (get_or I h 0 ∷ drop (suc h) I) = rw (drop-cons E h 0 a, drop-cons I h 0 d) at w.0 in
+      let w' : Within (get_or E h 0 ∷ drop (suc h) E) (get_or I h 0 ∷ drop (suc h) I) = rw (drop-cons E h 0 a, drop-cons I h 0 d) at (within-drop E I h r) in
       let p : total (drop h E) ≡ get_or E h 0 * total (drop (suc h) E) = ap total (drop-cons E h 0 a) in
       let s : sum < total (drop (suc h) E) * get_or E h 0 = digits_lt (left_lt (drop (suc h) E) (drop (suc h) F) (drop (suc h) I) w'.1) w'.0 in
-      omega (arith, w.1, p, s, mul_comm (get_or E h 0) (total (drop (suc h) E)))
+      omega (arith, total-drop E h (total_nozero E (within-total E I r)), p, s, mul_comm (get_or E h 0) (total (drop (suc h) E)))
 
 -- the axes from i on are done: j counters are still to be stored
 pub record Back (E F I : List ℕ) (i j z : ℕ) (out : List ℕ) : Type 0 where
@@ -212,14 +195,6 @@ back_end E F I j z out p q t = t.stored ∙ ap (padded 64 0) (go (kept F) F (rav
 
 -- ---- on the arrays of a map
 
-positive_at : (es : List ℕ) (i : ℕ) → NoZero es → i < length es → 0 < get_or es i 0
-positive_at [] i p h = absurd (bad h)
-  where
-    bad : i < 0 → ⊥
-    bad h = omega arith
-positive_at (e ∷ es) zero p h = p.0
-positive_at (e ∷ es) (suc i) p h = positive_at es i p.1 (omega arith)
-
 -- the axes before i are told, and what is left tells the others
 pub record Telling (es order fused cs : List ℕ) (i j x : ℕ) (out : List ℕ) : Type 0 where
   pub few : i ≤ length es
@@ -271,7 +246,7 @@ module _ {es order fused : List ℕ} (t : Sound es order fused) where
     fused_at_lem = get_or-take n fused i 0 h
 
     pub extent_positive : NoZero es → 0 < get_or es (get_or order i 0) 0
-    extent_positive z = positive_at es (get_or order i 0) z axis_there
+    extent_positive z = nozero_at es (get_or order i 0) z axis_there
 
   module _ (cs : List ℕ) where
     pub tell_none : (out : List ℕ) → out ≡ replicate 64 0 → Telling es order fused cs 0 0 0 out
@@ -341,9 +316,6 @@ module _ {es order fused : List ℕ} (t : Sound es order fused) where
     module _ (i j z : ℕ) (out : List ℕ) (p : 0 < i) (g : i ≤ length es) (d : Done es order fused is i j z out) where
       here : i - 1 < length es
       here = omega arith
-
-      abbrev sum-here : ℕ
-      sum-here = z * get_or es (get_or order (i - 1) 0) 0 + get_or is (get_or order (i - 1) 0) 0
 
       index_at : get_or (pick 0 is (take (length es) order)) (i - 1) 0 ≡ get_or is (get_or order (i - 1) 0) 0
       index_at = get_d_pick 0 is o (i - 1) (omega (arith, order_counted, here)) ∙ ap (λ (a : ℕ). get_or is a 0) (get_or-take n order (i - 1) 0 here)

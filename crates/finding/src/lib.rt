@@ -2,13 +2,14 @@
 // alone, so a caller needs no plan at hand. What they need of the plan is a map, which is made once.
 #![tactic(auto)]
 
-ghost use Rattle.std.specs.Prelude.{◌≡◌, ◌^◌, ◌<◌, length, take, replicate};
+ghost use Rattle.std.specs.Prelude.{◌≡◌, ◌^◌, ◌<◌, length, take};
 ghost use Rattle.strided.specs.Layout.{total};
 ghost use Rattle.strided.specs.Index.{told_original, told_plan};
 ghost use Rattle.finding.specs.Mapped.{Fused, Mapped, Usable, kept_extents, unraveled_by, raveled_by, found_original, TellsOriginal, TellsPlan};
 ghost use Rattle.finding.specs.Memory.{Leaves};
 
-use layout::{Layout, check_layout};
+use fuse::fused_into;
+use layout::{Layout, check_layout, within};
 use radix::LentMap;
 use strided::{Purpose, Refusal, Told};
 
@@ -25,15 +26,13 @@ pub struct Map {
     pub fused: [u64; 64],
 }
 
-// The map's arrays, written into arrays of zeros. The weights that the order goes by are made where the fused extents come to stand.
+// The map's arrays. The weights that the order goes by are made where the fused extents come to stand.
 pub fn map_into(layout: Layout, purpose: Purpose, order: &mut [usize; 64], fused: &mut [u64; 64])
-    requires { (order.old ≡ replicate 64 0) × (fused.old ≡ replicate 64 0) }
     ensures { Fused layout.entry.extents.now layout.entry.operands layout.entry.strides.now purpose order.new fused.new }
 {
     let rank = layout.extents.len();
     order::fusing_order_into(layout, purpose, &mut *fused, &mut *order);
-    arrange::pick_into(layout.extents, &order[..rank], &mut *fused);
-    fuse::fuse_dims(&mut *fused, layout.rows(), &order[..rank]);
+    fused_into(layout, &order[..rank], &mut *fused);
 }
 
 // The map of a layout that is not refused.
@@ -85,7 +84,7 @@ fn plan_by_into(
     ensures { Leaves (raveled_by map.entry.extents.now map.entry.order.now map.entry.fused.now original.now)
         count.old index.old count.new index.new result }
 {
-    if !radix::within(map.extents, original) {
+    if !within(map.extents, original) {
         return Err(Refusal::Index);
     }
     *count = [rank];
@@ -172,12 +171,7 @@ pub fn original_index_into<'a>(
     ensures { Leaves (told_original extents.now sizes.now strides.now purpose counters.now)
         count.old index.old count.new index.new result }
 {
-    check_layout(extents, sizes, strides, purpose)?;
-    let layout = Layout {
-        extents,
-        strides,
-        operands: sizes.len(),
-    };
+    let layout = check_layout(extents, sizes, strides, purpose)?;
     original_of_into(layout, purpose, counters, count, index)
 }
 
@@ -194,18 +188,13 @@ pub fn plan_index_into<'a>(
     ensures { Leaves (told_plan extents.now sizes.now strides.now purpose original.now)
         count.old index.old count.new index.new result }
 {
-    check_layout(extents, sizes, strides, purpose)?;
-    let layout = Layout {
-        extents,
-        strides,
-        operands: sizes.len(),
-    };
+    let layout = check_layout(extents, sizes, strides, purpose)?;
     let mut order = [0usize; 64];
     let mut fused = [0u64; 64];
     map_into(layout, purpose, &mut order, &mut fused);
-    let rank = radix::plan_rank(&fused[..extents.len()]);
+    let rank = radix::plan_rank(&fused[..layout.extents.len()]);
     let map = LentMap {
-        extents,
+        extents: layout.extents,
         order: &order,
         fused: &fused,
     };

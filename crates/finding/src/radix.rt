@@ -2,25 +2,10 @@
 // index. An axis whose fused extent is 1 has joined the one before it, or is dropped.
 ghost use Rattle.std.specs.Prelude.{◌≡◌, ◌&&◌, ◌/◌, ◌%◌, ◌≤◌, ◌<◌, ltb, length, get_or, take, replicate};
 ghost use Rattle.strided.specs.Base.{padded};
-ghost use Rattle.strided.specs.Layout.{NoZero, Within, within as withinAll};
+ghost use Rattle.strided.specs.Layout.{NoZero, Within, within};
 ghost use Rattle.finding.specs.Mapped.{kept_extents, unraveled, raveled, Sound, sound_prop};
 
 // ---- ranges
-
-// Whether an index has a place for each extent, and lies below it.
-pub fn within(extents: &[u64], index: &[u64]) -> bool
-    ensures { result ≡ withinAll extents.now index.now }
-{
-    if index.len() != extents.len() {
-        return false;
-    }
-    for i in 0..extents.len() {
-        if index[i] >= extents[i] {
-            return false;
-        }
-    }
-    true
-}
 
 // Whether there is a counter j, and it lies below an extent.
 fn below(counters: &[u64], j: usize, extent: u64) -> bool
@@ -31,7 +16,7 @@ fn below(counters: &[u64], j: usize, extent: u64) -> bool
 
 // Whether counters have a place for each of the plan's axes, and lie below its extent: where no axis is kept, one of extent 1 stays.
 pub fn plan_within(fused: &[u64], counters: &[u64]) -> bool
-    ensures { result ≡ withinAll (kept_extents fused.now) counters.now }
+    ensures { result ≡ within (kept_extents fused.now) counters.now }
 {
     let mut j: usize = 0;
     for f in fused {
@@ -81,7 +66,7 @@ fn remainder(x: u64, e: u64) -> u64
     if x < e { x } else { x % e }
 }
 
-fn quotient(x: u64, e: u64) -> u64
+pub fn quotient(x: u64, e: u64) -> u64
     requires { 0 < e }
     ensures { result ≡ x / e }
 {

@@ -10,6 +10,7 @@ use lib.IntN.{ℤ}
 use lib.ListN.{length, get_or, take, drop, set, length-append, length-drop, take-append-drop}
 use lib.Seq.{take-suc, drop-cons, append_snoc, set_at, get_or_at, length-take-le}
 use borrow.Author.Tests.{ltb-true}
+use Rattle.arrange.specs.Axes.{Named}
 use Rattle.strided.specs.Base.{padded}
 use Rattle.strided.specs.Layout.{stride_column}
 use Rattle.strided.specs.Fuse.{can_fuse, all_join}
@@ -17,7 +18,6 @@ use Rattle.laws.specs.Base.Arrays.{get_d_padded}
 use Rattle.laws.specs.Base.Stores.{set-padded}
 use Rattle.laws.specs.Base.Tests.{and_both}
 use Rattle.laws.specs.Fuse.Places.{axis_at, column_by, fused_at, fused_more, length_fused}
-use Rattle.fuse.specs.Named.{Named}
 
 -- one place alone
 fused_one : (col : ℕ → List ℤ) (i : ℕ) (es : List ℕ) → length es ≤ 1 → fused_at col i es ≡ es

@@ -9,7 +9,7 @@ use Rattle.strided.specs.Order.{pick}
 use Rattle.laws.specs.Base.Filling.{by_places}
 use Rattle.laws.specs.Base.Lists.{length_run, get_d_run}
 use Rattle.arrange.specs.Axes.{InOrder}
-use Rattle.fuse.specs.Named.{given}
+use Rattle.fuse.specs.Planned.{given}
 
 -- at each place stands its number
 pub given-at : (n i : ℕ) → i < n → get_or (given n) i 0 ≡ i

@@ -1,2 +1,3 @@
 pub mod Kept
-pub mod Named
+pub mod Planned
+pub mod Sizes

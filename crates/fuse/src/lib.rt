@@ -3,18 +3,21 @@
 // and only the plan's strides are written.
 #![tactic(auto)]
 
-ghost use Rattle.std.specs.Prelude.{◌≡◌, List, ◌&&◌, ℕ, ◌+◌, ◌*◌, ◌^◌, ◌<◌, ◌≤◌, ltb, pos, nat_abs, length, get_or, take, replicate};
+ghost use Rattle.std.specs.Prelude.{◌≡◌, true, List, ◌&&◌, ℕ, ◌+◌, ◌*◌, ◌^◌, ◌<◌, ◌≤◌, ltb, pos, nat_abs, length, get_or, take, drop, replicate};
 ghost use Rattle.strided.specs.Base.{padded, least as leastOf};
 ghost use Rattle.strided.specs.Layout.{stride_column, extents as extents_of};
 ghost use Rattle.strided.specs.Order.{pick};
 ghost use Rattle.strided.specs.Fuse.{joins as joins_at, all_join, fuse as fuseAxes, compress};
 ghost use Rattle.strided.specs.Plan.{stride_table};
+ghost use Rattle.strided.specs.Step.{blank};
 ghost use Rattle.strided.specs.Costs.{still, cost_of, cost_number, costs};
 ghost use Rattle.laws.specs.Fuse.Places.{axes_by};
-ghost use Rattle.arrange.specs.Axes.{InOrder};
+ghost use Rattle.arrange.specs.Axes.{InOrder, Named};
 ghost use Rattle.fuse.specs.Kept.{stays};
-ghost use Rattle.fuse.specs.Named.{Named, given, fused_in};
+ghost use Rattle.fuse.specs.Planned.{given, extents_in, fused_in};
+ghost use Rattle.fuse.specs.Sizes.{size_at};
 
+use arrange::{Picked, pick_strides_into};
 use layout::{Layout, Rows, lay_into};
 
 // ---- which axes join
@@ -57,7 +60,7 @@ fn can_fuse(a: u64, b: u64, rows: Rows, h: usize, i: usize) -> bool
 // ---- the order
 
 // Which axis stands at each place: a lent order names it, or each axis stands at its own place.
-trait Order: Copy {
+pub trait Order: Copy {
     // The axes' numbers, place by place.
     ghost names: { Self → List ℕ };
 
@@ -100,45 +103,59 @@ impl Order for AsGiven {
     }
 }
 
+// The axes that an order names, at most 64, and the strides of at most 8 operands that are read along them.
+// It is no Copy: a ghost field that speaks of a type parameter has none derived.
+#[derive(Drop)]
+pub struct Ordered<'a, O: Order> {
+    pub rows: Rows<'a>,
+    pub order: O,
+    pub ghost named: { Named rows.pitch rows.operands (O.names order) },
+}
+
 // ---- fusing
 
-// Kept: what is written goes into arrays that are lent as zeros, here and below: who lends one has cleared it already, and clearing it again
-// costs time.
+// Kept: what is written goes into arrays that are lent as zeros, here and below: who lends one has cleared it already. Clearing it again takes
+// 146 ns for the 106 in which 10 x 10 is planned.
 
 // The extents of axes after fusing. From the last place down, an axis that joins the one before it becomes one of extent 1. The strides stay.
-fn fuse_by<O: Order>(extents: &mut [u64; 64], rows: Rows, order: O)
-    requires layout { Named rows.pitch rows.operands (O.names order) }
-    requires extents { (length extents.old ≡ 64) × (extents.old ≡ padded 64 0 (take (length (O.names order)) extents.old)) }
-    ensures { extents.new ≡ padded 64 0 (extents_of (fuseAxes (axes_by rows.entry.strides.now rows.entry.pitch rows.entry.operands
-        (O.names order) (take (length (O.names order)) extents.old)))) }
+pub fn fuse_dims<O: Order>(extents: &mut [u64; 64], axes: Ordered<O>)
+    requires { extents.old ≡ padded 64 0 (take (length (O.names axes.order)) extents.old) }
+    ensures { let a = axes.entry in let r = a.rows in let o = O.names a.order in extents.new
+        ≡ padded 64 0 (extents_of (fuseAxes (axes_by r.strides.now r.pitch r.operands o (take (length o) extents.old)))) }
 {
-    let rank = order.len();
+    let rank = axes.order.len();
     for i in (1..rank).rev() {
         let h = i - 1;
-        let outer = order.axis(i);
-        let inner = order.axis(h);
-        if can_fuse(extents[h], extents[i], rows, inner, outer) {
+        let outer = axes.order.axis(i);
+        let inner = axes.order.axis(h);
+        if can_fuse(extents[h], extents[i], axes.rows, inner, outer) {
             extents[h] *= extents[i];
             extents[i] = 1;
         }
     }
 }
 
-// The extents of the axes that the order names, after fusing.
-pub fn fuse_dims(extents: &mut [u64; 64], rows: Rows, order: &[usize])
-    requires layout { Named rows.pitch rows.operands order.now }
-    requires extents { (length extents.old ≡ 64) × (extents.old ≡ padded 64 0 (take (length order.now) extents.old)) }
-    ensures { extents.new ≡ padded 64 0 (extents_of (fuseAxes (axes_by rows.entry.strides.now rows.entry.pitch rows.entry.operands
-        order.now (take (length order.now) extents.old)))) }
+// The extents of a layout's axes in the order, fused, written into an array that is 0 behind them.
+pub fn fused_into(layout: Layout, order: &[usize], fused: &mut [u64; 64])
+    requires order { InOrder (length layout.extents.now) order.now }
+    requires out { blank (drop (length order.now) fused.old) ≡ true }
+    ensures { fused.new ≡ padded 64 0 (extents_in layout.entry.extents.now layout.entry.operands layout.entry.strides.now order.now) }
 {
-    fuse_by(extents, rows, order);
+    let rows = layout.rows();
+    arrange::pick_into(layout.extents, order, &mut *fused);
+    fuse_dims(&mut *fused, Ordered { rows, order });
 }
 
 // ---- dropping
 
 // The axes whose extent is not 1, with their extents, written into arrays of zeros. If there is none the first axis stays, so that a walk has
 // an axis to step on.
-fn kept_by<O: Order>(fused: &[u64], order: O, extents: &mut [u64; 64], axes: &mut [u8; 64]) -> usize
+pub fn kept_axes_into<O: Order>(
+    fused: &[u64],
+    order: O,
+    extents: &mut [u64; 64],
+    axes: &mut [u8; 64],
+) -> usize
     requires arrays { (length (O.names order) ≡ length fused.now) × (length fused.now ≤ 64) }
     requires inside { (j : ℕ) → j < length fused.now → get_or (O.names order) j 0 < 256 }
     requires zeros { (extents.old ≡ replicate 64 0) × (axes.old ≡ replicate 64 0) }
@@ -162,65 +179,31 @@ fn kept_by<O: Order>(fused: &[u64], order: O, extents: &mut [u64; 64], axes: &mu
     count
 }
 
-// The axes that the order names whose extent is not 1, or the first one.
-pub fn kept_axes_into<'a>(
-    fused: &'a [u64],
-    order: &'a [usize],
-    extents: &mut [u64; 64],
-    axes: &mut [u8; 64],
-) -> usize
-    requires arrays { (length order.now ≡ length fused.now) × (length fused.now ≤ 64) }
-    requires inside { (j : ℕ) → j < length fused.now → get_or order.now j 0 < 256 }
-    requires zeros { (extents.old ≡ replicate 64 0) × (axes.old ≡ replicate 64 0) }
-    ensures count { result ≡ length (stays fused.now) }
-    ensures extents { extents.new ≡ padded 64 0 (pick 0 fused.now (stays fused.now)) }
-    ensures axes { axes.new ≡ padded 64 0 (pick 0 order.now (stays fused.now)) }
-{
-    kept_by(fused, order, extents, axes)
-}
-
 // The axes without those of extent 1, written into arrays of zeros: their extents, and operand k's stride on axis i at k * 64 + i. Answers how
 // many there are.
-fn compress_by<O: Order>(
+pub fn compress_dims<O: Order>(
     fused: &[u64],
-    rows: Rows,
-    order: O,
+    axes: Ordered<O>,
     extents: &mut [u64; 64],
     table: &mut [i64; 512],
 ) -> usize
-    requires layout { Named rows.pitch rows.operands (O.names order) }
-    requires fused { (length (O.names order) ≡ length fused.now) × (rows.pitch ≤ 64) }
+    requires fused { (length (O.names axes.order) ≡ length fused.now) × (axes.rows.pitch ≤ 64) }
     requires zeros { (extents.old ≡ replicate 64 0) × (table.old ≡ replicate 512 (pos 0)) }
-    ensures rank { result ≡ length (compress (axes_by rows.entry.strides.now rows.entry.pitch rows.entry.operands (O.names order) fused.now)) }
-    ensures extents { extents.new ≡ padded 64 0 (extents_of
-        (compress (axes_by rows.entry.strides.now rows.entry.pitch rows.entry.operands (O.names order) fused.now))) }
-    ensures strides { table.new ≡ stride_table
-        (compress (axes_by rows.entry.strides.now rows.entry.pitch rows.entry.operands (O.names order) fused.now)) rows.entry.operands }
+    ensures rank { let a = axes.entry in let r = a.rows in result
+        ≡ length (compress (axes_by r.strides.now r.pitch r.operands (O.names a.order) fused.now)) }
+    ensures extents { let a = axes.entry in let r = a.rows in extents.new
+        ≡ padded 64 0 (extents_of (compress (axes_by r.strides.now r.pitch r.operands (O.names a.order) fused.now))) }
+    ensures strides { let a = axes.entry in let r = a.rows in table.new
+        ≡ stride_table (compress (axes_by r.strides.now r.pitch r.operands (O.names a.order) fused.now)) r.operands }
 {
-    let mut axes = [0u8; 64];
-    let count = kept_by(fused, order, extents, &mut axes);
-    arrange::pick_strides_into(rows, &axes[..count], table);
+    let mut kept = [0u8; 64];
+    let count = kept_axes_into(fused, axes.order, extents, &mut kept);
+    let picked = Picked {
+        rows: axes.rows,
+        order: &kept[..count],
+    };
+    pick_strides_into(picked, table);
     count
-}
-
-// The axes that the order names without those of extent 1.
-pub fn compress_dims(
-    fused: &[u64],
-    rows: Rows,
-    order: &[usize],
-    extents: &mut [u64; 64],
-    table: &mut [i64; 512],
-) -> usize
-    requires layout { Named rows.pitch rows.operands order.now }
-    requires fused { (length order.now ≡ length fused.now) × (rows.pitch ≤ 64) }
-    requires zeros { (extents.old ≡ replicate 64 0) × (table.old ≡ replicate 512 (pos 0)) }
-    ensures rank { result ≡ length (compress (axes_by rows.entry.strides.now rows.entry.pitch rows.entry.operands order.now fused.now)) }
-    ensures extents { extents.new ≡ padded 64 0 (extents_of
-        (compress (axes_by rows.entry.strides.now rows.entry.pitch rows.entry.operands order.now fused.now))) }
-    ensures strides { table.new ≡ stride_table
-        (compress (axes_by rows.entry.strides.now rows.entry.pitch rows.entry.operands order.now fused.now)) rows.entry.operands }
-{
-    compress_by(fused, rows, order, extents, table)
 }
 
 // The axes of a layout's plan, written into arrays of zeros: put into the order, fused, those of extent 1 dropped. Answers how many axes
@@ -241,9 +224,8 @@ pub fn plan_axes_into(
 {
     let rows = layout.rows();
     let mut fused = [0u64; 64];
-    arrange::pick_into(layout.extents, order, &mut fused);
-    fuse_dims(&mut fused, rows, order);
-    compress_dims(&fused[..order.len()], rows, order, es, table)
+    fused_into(layout, order, &mut fused);
+    compress_dims(&fused[..order.len()], Ordered { rows, order }, es, table)
 }
 
 // As `plan_axes_into`, where the axes are fused as they are given: there is no order to make, and none to read.
@@ -261,39 +243,47 @@ pub fn given_axes_into(layout: Layout, es: &mut [u64; 64], table: &mut [i64; 512
     let mut fused = [0u64; 64];
     lay_into(layout.extents, &mut fused);
     let order = AsGiven { rank };
-    fuse_by(&mut fused, rows, order);
-    compress_by(&fused[..rank], rows, order, es, table)
+    fuse_dims(&mut fused, Ordered { rows, order });
+    compress_dims(&fused[..rank], Ordered { rows, order }, es, table)
 }
 
 // ---- costs
 
-// The strides of one axis of a plan.
+// The strides of one axis.
 #[derive(Clone, Copy)]
 struct Column<'a> {
-    strides: &'a [i64; 512],
-    operands: usize,
+    rows: Rows<'a>,
     axis: usize,
-    ghost inside: { (0 < operands) × ((operands ≤ 8) × (axis < 64)) },
+    ghost some: { 0 < rows.operands },
+    ghost inside: { axis < rows.pitch },
 }
 
 impl<'a> Column<'a> {
-    // The least size of the strides.
-    fn least_size(self) -> u64
-        ensures { result ≡ leastOf (λ k. nat_abs (get_or self.entry.strides.now (k * 64 + self.entry.axis) (pos 0))) 0 self.entry.operands }
+    // The size of operand k's stride.
+    fn size(self, k: usize) -> u64
+        requires { k < self.rows.operands }
+        ensures { result ≡ size_at self.entry.rows.strides.now self.entry.rows.pitch self.entry.axis k }
     {
-        let mut size = self.strides[self.axis].unsigned_abs();
-        for k in 1..self.operands {
-            size = size.min(self.strides[k * 64 + self.axis].unsigned_abs());
+        self.rows.strides[k * self.rows.pitch + self.axis].unsigned_abs()
+    }
+
+    // The least size.
+    fn least_size(self) -> u64
+        ensures { let r = self.entry.rows in result ≡ leastOf (size_at r.strides.now r.pitch self.entry.axis) 0 r.operands }
+    {
+        let mut size = self.size(0);
+        for k in 1..self.rows.operands {
+            size = size.min(self.size(k));
         }
         size
     }
 
-    // Whether every stride is 0, so that nobody moves along the axis.
+    // Whether every size is 0, so that nobody moves along the axis.
     fn stays(self) -> bool
-        ensures { result ≡ still (λ k. nat_abs (get_or self.entry.strides.now (k * 64 + self.entry.axis) (pos 0))) self.entry.operands }
+        ensures { let r = self.entry.rows in result ≡ still (size_at r.strides.now r.pitch self.entry.axis) r.operands }
     {
-        for k in 0..self.operands {
-            if self.strides[k * 64 + self.axis] != 0 {
+        for k in 0..self.rows.operands {
+            if self.size(k) != 0 {
                 return false;
             }
         }
@@ -302,7 +292,7 @@ impl<'a> Column<'a> {
 
     // The cost of the axis, 0 where it has none. It only ranks axes, so it saturates.
     fn cost(self) -> u64
-        ensures { result ≡ cost_number (cost_of (λ k. nat_abs (get_or self.entry.strides.now (k * 64 + self.entry.axis) (pos 0))) self.entry.operands) }
+        ensures { let r = self.entry.rows in result ≡ cost_number (cost_of (size_at r.strides.now r.pitch self.entry.axis) r.operands) }
     {
         let size = self.least_size();
         if size == 0 {
@@ -312,19 +302,16 @@ impl<'a> Column<'a> {
     }
 }
 
-// The costs of the axes, 0 where an axis has none, and behind them.
-// Kept: a plan's strides with its two counts: cutting has them while there is no plan yet.
-pub fn compute_costs(strides: &[i64; 512], operands: usize, rank: usize) -> [u64; 64]
-    requires { (0 < operands) × ((operands ≤ 8) × (rank ≤ 64)) }
-    ensures { result ≡ padded 64 0 (costs strides.now operands rank) }
+// The costs of a plan's axes, 0 where an axis has none, and behind them.
+pub fn compute_costs(rows: Rows, rank: usize) -> [u64; 64]
+    requires operands { 0 < rows.operands }
+    requires pitch { rows.pitch ≡ 64 }
+    requires rank { rank ≤ 64 }
+    ensures { result ≡ padded 64 0 (costs rows.entry.strides.now rows.entry.operands rank) }
 {
     let mut found = [0u64; 64];
     for i in 0..rank {
-        let column = Column {
-            strides,
-            operands,
-            axis: i,
-        };
+        let column = Column { rows, axis: i };
         found[i] = column.cost();
     }
     found

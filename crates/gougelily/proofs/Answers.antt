@@ -8,8 +8,7 @@ use lib.ListN.{length}
 use Rattle.strided.specs.Refusals.{negated}
 use Rattle.strided.specs.Step.{stepped, handed_block, walk_after}
 use Rattle.strided.specs.Bulk.{next_blocks, lengths_of, offsets_of, room_for, laid_on, written, several_by, SteppedMany, stepped_many}
-use Rattle.strided.specs.Mark.{mark_number}
-use Rattle.strided.specs.Memory.{code_of, whether, WalkMemory, walk_memory, Handed, Tells, mark_code, StepMemory, Steps, ManyMemory, many_memory, StepsMany}
+use Rattle.strided.specs.Memory.{code_of, whether, WalkMemory, walk_memory, Handed, Tells, StepMemory, Steps, ManyMemory, many_memory, StepsMany}
 use Rattle.strided.specs.declared.Purpose.{Purpose}
 use Rattle.strided.specs.declared.Refusal.{Refusal}
 use Rattle.strided.specs.declared.Plan.{Plan}
@@ -21,7 +20,6 @@ use Rattle.strided.specs.declared.Told.{Told}
 use Rattle.laws.specs.Walk.Bulk.{blocks_few, blocks_none}
 use Rattle.finding.specs.Memory.{Leaves}
 use Rattle.std.specs.Prelude.{Option, None, Some, Ok, Err, Result}
-use Rattle.strided.specs.declared.Mark.{Mark}
 
 -- a call's result x at an argument u, which is v
 pub called : {U X : Type 0} (f : U → X) {u v : U} {x : X} → x ≡ f u → u ≡ v → x ≡ f v
@@ -49,14 +47,6 @@ pub told_as : (f : Purpose → Result Told Refusal) {u v : Purpose} → u ≡ v 
 told_as f {u} e {c} {x} {c'} {x'} {n = n} l q =
     subst (λ (w : Purpose). Tells (f w) (record { count = c; index = x }) (record { count = c'; index = x' }) n) e
     (record { code = q ∙ ap (λ (y : Result (Unit {0}) Refusal). code_of (λ value. pos 0) y) l.answer ∙ whether_code (f u); memory = l.memory })
-
--- the repeat mark
-module _ {m : Result Mark Refusal} where
-  pub mark_refused_lem : {r : Refusal} {n : ℤ} → Err r ≡ m → n ≡ negated r → n ≡ mark_code m
-  mark_refused_lem h e = e ∙ ap mark_code h
-
-  pub mark_served : {mark : Mark} {n : ℤ} → Ok mark ≡ m → n ≡ pos (mark_number mark) → n ≡ mark_code m
-  mark_served h q = q ∙ ap mark_code h
 
 -- a step that is refused
 pub step-refused : {s : Result Stepped Refusal} {r : Refusal} {old : StepMemory} {n : ℤ} → Err r ≡ s → n ≡ negated r → Steps s old old n

@@ -2,8 +2,8 @@
 ghost use Rattle.std.specs.Prelude.{◌≡◌};
 ghost use Rattle.judge.specs.Memory.{verdict_number, JudgesMemory};
 
+use super::codes::code;
 use judge::{Verdict, judge};
-use layout::negated;
 
 // The verdict as a number: which of the four it is, counted from 0.
 fn verdict_number(verdict: Verdict) -> u64
@@ -18,8 +18,5 @@ pub extern "C" fn gougelily_judge<'a>(extents: &'a [u64], text: &'a [u8], marks:
     ensures { JudgesMemory extents.now text.now marks.old marks.new result }
 {
     let judged = judge(extents, text, marks);
-    match judged {
-        Ok(verdict) => verdict_number(verdict) as i64,
-        Err(refusal) => negated(refusal),
-    }
+    code(judged, |verdict| verdict_number(verdict) as i64)
 }

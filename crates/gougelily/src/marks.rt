@@ -3,7 +3,7 @@ ghost use Rattle.std.specs.Prelude.{◌≡◌};
 ghost use Rattle.strided.specs.Mark.{mark_number, marked};
 ghost use Rattle.strided.specs.Memory.{mark_code};
 
-use layout::negated;
+use super::codes::code;
 use mark::repeat_mark;
 use strided::Mark;
 
@@ -19,8 +19,6 @@ fn mark_number(mark: Mark) -> u64
 pub extern "C" fn gougelily_repeat_mark<'a>(extents: &'a [u64], strides: &'a [i64]) -> i64
     ensures { result ≡ mark_code (marked extents.now strides.now) }
 {
-    match repeat_mark(extents, strides) {
-        Ok(mark) => mark_number(mark) as i64,
-        Err(refusal) => negated(refusal),
-    }
+    let answer = repeat_mark(extents, strides);
+    code(answer, |mark| mark_number(mark) as i64)
 }

@@ -39,9 +39,10 @@ pub extern "C" fn gougelily_plan<'a>(
         way,
         live,
     };
-    if let Err(refusal) = check_planning(extents, sizes, strides, wanted, machine) {
-        return negated(refusal);
-    }
+    let layout = match check_planning(extents, sizes, strides, wanted, machine) {
+        Ok(layout) => layout,
+        Err(refusal) => return negated(refusal),
+    };
     clear_axes(&mut *plan_extents, &mut *plan_strides);
     let aim = Aim {
         purpose: wanted,
@@ -49,9 +50,8 @@ pub extern "C" fn gougelily_plan<'a>(
     };
     let axes = plan_into(
         aim,
-        extents,
+        layout,
         sizes,
-        strides,
         &mut *plan_extents,
         &mut *blocks,
         &mut *plan_strides,

@@ -5,7 +5,7 @@ ghost use Rattle.views.specs.Views.{engineer_of, student_of};
 ghost use Rattle.views.specs.Visits.{visited};
 ghost use Rattle.views.specs.Memory.{visit_at, VisitsMemory, record_of, engineer_at, engineer_memory, student_at, student_memory};
 
-use super::codes::step_code;
+use super::codes::code;
 use layout::{negated, purpose_of};
 use views::lend;
 use views::memory::visit_into;
@@ -74,7 +74,7 @@ pub extern "C" fn gougelily_visit<'a>(
         count,
         index,
     );
-    step_code(some)
+    code(some, i64::from)
 }
 
 // What an engineer sees of a record.

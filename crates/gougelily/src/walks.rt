@@ -4,7 +4,7 @@ ghost use Rattle.strided.specs.Begin.{begun_at};
 ghost use Rattle.strided.specs.Step.{stepped};
 ghost use Rattle.strided.specs.Memory.{plan_of, walk_at, walk_in, step_at, Steps, Begins};
 
-use super::codes::step_code;
+use super::codes::code;
 use layout::{LentPlan, negated};
 use states::begin_on;
 use strided::{Refusal, Walk};
@@ -93,5 +93,5 @@ pub extern "C" fn gougelily_step<'a>(
         block_offsets,
         block_strides,
     );
-    step_code(some)
+    code(some, i64::from)
 }

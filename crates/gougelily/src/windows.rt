@@ -29,16 +29,15 @@ pub extern "C" fn gougelily_window<'a>(
         counts,
         steps,
     };
-    if let Err(refusal) = check_window(extents, sizes, strides, picks) {
-        return negated(refusal);
-    }
+    let layout = match check_window(extents, sizes, strides, picks) {
+        Ok(layout) => layout,
+        Err(refusal) => return negated(refusal),
+    };
     *window_extents = [0u64; 64];
     *window_strides = [0i64; 512];
     *shifts = [0i64; 8];
     window_into(
-        extents,
-        sizes,
-        strides,
+        layout,
         picks,
         &mut *window_extents,
         &mut *window_strides,

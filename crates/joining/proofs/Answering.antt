@@ -23,7 +23,7 @@ use Rattle.session.specs.Session.{Given, refused_of, fresh_of, given_of, with_op
 use Rattle.session.specs.Afresh.{right-rank, right_operands, join_right, join_room, join_counted, join_near, join_accepted, leave_right, leave_there, leave_two, leave_accepted}
 use Rattle.session.specs.Made.{TableOf, LayoutRight, Standing, KeptIn, given_in, with_more, with_less, with_plan, purpose_in, session_at, Lent}
 use Rattle.session.proofs.Holding.{right_layout, right-ranks, right_keeps, own_ranks, keeps_axes}
-use Rattle.joining.proofs.Moving.{right-standing, stands_right, stands_table, stands_session}
+use Rattle.joining.proofs.Moving.{right-standing, Stands, stands_right, stands_table, stands_session}
 
 -- ---- a session that is lent
 
@@ -64,21 +64,21 @@ module _ (n : Numbers) (E Z : List ℕ) (S : List ℤ) (R W C PE PB : List ℕ) 
   own_table : Right s → {table : List (List ℕ)} → TableOf (take (n.rank * n.operands) S) n.rank n.operands table
       → Standing n.rank (take n.operands Z) (take (n.rank * n.operands) S) Z S R table
   own_table h {table} t =
-      let l = right_layout n E Z S R W C PE PB PS h in
-      right-standing n E Z S l t (right-ranks n E Z S R W C PE PB PS h ∙ sym (own_ranks n E Z S l table t))
+      let l = right_layout s h in
+      right-standing n E Z S l t (right-ranks s h ∙ sym (own_ranks n E Z S l table t))
 
   -- the strides of the plan stand in the rows of its operands
   own_plan : Right s → (n.plan_operands ≤ 8) × (PS ≡ padded 512 (pos 0) (take (n.plan_operands * 64) PS))
   own_plan h =
-      let l = right_layout n E Z S R W C PE PB PS h in
-      let x = keeps_axes n E Z S l (right_keeps n E Z S R W C PE PB PS h) in
+      let l = right_layout s h in
+      let x = keeps_axes n E Z S l (right_keeps s h) in
       let few = l.few in let e = x.0 in
       (omega (arith, few, e), subst (λ (m : ℕ). PS ≡ padded 512 (pos 0) (take (m * 64) PS)) (sym e) (table_blank (plan_axes (take n.rank E) n.operands (take (n.rank * n.operands) S) (purpose_in n)) n.operands few x.1.strides))
 
   -- joining
-  module _ (ts : List ℤ) (h : answered (refused_by (join_rows s ts)) ≡ Ok tt) where
+  module _ (ts : List ℤ) {a : Result (Unit {0}) Refusal} (e : a ≡ answered (refused_by (join_rows s ts))) (h : a ≡ Ok tt) where
     passed : refused_by (join_rows s ts) ≡ None
-    passed = served_none _ tt h
+    passed = served_none _ tt (sym e ∙ h)
 
     r : Right s
     r = join_right s ts passed
@@ -102,34 +102,39 @@ module _ (n : Numbers) (E Z : List ℕ) (S : List ℤ) (R W C PE PB : List ℕ) 
       g = with_operand (given_of s) z ts
 
       l : LayoutRight n E Z S
-      l = right_layout n E Z S R W C PE PB PS r
+      l = right_layout s r
 
       ok : refused_of g ≡ None
       ok = join_accepted (given_of s) z ts r.accepted (join_room s ts passed) (join_counted s ts passed) (join_near s ts passed)
 
-      st' : Standing (length g.extents) g.sizes g.strides Z' S' R' table'
-      st' = subst (λ (x : ℕ). Standing x g.sizes g.strides Z' S' R' table') (right-rank s r) st
-
-      er : m.rank ≡ length g.extents
-      er = ap (λ (x : Numbers). x.rank) q ∙ right-rank s r
-
-      eo : m.operands ≡ length g.sizes
-      eo = ap (λ (x : Numbers). x.operands) q ∙ (let a = length-append (take n.operands Z) (z ∷ []) in let w = right_operands s r in let b : n.operands + 1 ≡ length (take n.operands Z ++ (z ∷ [])) = omega (arith, a, w) in b)
+      joined_stands : Stands g m E Z' S' R' table'
+      joined_stands =
+          let a = length-append (take n.operands Z) (z ∷ []) in
+          let w = right_operands s r in
+          record {
+            extents = l.extents;
+            operands = subst (λ (x : ℕ). Standing x g.sizes g.strides Z' S' R' table') (right-rank s r) st;
+            rank = ap (λ (x : Numbers). x.rank) q ∙ right-rank s r;
+            many = ap (λ (x : Numbers). x.operands) q ∙ (let b : n.operands + 1 ≡ length (take n.operands Z ++ (z ∷ [])) = omega (arith, a, w) in b);
+            machine = ap (λ (x : Numbers). x.machine) q;
+            kind = ap (λ (x : Numbers). x.purpose) q ∙ sym l.kind;
+            chosen = ap (λ (x : Numbers). x.chosen) q ∙ sym l.chosen;
+          }
 
       pub joined_layout : LayoutRight m E Z' S'
-      joined_layout = stands_right g ok m E Z' S' R' table' l.extents st' er eo (ap (λ (x : Numbers). x.machine) q) (ap (λ (x : Numbers). x.purpose) q ∙ sym l.kind) (ap (λ (x : Numbers). x.chosen) q ∙ sym l.chosen)
+      joined_layout = stands_right ok joined_stands
 
       pub joined_table : TableOf (take (m.rank * m.operands) S') m.rank m.operands table'
-      joined_table = stands_table g ok m E Z' S' R' table' l.extents st' er eo (ap (λ (x : Numbers). x.machine) q) (ap (λ (x : Numbers). x.purpose) q ∙ sym l.kind) (ap (λ (x : Numbers). x.chosen) q ∙ sym l.chosen)
+      joined_table = stands_table ok joined_stands
 
       pub joined_session : (a : Numbers) (W' C' PE' PB' : List ℕ) (PS' : List ℤ) → a ≡ with_plan m a.plan_rank → KeptIn (given_in m E Z' S') a.plan_rank W' C' PE' PB' PS'
           → session_at a E Z' S' R' W' C' PE' PB' PS' ≡ fresh_of g
-      joined_session = stands_session g ok m E Z' S' R' table' l.extents st' er eo (ap (λ (x : Numbers). x.machine) q) (ap (λ (x : Numbers). x.purpose) q ∙ sym l.kind) (ap (λ (x : Numbers). x.chosen) q ∙ sym l.chosen)
+      joined_session = stands_session ok joined_stands
 
   -- leaving
-  module _ (k : ℕ) (h : answered (refused_by (leave_rows s k)) ≡ Ok tt) where
+  module _ (k : ℕ) {a : Result (Unit {0}) Refusal} (e : a ≡ answered (refused_by (leave_rows s k))) (h : a ≡ Ok tt) where
     let_out : refused_by (leave_rows s k) ≡ None
-    let_out = served_none _ tt h
+    let_out = served_none _ tt (sym e ∙ h)
 
     r' : Right s
     r' = leave_right s k let_out
@@ -145,7 +150,7 @@ module _ (n : Numbers) (E Z : List ℕ) (S : List ℤ) (R W C PE PB : List ℕ) 
     leave_at = let a = leave_there s k let_out in let e = right_operands s r' in omega (arith, a, e)
 
     pub leave_few : n.operands ≤ 8
-    leave_few = (right_layout n E Z S R W C PE PB PS r').few
+    leave_few = (right_layout s r').few
 
     pub leave_others : 1 < n.operands
     leave_others = let a = leave_two s k let_out in let e = right_operands s r' in omega (arith, a, e)
@@ -156,33 +161,34 @@ module _ (n : Numbers) (E Z : List ℕ) (S : List ℤ) (R W C PE PB : List ℕ) 
       g' = without_operand (given_of s) k
 
       l' : LayoutRight n E Z S
-      l' = right_layout n E Z S R W C PE PB PS r'
+      l' = right_layout s r'
 
       ok' : refused_of g' ≡ None
       ok' = leave_accepted (given_of s) k r'.accepted (leave_there s k let_out) (leave_two s k let_out)
 
-      st'' : Standing (length g'.extents) g'.sizes g'.strides Z' S' R' table'
-      st'' =
+      left_stands : Stands g' m E Z' S' R' table'
+      left_stands =
           let a = right-rank s r' in
           let b = right_operands s r' in
-          subst (λ (x : ℕ). Standing x g'.sizes g'.strides Z' S' R' table') a
-          (subst (λ (x : List ℤ). Standing n.rank g'.sizes x Z' S' R' table') (λ i. strides_without (a i) (b i) k (take (n.rank * n.operands) S)) st)
-
-      er' : m.rank ≡ length g'.extents
-      er' = ap (λ (x : Numbers). x.rank) q ∙ right-rank s r'
-
-      eo' : m.operands ≡ length g'.sizes
-      eo' =
-          ap (λ (x : Numbers). x.operands) q
-          ∙ (let a = length-rows (λ (j : ℕ). get_or (take n.operands Z) (old_place k j) 0) 0 (length (take n.operands Z) - 1) in let w = right_operands s r' in
-          let b : n.operands - 1 ≡ length (sizes_without k (take n.operands Z)) = omega (arith, a, w) in b)
+          let d = length-rows (λ (j : ℕ). get_or (take n.operands Z) (old_place k j) 0) 0 (length (take n.operands Z) - 1) in
+          record {
+            extents = l'.extents;
+            operands =
+                subst (λ (x : ℕ). Standing x g'.sizes g'.strides Z' S' R' table') a
+                (subst (λ (x : List ℤ). Standing n.rank g'.sizes x Z' S' R' table') (λ i. strides_without (a i) (b i) k (take (n.rank * n.operands) S)) st);
+            rank = ap (λ (x : Numbers). x.rank) q ∙ a;
+            many = ap (λ (x : Numbers). x.operands) q ∙ (let f : n.operands - 1 ≡ length (sizes_without k (take n.operands Z)) = omega (arith, d, b) in f);
+            machine = ap (λ (x : Numbers). x.machine) q;
+            kind = ap (λ (x : Numbers). x.purpose) q;
+            chosen = ap (λ (x : Numbers). x.chosen) q;
+          }
 
       pub left_layout : LayoutRight m E Z' S'
-      left_layout = stands_right g' ok' m E Z' S' R' table' l'.extents st'' er' eo' (ap (λ (x : Numbers). x.machine) q) (ap (λ (x : Numbers). x.purpose) q) (ap (λ (x : Numbers). x.chosen) q)
+      left_layout = stands_right ok' left_stands
 
       pub left_table : TableOf (take (m.rank * m.operands) S') m.rank m.operands table'
-      left_table = stands_table g' ok' m E Z' S' R' table' l'.extents st'' er' eo' (ap (λ (x : Numbers). x.machine) q) (ap (λ (x : Numbers). x.purpose) q) (ap (λ (x : Numbers). x.chosen) q)
+      left_table = stands_table ok' left_stands
 
       pub left_session : (a : Numbers) (W' C' PE' PB' : List ℕ) (PS' : List ℤ) → a ≡ with_plan m a.plan_rank → KeptIn (given_in m E Z' S') a.plan_rank W' C' PE' PB' PS'
           → session_at a E Z' S' R' W' C' PE' PB' PS' ≡ fresh_of g'
-      left_session = stands_session g' ok' m E Z' S' R' table' l'.extents st'' er' eo' (ap (λ (x : Numbers). x.machine) q) (ap (λ (x : Numbers). x.purpose) q) (ap (λ (x : Numbers). x.chosen) q)
+      left_session = stands_session ok' left_stands

@@ -23,8 +23,11 @@ use Rattle.session.specs.declared.Numbers.{Numbers}
 use Rattle.session.specs.Session.{Given, refused_of, ranks_of, weights_of, costs_of, plan_of, kind_of, fresh_of, old_place, sizes_without, strides_without}
 use Rattle.session.specs.Afresh.{few_strides, old-there, length_without, purpose_back, taken_of, row_new}
 use Rattle.session.specs.Tables.{rows_agree, table_joined}
-use Rattle.session.specs.Made.{rows_of, ranks_in, TableOf, KeptIn, LayoutRight, Standing, given_in, session_at, with_plan}
+use Rattle.session.specs.Made.{rows_of, ranks_in, TableOf, KeptIn, LayoutRight, Standing, given_in, begun_with, session_at, with_plan}
 use Rattle.joining.proofs.Laying.{row-added}
+use Rattle.layout.specs.declared.slices.Layout.{Layout}
+use Rattle.layout.specs.Checked.{Laid}
+use Rattle.layout.proofs.Checks.{laid_as}
 use Rattle.session.proofs.Tabling.{zero_row, table_of, over_agree, rows-laid, table_even, table_more, table_less, exact_ranks}
 use Rattle.session.proofs.Holding.{g_operands, strides_long}
 
@@ -230,19 +233,42 @@ module _ (rank m : ℕ) (Z : List ℕ) (S : List ℤ) (R : List ℕ) (table : Li
 
 -- ---- a layout that planning accepts stands in the arrays
 
-module _ (g : Given) (ok : refused_of g ≡ None) (n : Numbers) (E Z : List ℕ) (S : List ℤ) (R : List ℕ) (table : List (List ℕ))
-    (e : E ≡ padded 64 0 g.extents) (st : Standing (length g.extents) g.sizes g.strides Z S R table)
-    (er : n.rank ≡ length g.extents) (eo : n.operands ≡ length g.sizes) (em : n.machine ≡ g.machine)
-    (ek : n.purpose ≡ kind_of g.purpose) (ec : n.chosen ≡ lead g.purpose) where
-  pub stands_given : given_in n E Z S ≡ g
+pub record Stands (g : Given) (n : Numbers) (E Z : List ℕ) (S : List ℤ) (R : List ℕ) (table : List (List ℕ)) : Type 0 where
+  pub extents : E ≡ padded 64 0 g.extents
+  pub operands : Standing (length g.extents) g.sizes g.strides Z S R table
+  pub rank : n.rank ≡ length g.extents
+  pub many : n.operands ≡ length g.sizes
+  pub machine : n.machine ≡ g.machine
+  pub kind : n.purpose ≡ kind_of g.purpose
+  pub chosen : n.chosen ≡ lead g.purpose
+
+-- as a session begins
+pub stands_begun : {g : Given} {n : Numbers} {E Z : List ℕ} {S : List ℤ} {R : List ℕ} {table : List (List ℕ)} {l : Layout} → Laid (refused_of g) g.extents g.sizes g.strides l
+    → n ≡ begun_with g.machine g.purpose (length g.extents) (length g.sizes)
+    → E ≡ padded 64 0 g.extents → Standing (length l.extents.now) g.sizes l.strides.now Z S R table → Stands g n E Z S R table
+stands_begun {g} {n} {E} {Z} {S} {R} {table} c q e st = record {
+  extents = e;
+  operands = laid_as c (λ e m s. Standing (length e) g.sizes s Z S R table) st;
+  rank = ap (λ (x : Numbers). x.rank) q;
+  many = ap (λ (x : Numbers). x.operands) q;
+  machine = ap (λ (x : Numbers). x.machine) q;
+  kind = ap (λ (x : Numbers). x.purpose) q;
+  chosen = ap (λ (x : Numbers). x.chosen) q;
+}
+
+module _ {g : Given} {n : Numbers} {E Z : List ℕ} {S : List ℤ} {R : List ℕ} {table : List (List ℕ)} (ok : refused_of g ≡ None) (t : Stands g n E Z S R table) where
+  abbrev st : Standing (length g.extents) g.sizes g.strides Z S R table
+  st = t.operands
+
+  stands_given : given_in n E Z S ≡ g
   stands_given =
       let a = taken_of g ok in
-      let ee = ap₂ take er e ∙ take-padded 0 64 g.extents a.axes in
-      let ez = ap₂ take eo st.sizes ∙ take-padded 0 8 g.sizes a.few in
-      let es = ap₂ take (ap₂ ◌*◌ er eo) st.strides
+      let ee = ap₂ take t.rank t.extents ∙ take-padded 0 64 g.extents a.axes in
+      let ez = ap₂ take t.many st.sizes ∙ take-padded 0 8 g.sizes a.few in
+      let es = ap₂ take (ap₂ ◌*◌ t.rank t.many) st.strides
       ∙ take_counted (pos 0) 512 (length g.extents * length g.sizes) g.strides a.strides (few_strides (length g.extents) (length g.sizes) a.axes a.few) in
-      let eu = ap₂ purpose_of ek ec ∙ purpose_back g.purpose in
-      λ i. record { machine = em i; extents = ee i; sizes = ez i; strides = es i; purpose = eu i }
+      let eu = ap₂ purpose_of t.kind t.chosen ∙ purpose_back g.purpose in
+      λ i. record { machine = t.machine i; extents = ee i; sizes = ez i; strides = es i; purpose = eu i }
 
   pub stands_right : LayoutRight n E Z S
   stands_right =
@@ -250,11 +276,11 @@ module _ (g : Given) (ok : refused_of g ≡ None) (n : Numbers) (E Z : List ℕ)
       let axes = a.axes in let few = a.few in
       let q = sym stands_given in
       record {
-        axes = omega (arith, axes, er);
-        few = omega (arith, few, eo);
-        kind = ap (λ (x : Given). kind_of x.purpose) stands_given ∙ sym ek;
-        chosen = ap (λ (x : Given). lead x.purpose) stands_given ∙ sym ec;
-        extents = e ∙ ap (λ (x : Given). padded 64 0 x.extents) q;
+        axes = omega (arith, axes, t.rank);
+        few = omega (arith, few, t.many);
+        kind = ap (λ (x : Given). kind_of x.purpose) stands_given ∙ sym t.kind;
+        chosen = ap (λ (x : Given). lead x.purpose) stands_given ∙ sym t.chosen;
+        extents = t.extents ∙ ap (λ (x : Given). padded 64 0 x.extents) q;
         sizes = st.sizes ∙ ap (λ (x : Given). padded 8 0 x.sizes) q;
         strides = st.strides ∙ ap (λ (x : Given). padded 512 (pos 0) x.strides) q;
         accepted = ap refused_of stands_given ∙ ok;
@@ -263,7 +289,7 @@ module _ (g : Given) (ok : refused_of g ≡ None) (n : Numbers) (E Z : List ℕ)
   pub stands_table : TableOf (take (n.rank * n.operands) S) n.rank n.operands table
   stands_table =
       let q = ap (λ (x : Given). x.strides) (sym stands_given) in
-      record { is = st.rows.is ∙ (λ i. table_of (q i) (sym er i) (sym eo i)) }
+      record { is = st.rows.is ∙ (λ i. table_of (q i) (sym t.rank i) (sym t.many i)) }
 
   -- and with the kept parts the session is the one afresh
   pub stands_session : (r : Numbers) (W C PE PB : List ℕ) (PS : List ℤ) → r ≡ with_plan n r.plan_rank → KeptIn (given_in n E Z S) r.plan_rank W C PE PB PS
@@ -271,12 +297,12 @@ module _ (g : Given) (ok : refused_of g ≡ None) (n : Numbers) (E Z : List ℕ)
   unfolding fresh_of
   stands_session r W C PE PB PS q k =
       let ez = st.sizes in let es = st.strides in
-      let p = ap (λ (x : Numbers). x.purpose) q ∙ ek in
-      let c = ap (λ (x : Numbers). x.chosen) q ∙ ec in
-      let mc = ap (λ (x : Numbers). x.machine) q ∙ em in
-      let rk = ap (λ (x : Numbers). x.rank) q ∙ er in
-      let op = ap (λ (x : Numbers). x.operands) q ∙ eo in
-      let po : r.plan_operands ≡ length (take n.operands Z) = ap (λ (x : Numbers). x.plan_operands) q ∙ eo ∙ ap (λ (x : Given). length x.sizes) (sym stands_given) in
+      let p = ap (λ (x : Numbers). x.purpose) q ∙ t.kind in
+      let c = ap (λ (x : Numbers). x.chosen) q ∙ t.chosen in
+      let mc = ap (λ (x : Numbers). x.machine) q ∙ t.machine in
+      let rk = ap (λ (x : Numbers). x.rank) q ∙ t.rank in
+      let op = ap (λ (x : Numbers). x.operands) q ∙ t.many in
+      let po : r.plan_operands ≡ length (take n.operands Z) = ap (λ (x : Numbers). x.plan_operands) q ∙ t.many ∙ ap (λ (x : Given). length x.sizes) (sym stands_given) in
       let ra : R ≡ ranks_of g = st.ranks ∙ exact_ranks g.machine g.extents g.sizes g.strides g.purpose table (record { fits = st.fits; ranks = st.rows.is }) in
       let we = k.weights ∙ ap weights_of stands_given in
       let co = k.costs ∙ ap costs_of stands_given in
@@ -288,7 +314,7 @@ module _ (g : Given) (ok : refused_of g ≡ None) (n : Numbers) (E Z : List ℕ)
         machine = mc i;
         rank = rk i;
         operands = op i;
-        extents = e i;
+        extents = t.extents i;
         sizes = ez i;
         strides = es i;
         ranks = ra i;

@@ -5,7 +5,8 @@ ghost use Rattle.strided.specs.Ranks.{ranks};
 ghost use Rattle.session.specs.Session.{kind_of, old_place, new_place, purpose_without};
 ghost use Rattle.session.specs.Made.{Even, rows_of};
 
-use auxiliary::index_order_into;
+use auxiliary::index_order;
+use layout::Row;
 use strided::Purpose;
 
 // ---- the purpose
@@ -52,16 +53,7 @@ pub fn purpose_without(k: u64, purpose: Purpose) -> Purpose
     }
 }
 
-// ---- a layout's lists, laid into arrays
-
-// A list, written into an array of zeros.
-pub fn lay(list: &[u64], out: &mut [u64])
-    requires list_in_bounds { length list.now ≤ length out.old }
-    requires out_value { out.old ≡ padded (length out.old) 0 [] }
-    ensures { out.new ≡ padded (length out.old) 0 list.now }
-{
-    out[..list.len()].copy_from_slice(list);
-}
+// ---- a layout's strides, laid into an array
 
 // Strides put behind the first `at` of an array that is 0 from there on.
 pub fn put_strides(out: &mut [i64; 512], at: usize, row: &[i64])
@@ -79,8 +71,8 @@ pub fn put_strides(out: &mut [i64; 512], at: usize, row: &[i64])
 fn clear<T: Copy>(out: &mut [T], zero: T)
     ensures { out.new ≡ replicate (length out.old) zero }
 {
-    for i in 0..out.len() {
-        out[i] = zero;
+    for place in out.iter_mut() {
+        *place = zero;
     }
 }
 
@@ -98,12 +90,12 @@ pub fn drop_row<T: Copy>(out: &mut [T], width: usize, rows: usize, k: usize, zer
 // ---- ranks
 
 // The ranks of a new operand's strides, put into the row behind those of the others.
-pub fn add_row(table: &mut [[u8; 64]; 8], operands: usize, strides: &[i64])
-    requires operands_bound { (operands < 8) × (length strides.now ≤ 64) }
+pub fn add_row(table: &mut [[u8; 64]; 8], operands: usize, row: Row)
+    requires operands_bound { operands < 8 }
     requires table_value { table.old ≡ padded 8 (replicate 64 0) (take operands table.old) }
-    ensures { table.new ≡ padded 8 (replicate 64 0) (take operands table.old ++ (padded 64 0 (ranks strides.now) ∷ [])) }
+    ensures { table.new ≡ padded 8 (replicate 64 0) (take operands table.old ++ (padded 64 0 (ranks row.entry.strides.now) ∷ [])) }
 {
-    index_order_into(strides, &mut table[operands]);
+    table[operands] = index_order(row);
 }
 
 // A row of ranks, put behind the first `at` places of an array that is 0 from there on.

@@ -5,10 +5,9 @@ ghost use Rattle.session.specs.Session.{given, begun, joined, left};
 ghost use Rattle.session.specs.Made.{session_at, Lent};
 
 use kernel::Aim;
-use layout::{Layout, check_planning};
-use layouts::lay;
+use layout::{check_planning, lay_into};
 use moves::{add_operand, begun, clear_plan, drop_operand, grown, keep, lay_operands, shrunk};
-use session::{LentSession, Numbers, check_join, check_leave};
+use session::{Laid, LentSession, Numbers, check_join, check_leave};
 use strided::Refusal;
 pub use values::{begin, join, leave};
 
@@ -16,8 +15,8 @@ pub mod layouts;
 pub mod moves;
 pub mod values;
 
-// Kept: a session's numbers and arrays are lent one by one as C lends them, here and in `keep`: a struct of `&mut` fields would say in each
-// contract of each field that it is lent on, and is no plainer.
+// Kept: a session's numbers and arrays are lent one by one as C lends them, and so are those that `keep` fills: a struct of `&mut` fields would
+// say in each contract of each field that it is lent on, and is no plainer.
 
 // A SESSION BEGINS in lent numbers and arrays, with any layout that planning accepts: rows 1 to 4, 24, 5, 6. On a refusal every byte is as it
 // was.
@@ -44,7 +43,7 @@ pub fn begin_lent<'a>(
         let g = given aim.machine layout_extents.now layout_sizes.now layout_strides.now aim.purpose in
         Lent (begun g) old new result }
 {
-    check_planning(
+    let layout = check_planning(
         layout_extents,
         layout_sizes,
         layout_strides,
@@ -52,14 +51,9 @@ pub fn begin_lent<'a>(
         aim.machine,
     )?;
     let rank = layout_extents.len();
-    let layout = Layout {
-        extents: layout_extents,
-        strides: layout_strides,
-        operands: layout_sizes.len(),
-    };
     let mut table = [[0u8; 64]; 8];
     *extents = [0u64; 64];
-    lay(layout_extents, &mut *extents);
+    lay_into(layout_extents, &mut *extents);
     lay_operands(
         layout,
         layout_sizes,
@@ -69,11 +63,14 @@ pub fn begin_lent<'a>(
         ranks,
     );
     *plan_strides = [0i64; 512];
-    *numbers = keep(
-        begun(aim, rank, layout_sizes.len()),
+    let laid = Laid {
+        numbers: begun(aim, rank, layout_sizes.len()),
         extents,
         sizes,
         strides,
+    };
+    *numbers = keep(
+        &laid,
         &table,
         weights,
         costs,
@@ -130,11 +127,14 @@ pub fn join_lent<'a>(
         ranks,
     );
     clear_plan(*numbers, &mut *plan_strides);
-    *numbers = keep(
-        grown(*numbers),
+    let laid = Laid {
+        numbers: grown(*numbers),
         extents,
         sizes,
         strides,
+    };
+    *numbers = keep(
+        &laid,
         &table,
         weights,
         costs,
@@ -147,6 +147,8 @@ pub fn join_lent<'a>(
 
 // OPERAND `operand` LEAVES a lent session, and the later ones move up: rows 10, 21. The ranks of those that stay are kept. On a refusal every
 // byte is as it was.
+// Kept: beside `join_lent`. What is alike is in `keep`; a closure over the lent places for the call that differs, with its contract, is no
+// plainer, and neither is a head or a tail with all of them as parameters.
 pub fn leave_lent<'a>(
     numbers: &mut Numbers,
     extents: &'a [u64; 64],
@@ -189,11 +191,14 @@ pub fn leave_lent<'a>(
         ranks,
     );
     clear_plan(*numbers, &mut *plan_strides);
-    *numbers = keep(
-        shrunk(*numbers, operand),
+    let laid = Laid {
+        numbers: shrunk(*numbers, operand),
         extents,
         sizes,
         strides,
+    };
+    *numbers = keep(
+        &laid,
         &table,
         weights,
         costs,

@@ -6,14 +6,14 @@ ghost use Rattle.session.specs.Session.{sizes_without, strides_without};
 ghost use Rattle.session.specs.Made.{TableOf, KeptIn, LayoutRight, given_in, Standing, begun_with, with_more, with_less, with_plan};
 
 use super::layouts::{
-    add_row, drop_row, kind_of, lay, purpose_without, put_row, put_strides, ranks_into,
+    add_row, drop_row, kind_of, purpose_without, put_row, put_strides, ranks_into,
 };
 use auxiliary::rank_table_into;
 use fuse::compute_costs;
 use kernel::Aim;
-use layout::{Layout, lead, purpose_of};
-use session::Numbers;
+use layout::{Layout, Row, Rows, lay_into, lead, purpose_of};
 use session::kept::{axes_kept_into, blocks_kept_into, weights_kept};
+use session::{Laid, Numbers};
 
 // ---- the numbers
 
@@ -69,7 +69,7 @@ fn planned(numbers: Numbers, axes: usize) -> Numbers
 
 // ---- the layout
 
-// A layout's operands, laid into a session's arrays, and the table of their ranks, which is lent as zeros.
+// A layout's operands, laid into a session's arrays, and the table of their ranks.
 pub fn lay_operands<'a>(
     layout: Layout<'a>,
     layout_sizes: &'a [u64],
@@ -78,12 +78,11 @@ pub fn lay_operands<'a>(
     strides: &mut [i64; 512],
     ranks: &mut [u64; 512],
 )
-    requires operands { layout.operands ≡ length layout_sizes.now }
-    requires table_value { table.old ≡ replicate 8 (replicate 64 0) }
+    requires { layout.operands ≡ length layout_sizes.now }
     ensures { Standing (length layout.entry.extents.now) layout_sizes.now layout.entry.strides.now sizes.new strides.new ranks.new table.new }
 {
     *sizes = [0u64; 8];
-    lay(layout_sizes, &mut *sizes);
+    lay_into(layout_sizes, &mut *sizes);
     *strides = [0i64; 512];
     put_strides(strides, 0, layout.strides);
     rank_table_into(layout, &mut *table);
@@ -109,7 +108,7 @@ pub fn add_operand(
         sizes.new strides.new ranks.new table.new }
 {
     let operands = numbers.operands;
-    add_row(&mut *table, operands, joining);
+    add_row(&mut *table, operands, Row { strides: joining });
     put_row(&table[operands], operands * 64, ranks);
     put_strides(strides, numbers.rank * operands, joining);
     sizes[operands] = size;
@@ -151,37 +150,38 @@ pub fn clear_plan(numbers: Numbers, plan_strides: &mut [i64; 512])
 
 // Weights, costs and plan of the layout that stands in a session's arrays, from the table of its ranks. The strides of a plan are lent as
 // zeros. The session's numbers are answered.
-pub fn keep<'a>(
-    numbers: Numbers,
-    extents: &'a [u64; 64],
-    sizes: &'a [u64; 8],
-    strides: &'a [i64; 512],
-    table: &'a [[u8; 64]; 8],
+pub fn keep(
+    laid: &Laid,
+    table: &[[u8; 64]; 8],
     weights: &mut [u64; 64],
     costs: &mut [u64; 64],
     plan_extents: &mut [u64; 64],
     blocks: &mut [u64; 64],
     plan_strides: &mut [i64; 512],
 ) -> Numbers
-    requires layout_right { LayoutRight numbers extents.now sizes.now strides.now }
-    requires table_of { TableOf (take (numbers.rank * numbers.operands) strides.now) numbers.rank numbers.operands table.now }
+    requires layout_right { LayoutRight laid.now.numbers laid.now.extents.now laid.now.sizes.now laid.now.strides.now }
+    requires table_of { let n = laid.now.numbers in TableOf (take (n.rank * n.operands) laid.now.strides.now) n.rank n.operands table.now }
     requires plan_strides_value { plan_strides.old ≡ replicate 512 (pos 0) }
-    ensures numbers { result ≡ with_plan numbers result.plan_rank }
-    ensures kept { let g = given_in numbers extents.now sizes.now strides.now in
+    ensures numbers { result ≡ with_plan laid.now.numbers result.plan_rank }
+    ensures kept { let g = given_in laid.now.numbers laid.now.extents.now laid.now.sizes.now laid.now.strides.now in
         KeptIn g result.plan_rank weights.new costs.new plan_extents.new blocks.new plan_strides.new }
 {
-    *weights = weights_kept(numbers, extents, strides, table);
+    *weights = weights_kept(laid, table);
     *plan_extents = [0u64; 64];
-    let axes = axes_kept_into(
+    let axes = axes_kept_into(laid, weights, &mut *plan_extents, &mut *plan_strides);
+    let numbers = planned(laid.numbers, axes);
+    let rows = Rows {
+        strides: plan_strides,
+        pitch: 64,
+        operands: numbers.operands,
+    };
+    *costs = compute_costs(rows, axes);
+    let after = Laid {
         numbers,
-        extents,
-        strides,
-        weights,
-        &mut *plan_extents,
-        &mut *plan_strides,
-    );
-    let after = planned(numbers, axes);
-    *costs = compute_costs(plan_strides, numbers.operands, axes);
-    blocks_kept_into(after, extents, sizes, plan_extents, plan_strides, blocks);
-    after
+        extents: laid.extents,
+        sizes: laid.sizes,
+        strides: laid.strides,
+    };
+    blocks_kept_into(&after, plan_extents, plan_strides, blocks);
+    numbers
 }

@@ -7,8 +7,9 @@ use Prim.Native.Nat.{ℕ, zero, suc, ◌+◌, ◌*◌, ◌≤◌, ◌<◌}
 use native.Mathlib.Nat.{zero-add, mul_assoc, mul-le-mul_left, mul-le-mul_right}
 use native.Mathlib.Numerals.{add-one}
 use native.Mathlib.Omega.{arith}
-use lib.ListN.{length, get_or, drop}
+use lib.ListN.{length, get_or, take, drop}
 use lib.Seq.{drop-cons}
+use Rattle.std.proofs.lemmas.List.{get_or-take, length-take-le}
 use Rattle.strided.specs.Base.{every}
 use Rattle.strided.specs.Layout.{total, NoZero, Within}
 use Rattle.laws.specs.Base.Ranges.{every_fails}
@@ -66,10 +67,16 @@ pub step-zero : (es : List ℕ) → step_of es 0 ≡ 1
 step-zero [] = refl
 step-zero (e ∷ es) = refl
 
-pub step-next : (es : List ℕ) (i : ℕ) → i < length es → step_of es (suc i) ≡ step_of es i * get_or es i 0
+step-next : (es : List ℕ) (i : ℕ) → i < length es → step_of es (suc i) ≡ step_of es i * get_or es i 0
 step-next [] i h = absurd (omega arith)
 step-next (e ∷ es) zero h = rw (step-zero es) (omega arith)
 step-next (e ∷ es) (suc i) h = ap (λ (k : ℕ). e * k) (step-next es i (omega arith)) ∙ sym (mul_assoc e (step_of es i) (get_or es i 0))
+
+-- along the first n axes
+pub step-taken : (es : List ℕ) (n : ℕ) → n ≤ length es → (i : ℕ) → i < length (take n es) → (i < n) × (step_of es i * get_or (take n es) i 0 ≡ step_of es (i + 1))
+step-taken es n f i h =
+    let l : i < n = omega (arith, length-take-le n es f, h) in
+    (l, ap (λ (k : ℕ). step_of es i * k) (get_or-take n es i 0 l) ∙ sym (step-next es i (omega (arith, l, f))) ∙ ap (step_of es) (sym (add-one i)))
 
 pub step_fits : (es : List ℕ) (i : ℕ) → NoZero es → i ≤ length es → step_of es i ≤ total es
 step_fits [] i z h = omega arith

@@ -14,16 +14,23 @@ use Rattle.strided.specs.Layout.{Axis, extents, row, total, has_zero}
 use Rattle.strided.specs.Order.{loop_order, fusing_order}
 use Rattle.strided.specs.Refusals.{planning_refused}
 use Rattle.strided.specs.Fuse.{plan_axes}
-use Rattle.strided.specs.Plan.{stride_table, cut_blocks, plan_from, planned}
+use Rattle.strided.specs.Plan.{stride_table, cut_blocks, plan_from, the_plan, planned}
+use Rattle.strided.specs.Memory.{plan_of}
 use Rattle.strided.specs.declared.Machine.{Machine}
 use Rattle.strided.specs.declared.Purpose.{Purpose}
 use Rattle.laws.specs.Base.Arrays.{length-padded}
 use Rattle.laws.specs.Base.Layouts.{total_nozero}
-use Rattle.laws.specs.Refusals.Accepted.{Accepted}
+use Rattle.laws.specs.Plan.Places.{plan_extents_lem, plan_blocks_lem, plan_strides}
+use Rattle.laws.specs.Refusals.Accepted.{Accepted, accepted}
+use Rattle.laws.specs.Refusals.Record.{planning_layout}
 use Rattle.laws.specs.Refusals.Zeros.{no_zero_test}
 use Rattle.laws.specs.Plan.Answers.{planned_served}
 use Rattle.laws.specs.Plan.Bounds.{plan_few, array_small, array_near}
-use Rattle.fuse.specs.Named.{given, fused_in}
+use Rattle.layout.specs.Lent.{Whole}
+use Rattle.layout.specs.Checked.{Laid}
+use Rattle.layout.specs.declared.slices.Layout.{Layout}
+use Rattle.layout.proofs.Checks.{laid_as, as_laid}
+use Rattle.fuse.specs.Planned.{given, fused_in}
 use Rattle.model.specs.Plannable.{Plannable}
 use Rattle.kernel.specs.Made.{Made}
 use Rattle.strided.specs.declared.Refusal.{Refusal}
@@ -88,3 +95,30 @@ pub serves : (mc : Machine) (es sizes : List ℕ) (ss : List ℤ) (u : Purpose) 
     → (rank : ℕ) (E B : List ℕ) (S : List ℤ) → Made mc es sizes ss u rank E B S
     → ◌≡◌ {A = Result Plan Refusal} (Ok (record { rank = rank; operands = length sizes; extents = E; blocks = B; strides = S })) (planned mc es sizes ss u)
 serves mc es sizes ss u h rank E B S m = ap (λ (p : Plan). Ok p) m.is ∙ sym (planned_served mc es sizes ss u h)
+
+-- a layout that planning does not refuse may be planned, and its plan is that of its slices
+module _ (mc : Machine) (es sizes : List ℕ) (ss : List ℤ) (u : Purpose) {l : Layout} (c : Laid (planning_refused mc es sizes ss u) es sizes ss l) where
+  pub laid-accepted : Accepted l.extents.now sizes l.strides.now u
+  laid-accepted = as_laid c (λ e m s. Accepted e sizes s u) (accepted es sizes ss u (planning_layout mc es sizes ss u c.served))
+
+  pub laid-made : {rank : ℕ} {E B : List ℕ} {S : List ℤ} → Made mc l.extents.now sizes l.strides.now u rank E B S → Made mc es sizes ss u rank E B S
+  laid-made {rank} {E} {B} {S} = laid_as c (λ e m s. Made mc e sizes s u rank E B S)
+
+-- it may be lent
+module _ (mc : Machine) (es sizes : List ℕ) (ss : List ℤ) (u : Purpose) (h : planning_refused mc es sizes ss u ≡ None) where
+  pub planned_whole : Whole (the_plan mc es sizes ss u)
+  unfolding plan_from
+  planned_whole =
+      let axs : List Axis = plan_axes es (length sizes) ss u in
+      let a = accepted es sizes ss u (planning_layout mc es sizes ss u h) in
+      record {
+        axes = plan_few es sizes ss u a;
+        one = a.one;
+        few = a.few;
+        extents-all = plan_extents_lem mc es sizes axs u;
+        blocks_all = plan_blocks_lem mc es sizes axs u;
+        strides_all = plan_strides mc es sizes axs u;
+      }
+
+  pub made_whole : {rank : ℕ} {E B : List ℕ} {S : List ℤ} → Made mc es sizes ss u rank E B S → Whole (plan_of rank (length sizes) E B S)
+  made_whole m = subst Whole (sym m.is) planned_whole

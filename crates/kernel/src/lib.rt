@@ -18,8 +18,8 @@ use order::{SMALL_TENSOR_THRESHOLD, fusing_order_into};
 use region::Axes;
 use strided::{Machine, Plan, Purpose, Refusal};
 
-// Kept: a plan's arrays are lent as zeros, one by one: who lends them has cleared them already, as C does, and a struct of `&mut` fields would
-// say in each contract of each that it is lent on.
+// Kept: a plan's arrays are lent as zeros, one by one: who lends them has cleared them already, and a struct of `&mut` fields would say in each
+// contract of each that it is lent on.
 
 // What a plan is for: layout, purpose and record alone fix the plan.
 #[derive(Clone, Copy)]
@@ -31,7 +31,6 @@ pub struct Aim {
 // Zeros in the arrays that a plan's axes are written into. The strides are cleared in two halves with the extents between them: each is a
 // call of the C library's memset, which takes longer for 4 KB at once than for 2 KB twice.
 pub fn clear_axes(es: &mut [u64; 64], table: &mut [i64; 512])
-    requires { length table.old ≡ 512 }
     ensures { Zeros es.new table.new }
 {
     table[..256].fill(0);
@@ -64,25 +63,20 @@ pub fn axes_into(
 // pointwise_plan and fold_plan are both this: they differ in the purpose alone.
 pub fn plan_into<'a>(
     aim: Aim,
-    extents: &'a [u64],
+    layout: Layout<'a>,
     sizes: &'a [u64],
-    strides: &'a [i64],
     es: &mut [u64; 64],
     blocks: &mut [u64; 64],
     table: &mut [i64; 512],
 ) -> usize
     requires allowed { Allowed aim.machine }
-    requires accepted { Accepted extents.now sizes.now strides.now aim.purpose }
+    requires operands { layout.operands ≡ length sizes.now }
+    requires accepted { Accepted layout.extents.now sizes.now layout.strides.now aim.purpose }
     requires zeros { Zeros es.old table.old }
-    ensures { Made aim.machine extents.now sizes.now strides.now aim.purpose
+    ensures { Made aim.machine layout.entry.extents.now sizes.now layout.entry.strides.now aim.purpose
         result es.new blocks.new table.new }
 {
-    let layout = Layout {
-        extents,
-        strides,
-        operands: sizes.len(),
-    };
-    if total_at_most(extents, SMALL_TENSOR_THRESHOLD) {
+    if total_at_most(layout.extents, SMALL_TENSOR_THRESHOLD) {
         let rank = given_axes_into(layout, &mut *es, &mut *table);
         *blocks = *es;
         return rank;
@@ -108,20 +102,12 @@ pub fn plan<'a>(
 ) -> Result<Plan, Refusal>
     ensures { result ≡ planned machine extents.now sizes.now strides.now purpose }
 {
-    check_planning(extents, sizes, strides, purpose, machine)?;
+    let layout = check_planning(extents, sizes, strides, purpose, machine)?;
     let mut es = [0u64; 64];
     let mut blocks = [0u64; 64];
     let mut table = [0i64; 512];
     let aim = Aim { purpose, machine };
-    let rank = plan_into(
-        aim,
-        extents,
-        sizes,
-        strides,
-        &mut es,
-        &mut blocks,
-        &mut table,
-    );
+    let rank = plan_into(aim, layout, sizes, &mut es, &mut blocks, &mut table);
     let made = Plan {
         rank,
         operands: sizes.len(),

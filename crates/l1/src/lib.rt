@@ -8,7 +8,7 @@ ghost use Rattle.std.specs.Prelude.{◌≡◌, ◌<◌, ◌≤◌, min, length, 
 ghost use Rattle.strided.specs.Fit.{fitted};
 ghost use Rattle.l1.specs.Live.{top, Live, Of, product_by, load_by, enters_by, most_by, chosen_size};
 
-use region::{AllowedMachine, Axes, Operand};
+use region::Cut;
 
 mod live;
 
@@ -35,11 +35,11 @@ impl L1Sets {
     const TOP: u64 = 17;
 
     // The live axes of an operand. Their byte strides are a line at least, so none is 0.
-    fn live_axes(machine: AllowedMachine, bytes: &[u32; 512], operand: Operand) -> LiveAxes
-        ensures { let o = operand.entry in let a = o.axes in Live machine.numbers bytes.now (get_or a.sizes.now o.k 0) a.rank o.k result }
+    fn live_axes(cut: Cut, k: usize) -> LiveAxes
+        requires { k < length cut.axes.sizes.now }
+        ensures { let c = cut.entry in let a = c.axes in Live c.machine.numbers c.bytes.now (get_or a.sizes.now k 0) a.rank k result }
     {
-        let k = operand.k;
-        let size = operand.axes.sizes[k];
+        let size = cut.axes.sizes[k];
         let none = LiveAxes {
             count: 0,
             aliased: 0,
@@ -48,22 +48,22 @@ impl L1Sets {
             return none;
         }
         let mut aliased: u64 = 0;
-        for i in 0..operand.axes.rank {
-            let s = u64::from(bytes[k * 64 + i]);
-            if s < machine.numbers.line {
+        for i in 0..cut.axes.rank {
+            let s = u64::from(cut.bytes[k * 64 + i]);
+            if s < cut.machine.numbers.line {
                 return LiveAxes { count: i, aliased };
             }
-            aliased += u64::from(s.is_multiple_of(machine.numbers.way)) << i;
+            aliased += u64::from(s.is_multiple_of(cut.machine.numbers.way)) << i;
         }
         none
     }
 
-    fn of(machine: AllowedMachine, bytes: &[u32; 512], axes: Axes) -> L1Sets
-        requires { length axes.sizes.now ≡ 2 }
-        ensures { let a = axes.entry in Of machine.numbers bytes.now a.sizes.now a.rank result }
+    fn of(cut: Cut) -> L1Sets
+        requires { length cut.axes.sizes.now ≡ 2 }
+        ensures { let c = cut.entry in Of c.machine.numbers c.bytes.now c.axes.sizes.now c.axes.rank result }
     {
-        let first = Self::live_axes(machine, bytes, Operand { axes, k: 0 });
-        let second = Self::live_axes(machine, bytes, Operand { axes, k: 1 });
+        let first = Self::live_axes(cut, 0);
+        let second = Self::live_axes(cut, 1);
         L1Sets { first, second }
     }
 
@@ -127,29 +127,24 @@ impl L1Sets {
 
     // The blocks with load at most the live lines, or with every block that may be shortened at 1. The outermost axis is shortened first, so
     // that the inner run stays long; blocks only shrink, so that the region still fits.
-    pub fn fit(
-        machine: AllowedMachine,
-        bytes: &[u32; 512],
-        axes: Axes,
-        chosen: usize,
-        blocks: &mut [u64; 64],
-    )
-        requires { (chosen < 8) × (length axes.sizes.now ≡ 2) }
-        ensures { let a = axes.entry in blocks.new
-            ≡ fitted machine.numbers bytes.now a.sizes.now a.rank (chosen_size a.strides.now chosen) blocks.old }
+    pub fn fit(cut: Cut, chosen: usize, blocks: &mut [u64; 64])
+        requires { (chosen < 8) × (length cut.axes.sizes.now ≡ 2) }
+        ensures { let c = cut.entry in let a = c.axes in blocks.new
+            ≡ fitted c.machine.numbers c.bytes.now a.sizes.now a.rank (chosen_size a.strides.now chosen) blocks.old }
     {
-        let sets = Self::of(machine, bytes, axes);
-        if sets.load(blocks) <= machine.numbers.live {
+        let sets = Self::of(cut);
+        let live = cut.machine.numbers.live;
+        if sets.load(blocks) <= live {
             return;
         }
-        for i in (0..axes.rank).rev() {
+        for i in (0..cut.axes.rank).rev() {
             let whole = blocks[i];
             // The order in which a cell of the chosen operand is written never changes: an axis along which it does not move is left alone.
-            let moves = axes.strides[chosen * 64 + i] != 0;
+            let moves = cut.axes.strides[chosen * 64 + i] != 0;
             if moves && sets.enters(i) && 1 < whole {
                 // A test of its own: it puts the block at 1, which stays where the load is still too great.
-                if sets.set_block(blocks, i, 1) <= machine.numbers.live {
-                    sets.widen(machine.numbers.live, blocks, i, whole);
+                if sets.set_block(blocks, i, 1) <= live {
+                    sets.widen(live, blocks, i, whole);
                     return;
                 }
             }

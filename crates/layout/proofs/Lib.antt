@@ -2,5 +2,9 @@
 pub mod Totals
 pub mod Caps
 pub mod Tests
+pub mod Checks
 pub mod Table
 pub mod Nearness
+pub mod Ranges
+pub mod Signs
+pub mod Lending

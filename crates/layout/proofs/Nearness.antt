@@ -1,6 +1,6 @@
 -- What is gathered of numbers above a bound; and no reach of a small layout is above 2^63 - 1. Assumes nothing.
 use mathlib.Core.Path.{◌≡◌, refl, sym, ap, ◌∙◌}
-use mathlib.Core.Bool.{Bool, true, false, not, ◌&&◌, false≢true}
+use mathlib.Core.Bool.{Bool, true, false, not, ◌&&◌, and_assoc, and-true, and-false}
 use mathlib.Core.List.{List, [], ◌∷◌}
 use Prim.Native.Nat.{ℕ, zero, suc, ◌+◌, ◌-◌, ◌*◌, ◌/◌, ◌^◌, ◌≤◌, ◌<◌}
 use native.Mathlib.Nat.{mul-le-mul_right, div-lt_iff_lt-mul}
@@ -12,8 +12,11 @@ use lib.IntN.{ℤ, nat_abs}
 use lib.ListN.{length, get_or, take, drop, drop_of_length-le}
 use lib.Seq.{drop-cons}
 use borrow.Author.Tests.{ltb-true, ltb-false, le-ltb, eqb-true, eqb-false, eq-eqb, ne_eqb}
+use Rattle.std.specs.List.{list_all}
 use Rattle.strided.specs.Layout.{has_zero, reach, max_i}
 use Rattle.strided.specs.Refusals.{some_operand}
+use Rattle.std.proofs.lemmas.Nat.{pow_pos}
+use Rattle.laws.specs.Base.Tests.{and_both}
 use Rattle.laws.specs.Refusals.Operands.{some_of_none}
 use Rattle.layout.specs.Laid.{row_at, far_at}
 use Rattle.layout.specs.Near.{all_below}
@@ -37,33 +40,25 @@ above_none x m p = go (ltb x m) refl
     go true q = eq-eqb (x / m) 0 (let h : x / m < 1 = (div-lt_iff_lt-mul p).1 (omega (arith, ltb-true x m q)) in omega arith)
     go false q = ne_eqb (x / m) 0 (λ e. let h : x < 1 * m = (div-lt_iff_lt-mul p).0 (omega (arith, e)) in omega (arith, ltb-false x m q))
 
-pow_some : (n : ℕ) → 0 < 2 ^ n
-pow_some zero = omega arith
-pow_some (suc n) = let h = pow_some n in omega (arith, h)
-
-assoc : (a b d : Bool) → ((a && b) && d) ≡ (a && (b && d))
-assoc true b d = refl
-assoc false b d = refl
-
-whole : (b : Bool) → b ≡ (b && true)
-whole true = refl
-whole false = refl
-
--- what is gathered of the places so far is nothing exactly if these are below, and the rest is still to test
-module _ {A : Type 0} (size : A → ℕ) (bits : ℕ) (xs : List A) (i above : ℕ) where
-  pub gathered_next : (z : A) (n : ℕ) → i < length xs → n ≡ size (get_or xs i z) → (eqb above 0 && all_below size (2 ^ bits) (drop i xs)) ≡ all_below size (2 ^ bits) xs
-      → (eqb (bit_or above (n / 2 ^ bits)) 0 && all_below size (2 ^ bits) (drop (i + 1) xs)) ≡ all_below size (2 ^ bits) xs
+-- the bits of a place are gathered, which are none exactly if its test holds: what is gathered of the places so far is none exactly if their
+-- tests hold, and the rest is still to test
+module _ {A : Type 0} (test : A → Bool) (xs : List A) (i seen : ℕ) where
+  pub gathered_next : (z : A) (n : ℕ) → i < length xs → eqb n 0 ≡ test (get_or xs i z) → (eqb seen 0 && list_all test (drop i xs)) ≡ list_all test xs
+      → (eqb (bit_or seen n) 0 && list_all test (drop (i + 1) xs)) ≡ list_all test xs
   gathered_next z n h q e =
-      let rest : Bool = all_below size (2 ^ bits) (drop (i + 1) xs) in
+      let rest : Bool = list_all test (drop (i + 1) xs) in
       let x : A = get_or xs i z in
-      let first : eqb (n / 2 ^ bits) 0 ≡ ltb (size x) (2 ^ bits) = above_none n (2 ^ bits) (pow_some bits) ∙ ap (λ (k : ℕ). ltb k (2 ^ bits)) q in
-      let step : all_below size (2 ^ bits) (drop i xs) ≡ (ltb (size x) (2 ^ bits) && rest) =
-      ap (all_below size (2 ^ bits)) (drop-cons xs i z h) ∙ ap (λ (j : ℕ). ltb (size x) (2 ^ bits) && all_below size (2 ^ bits) (drop j xs)) (sym (add-one i)) in
-      ap (λ (y : Bool). y && rest) (or_none above (n / 2 ^ bits) ∙ ap (λ (y : Bool). eqb above 0 && y) first)
-      ∙ assoc (eqb above 0) (ltb (size x) (2 ^ bits)) rest ∙ ap (λ (y : Bool). eqb above 0 && y) (sym step) ∙ e
+      let step : list_all test (drop i xs) ≡ (test x && rest) =
+      ap (list_all test) (drop-cons xs i z h) ∙ ap (λ (j : ℕ). test x && list_all test (drop j xs)) (sym (add-one i)) in
+      ap (λ (y : Bool). y && rest) (or_none seen n ∙ ap (λ (y : Bool). eqb seen 0 && y) q)
+      ∙ and_assoc (eqb seen 0) (test x) rest ∙ ap (λ (y : Bool). eqb seen 0 && y) (sym step) ∙ e
 
-  pub gathered_end : length xs ≤ i → (eqb above 0 && all_below size (2 ^ bits) (drop i xs)) ≡ all_below size (2 ^ bits) xs → eqb above 0 ≡ all_below size (2 ^ bits) xs
-  gathered_end h e = whole (eqb above 0) ∙ ap (λ (l : List A). eqb above 0 && all_below size (2 ^ bits) l) (sym (drop_of_length-le xs h)) ∙ e
+  pub gathered_end : length xs ≤ i → (eqb seen 0 && list_all test (drop i xs)) ≡ list_all test xs → eqb seen 0 ≡ list_all test xs
+  gathered_end h e = sym (and-true (eqb seen 0)) ∙ ap (λ (l : List A). eqb seen 0 && list_all test l) (sym (drop_of_length-le xs h)) ∙ e
+
+-- the bits from a bound on are none exactly if the size is below it
+pub below_bits : (bits n size : ℕ) → n ≡ size → eqb (n / 2 ^ bits) 0 ≡ ltb size (2 ^ bits)
+below_bits bits n size q = above_none n (2 ^ bits) (pow_pos bits) ∙ ap (λ (k : ℕ). ltb k (2 ^ bits)) q
 
 -- ---- the reach
 
@@ -72,15 +67,6 @@ low es = all_below (λ n. n) (2 ^ 16) es
 
 abbrev near : List ℤ → Bool
 near ss = all_below nat_abs (2 ^ 41) ss
-
--- both parts of a test that holds
-left : (a b : Bool) → (a && b) ≡ true → a ≡ true
-left true b h = refl
-left false b h = absurd (false≢true h)
-
-right : (a b : Bool) → (a && b) ≡ true → b ≡ true
-right true b h = h
-right false b h = absurd (false≢true h)
 
 product : (e m : ℕ) → e < 2 ^ 16 → m < 2 ^ 41 → (e - 1) * m < 2 ^ 57
 product e m h l =
@@ -92,32 +78,29 @@ small : (es : List ℕ) (ts : List ℤ) → low es ≡ true → near ts ≡ true
 small [] ts h l = omega arith
 small (e ∷ es) [] h l = omega arith
 small (e ∷ es) (t ∷ ts) h l =
-    let a = ltb-true e (2 ^ 16) (left (ltb e (2 ^ 16)) (low es) h) in
-    let b = ltb-true (nat_abs t) (2 ^ 41) (left (ltb (nat_abs t) (2 ^ 41)) (near ts) l) in
-    omega (arith, product e (nat_abs t) a b, small es ts (right (ltb e (2 ^ 16)) (low es) h) (right (ltb (nat_abs t) (2 ^ 41)) (near ts) l))
+    let p = and_both (ltb e (2 ^ 16)) (low es) h in
+    let q = and_both (ltb (nat_abs t) (2 ^ 41)) (near ts) l in
+    omega (arith, product e (nat_abs t) (ltb-true e (2 ^ 16) p.0) (ltb-true (nat_abs t) (2 ^ 41) q.0), small es ts p.1 q.1)
 
 near-drop : (n : ℕ) (ss : List ℤ) → near ss ≡ true → near (drop n ss) ≡ true
 near-drop zero ss h = h
 near-drop (suc n) [] h = refl
-near-drop (suc n) (s ∷ ss) h = near-drop n ss (right (ltb (nat_abs s) (2 ^ 41)) (near ss) h)
+near-drop (suc n) (s ∷ ss) h = near-drop n ss (and_both (ltb (nat_abs s) (2 ^ 41)) (near ss) h).1
 
 near-take : (n : ℕ) (ss : List ℤ) → near ss ≡ true → near (take n ss) ≡ true
 near-take zero ss h = refl
 near-take (suc n) [] h = refl
 near-take (suc n) (s ∷ ss) h =
-    rw (left (ltb (nat_abs s) (2 ^ 41)) (near ss) h, near-take n ss (right (ltb (nat_abs s) (2 ^ 41)) (near ss) h))
+    let p = and_both (ltb (nat_abs s) (2 ^ 41)) (near ss) h in
+    rw (p.0, near-take n ss p.1)
 
 -- row 6 does not apply
 module _ (es : List ℕ) (ss : List ℤ) (operands pitch : ℕ) (few : length es ≤ 64) {b : Bool} (is : b ≡ (all_below (λ n. n) (2 ^ 16) es && all_below nat_abs (2 ^ 41) ss)) (t : b ≡ true) where
   none_far : (k : ℕ) → far_at es (row_at es ss pitch) k ≡ false
   none_far k =
-      let h : (low es && near ss) ≡ true = sym is ∙ t in
-      let r = small es (row_at es ss pitch k) (left (low es) (near ss) h) (near-take (length es) (drop (k * pitch) ss) (near-drop (k * pitch) ss (right (low es) (near ss) h))) in
+      let h = and_both (low es) (near ss) (sym is ∙ t) in
+      let r = small es (row_at es ss pitch k) h.0 (near-take (length es) (drop (k * pitch) ss) (near-drop (k * pitch) ss h.1)) in
       le-ltb max_i (reach es (row_at es ss pitch k)) (omega (arith, r))
 
-  never : (z : Bool) → (z && false) ≡ false
-  never true = refl
-  never false = refl
-
   pub small_passes : some_operand es (far_at es (row_at es ss pitch)) operands ≡ false
-  small_passes = rw (some_of_none (far_at es (row_at es ss pitch)) operands (λ k l. none_far k)) (never (not (has_zero es)))
+  small_passes = rw (some_of_none (far_at es (row_at es ss pitch)) operands (λ k l. none_far k)) (and-false (not (has_zero es)))

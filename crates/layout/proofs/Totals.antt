@@ -1,9 +1,9 @@
 -- Laws of a total as 64 bits hold it. Assumes nothing.
 use mathlib.Core.Path.{◌≡◌, refl, sym, ◌∙◌, ap}
-use mathlib.Core.Bool.{Bool, true, false, false≢true}
+use mathlib.Core.Bool.{Bool, true, false}
 use mathlib.Core.List.{List, [], ◌∷◌}
 use Prim.Native.Nat.{ℕ, zero, suc, ◌+◌, ◌*◌, ◌-◌, ◌^◌, ◌≤◌, ◌<◌}
-use native.Mathlib.Nat.{le_trans, mul-le-mul_left, mul-le-mul_right, mul_assoc, zero-mul, mul-zero, mul-one}
+use native.Mathlib.Nat.{mul-le-mul_left, mul_assoc, mul-zero, mul-one}
 use native.Mathlib.Numerals.{add-one}
 use native.Mathlib.Omega.{arith}
 use lib.Dec.{ltb, leb, eqb}
@@ -12,6 +12,7 @@ use lib.Seq.{take_all}
 use borrow.Author.Tests.{lt-ltb, le-ltb, le-leb, lt-leb, ltb-true, ltb-false, eq-eqb, ne_eqb, eqb-true, eqb-false}
 use Rattle.std.specs.Prelude.{Option, Some, None, SomeIff, is_some, not}
 use Rattle.strided.specs.Layout.{total, has_zero, max_u}
+use Rattle.laws.specs.Refusals.Zeros.{zero-total, no_zero_of, total_some}
 use Rattle.layout.specs.Held.{held, times_of}
 
 pub held_fits : (n : ℕ) → n < 2 ^ 64 → held n ≡ Some n
@@ -84,24 +85,6 @@ total_split [] (suc n) = refl
 total_split (e ∷ es) zero = omega arith
 total_split (e ∷ es) (suc n) = rw (total_split es n) (sym (mul_assoc e (total (take n es)) (total (drop n es))))
 
-zero-total : (es : List ℕ) → has_zero es ≡ true → total es ≡ 0
-zero-total [] h = absurd (false≢true h)
-zero-total (e ∷ es) h = go (eqb e 0) refl (zero-total es)
-  where
-    go : (b : Bool) → eqb e 0 ≡ b → (has_zero es ≡ true → total es ≡ 0) → e * total es ≡ 0
-    go true q z = rw (eqb-true e 0 q) (zero-mul (total es))
-    go false q z = rw (z (rw q at h)) (mul-zero e)
-
-some_total : (es : List ℕ) → has_zero es ≡ false → 1 ≤ total es
-some_total [] h = omega arith
-some_total (e ∷ es) h = go (eqb e 0) refl (some_total es)
-  where
-    go : (b : Bool) → eqb e 0 ≡ b → (has_zero es ≡ false → 1 ≤ total es) → 1 ≤ e * total es
-    go true q s = absurd (false≢true (sym (rw q at h)))
-    go false q s =
-        let p : 1 ≤ e = omega (arith, eqb-false e 0 q) in
-        let g : 1 * 1 ≤ e * total es = le_trans (mul-le-mul_right 1 p) (mul-le-mul_left e (s (rw q at h))) in omega arith
-
 -- a 0 behind it brings it back, and nothing else does
 pub total_past : (es : List ℕ) (n limit : ℕ) → limit < total (take n es) → has_zero (take (length es - n) (drop n es)) ≡ leb (total es) limit
 total_past es n limit h = ap has_zero (take_all (length es - n) (drop n es) (omega (arith, length-drop n es))) ∙ go (has_zero (drop n es)) refl
@@ -111,7 +94,7 @@ total_past es n limit h = ap has_zero (take_all (length es - n) (drop n es) (ome
         let z : total es ≡ 0 = total_split es n ∙ rw (zero-total (drop n es) q) (mul-zero (total (take n es))) in
         sym (le-leb (total es) limit (omega (arith, z)))
     go false q =
-        let g : total (take n es) * 1 ≤ total (take n es) * total (drop n es) = mul-le-mul_left (total (take n es)) (some_total (drop n es) q) in
+        let g : total (take n es) * 1 ≤ total (take n es) * total (drop n es) = mul-le-mul_left (total (take n es)) (total_some (drop n es) (no_zero_of (drop n es) q)) in
         sym (lt-leb (total es) limit (omega (arith, g, total_split es n, h)))
 
 -- ---- which of the two it is

@@ -1,9 +1,12 @@
-// Whether numbers lie below a power of two, or are 0 alone, signed ones by their size. What lies above is gathered over all places, and looked
-// at once, behind the loop: so the compiler takes several places in one step. And the first place where one number is below another.
-ghost use Rattle.std.specs.Prelude.{◌≡◌, Bool, List, ℕ, ◌^◌, ◌≤◌, ◌<◌, nat_abs, get_or};
-ghost use Rattle.strided.specs.Decline.{first_cut};
+// Whether numbers lie below a power of two, signed ones by their size, or are 0 alone. The bits that tell are gathered over all places, and
+// looked at once, behind the loop: so the compiler takes several places in one step. And numbers that have their bounds beside them: whether
+// each is below its own, and the first that is.
+ghost use Rattle.std.specs.Prelude.{◌≡◌, Bool, List, ℕ, ◌^◌, ◌<◌, nat_abs, length, eqb};
+ghost use Rattle.std.specs.List.{list_all};
+ghost use Rattle.strided.specs.Layout.{within};
 ghost use Rattle.strided.specs.Step.{blank, blank_z};
-ghost use Rattle.layout.specs.Near.{all_below, blank_below, blank_z_below};
+ghost use Rattle.layout.specs.Near.{all_below, blank_all, blank_z_all};
+ghost use Rattle.layout.specs.Below.{FirstBelow};
 
 // A kind of number, with or without a sign.
 pub trait Number: Copy {
@@ -16,7 +19,11 @@ pub trait Number: Copy {
     fn size(self) -> u64
         ensures { result ≡ size self };
 
-    ghost none: { (xs : List Self) → all_below size 1 xs ≡ blank xs };
+    // Its bits, which are 0 for 0 alone, as its size is, with no sign to take off.
+    fn bits(self) -> u64
+        ensures { eqb result 0 ≡ eqb (size self) 0 };
+
+    ghost none: { (xs : List Self) → list_all (λ x. eqb (size x) 0) xs ≡ blank xs };
 }
 
 impl Number for u64 {
@@ -24,9 +31,13 @@ impl Number for u64 {
 
     ghost blank = { blank };
 
-    ghost none = { blank_below };
+    ghost none = { blank_all };
 
     fn size(self) -> u64 {
+        self
+    }
+
+    fn bits(self) -> u64 {
         self
     }
 }
@@ -36,10 +47,14 @@ impl Number for i64 {
 
     ghost blank = { blank_z };
 
-    ghost none = { blank_z_below };
+    ghost none = { blank_z_all };
 
     fn size(self) -> u64 {
         self.unsigned_abs()
+    }
+
+    fn bits(self) -> u64 {
+        self.cast_unsigned()
     }
 }
 
@@ -59,22 +74,37 @@ pub fn all_below<N: Number>(numbers: &[N], bits: u64) -> bool
 pub fn all_zero<N: Number>(numbers: &[N]) -> bool
     ensures { result ≡ N.blank numbers.now }
 {
-    all_below(numbers, 0)
+    let mut seen: u64 = 0;
+    for n in numbers {
+        seen |= n.bits();
+    }
+    seen == 0
 }
 
-// The first of the places at which a number is below its bound; their count where there is none.
-// Kept: the count beside the arrays. Cutting has no plan yet, and a stretch has its plan's extents beside blocks as they act.
-pub fn first_below<'a>(numbers: &'a [u64; 64], bounds: &'a [u64; 64], count: usize) -> usize
-    requires { count ≤ 64 }
-    ensures first { result ≡ first_cut bounds.now numbers.now count }
-    ensures bound { result ≤ count }
-    ensures before { (j : ℕ) → j < result → get_or bounds.now j 0 ≤ get_or numbers.now j 0 }
-    ensures there { result < count → get_or numbers.now result 0 < get_or bounds.now result 0 }
+// Whether an index has a place for each extent, and lies below it.
+pub fn within(extents: &[u64], index: &[u64]) -> bool
+    ensures { result ≡ within extents.now index.now }
 {
-    for i in 0..count {
-        if numbers[i] < bounds[i] {
-            return i;
+    if index.len() != extents.len() {
+        return false;
+    }
+    for i in 0..extents.len() {
+        if index[i] >= extents[i] {
+            return false;
         }
     }
-    count
+    true
+}
+
+// The first of the places at which a number is below its bound.
+pub fn first_below<'a>(numbers: &'a [u64], bounds: &'a [u64]) -> Option<usize>
+    requires { length numbers.now ≡ length bounds.now }
+    ensures { FirstBelow numbers.now bounds.now result }
+{
+    for (i, n) in numbers.iter().enumerate() {
+        if *n < bounds[i] {
+            return Some(i);
+        }
+    }
+    None
 }

@@ -7,6 +7,7 @@ ghost use Rattle.strided.specs.Refusals.{row6};
 ghost use Rattle.layout.specs.Lent.{lent, Whole};
 
 use super::rows::{operands_wrong, rank_over, reach_over};
+use super::slices::Rows;
 use std::marker::Model;
 use strided::{Plan, Refusal};
 
@@ -93,6 +94,11 @@ impl<'a> LentPlan<'a> {
         ensures { result ≡ (row6 (plan_extents self.now) self.now.operands (plan_row self.now)).applies }
     {
         let strides = self.strides;
-        reach_over(self.axes(), strides, 64, self.operands)
+        let rows = Rows {
+            strides,
+            pitch: 64,
+            operands: self.operands,
+        };
+        reach_over(self.axes(), rows)
     }
 }

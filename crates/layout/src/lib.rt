@@ -1,15 +1,17 @@
-// What a layout is refused for: rows 1 to 6 of the refusal table, with 24 among them where it is to be planned. Beside it what all later
-// crates read off a layout: the total, the reach, the lead, the purpose, and the number of a refusal.
+// What a layout is refused for: rows 1 to 6 of the refusal table, with 24 among them where it is to be planned. A check hands out the
+// `Layout` that it lets through. Beside it what all later crates read off a layout: the total, the reach, the lead, the purpose, and the
+// number of a refusal.
 #![tactic(auto)]
 
-ghost use Rattle.std.specs.Prelude.{◌≡◌, ◌≤◌, length};
-ghost use Rattle.strided.specs.Layout.{lead};
-ghost use Rattle.strided.specs.Refusals.{number, negated, refused_by, answered, count_rows, span_rows, layout_refused, planning_refused};
+ghost use Rattle.std.specs.Prelude.{◌≡◌, [], ◌∷◌, length};
+ghost use Rattle.strided.specs.Layout.{lead, stride_row};
+ghost use Rattle.strided.specs.Refusals.{number, negated, refused_by, answered, row5, row6, count_rows, layout_refused, planning_refused};
 ghost use Rattle.strided.specs.Memory.{purpose_of};
-ghost use Rattle.layout.specs.Laid.{Laid};
+ghost use Rattle.layout.specs.Checked.{Checked};
 
 use strided::{Machine, Purpose, Refusal};
 
+pub mod along;
 pub mod below;
 pub mod lent;
 mod near;
@@ -17,14 +19,15 @@ pub mod rows;
 pub mod sizes;
 pub mod slices;
 
-pub use below::{all_below, all_zero, first_below};
+pub use along::Along;
+pub use below::{all_below, all_zero, first_below, within};
 pub use lent::LentPlan;
 pub use rows::{
-    chosen_missing, machine_allowed, operands_wrong, rank_over, reach_at, reach_over,
-    strides_wrong, total_over,
+    chosen_missing, machine_allowed, operands_wrong, rank_over, reach_over, strides_wrong,
+    total_over,
 };
 pub use sizes::{has_zero, total_at_most, total_len};
-pub use slices::{Layout, Rows, lay_into};
+pub use slices::{Layout, Row, Rows, lay_into};
 
 // The number of a refusal in document 01's table.
 pub fn number(refusal: Refusal) -> u64
@@ -67,8 +70,8 @@ pub fn check_counts<'a>(
     sizes: &'a [u64],
     strides: &'a [i64],
     purpose: Purpose,
-) -> Result<(), Refusal>
-    ensures { result ≡ answered (refused_by (count_rows extents.now sizes.now strides.now purpose)) }
+) -> Result<Layout<'a>, Refusal>
+    ensures { Checked (refused_by (count_rows extents.now sizes.now strides.now purpose)) extents.now sizes.now strides.now result }
 {
     let rank = extents.len();
     let operands = sizes.len();
@@ -84,24 +87,25 @@ pub fn check_counts<'a>(
     if chosen_missing(operands, purpose) {
         return Err(Refusal::Chosen);
     }
-    Ok(())
+    Ok(Layout {
+        extents,
+        strides,
+        operands,
+    })
 }
 
 // Rows 5 and 6. Row 6 reads the strides that row 3 counted.
-fn check_spans<'a>(extents: &'a [u64], sizes: &'a [u64], strides: &'a [i64]) -> Result<(), Refusal>
-    requires laid { Laid extents.now strides.now (length extents.now) (length sizes.now) }
-    requires extents_len_bound { (length extents.now ≤ 64) × (length strides.now ≤ 512) }
-    ensures { result ≡ answered (refused_by (span_rows extents.now sizes.now strides.now)) }
+fn check_spans(layout: Layout) -> Result<(), Refusal>
+    ensures { let l = layout.entry in
+        result ≡ answered (refused_by (row5 l.extents.now ∷ row6 l.extents.now l.operands (stride_row l.strides.now (length l.extents.now)) ∷ [])) }
 {
-    let rank = extents.len();
-    let operands = sizes.len();
-    if total_over(extents) {
+    if total_over(layout.extents) {
         return Err(Refusal::Total);
     }
-    if near::small_layout(extents, strides) {
+    if near::small_layout(layout.extents, layout.strides) {
         return Ok(());
     }
-    if reach_over(extents, strides, rank, operands) {
+    if reach_over(layout.extents, layout.rows()) {
         return Err(Refusal::Reach);
     }
     Ok(())
@@ -113,11 +117,12 @@ pub fn check_layout<'a>(
     sizes: &'a [u64],
     strides: &'a [i64],
     purpose: Purpose,
-) -> Result<(), Refusal>
-    ensures { result ≡ answered (layout_refused extents.now sizes.now strides.now purpose) }
+) -> Result<Layout<'a>, Refusal>
+    ensures { Checked (layout_refused extents.now sizes.now strides.now purpose) extents.now sizes.now strides.now result }
 {
-    check_counts(extents, sizes, strides, purpose)?;
-    check_spans(extents, sizes, strides)
+    let layout = check_counts(extents, sizes, strides, purpose)?;
+    check_spans(layout)?;
+    Ok(layout)
 }
 
 // Rows 1 to 4, 24, 5, 6: what planning refuses.
@@ -127,12 +132,13 @@ pub fn check_planning<'a>(
     strides: &'a [i64],
     purpose: Purpose,
     machine: Machine,
-) -> Result<(), Refusal>
-    ensures { result ≡ answered (planning_refused machine extents.now sizes.now strides.now purpose) }
+) -> Result<Layout<'a>, Refusal>
+    ensures { Checked (planning_refused machine extents.now sizes.now strides.now purpose) extents.now sizes.now strides.now result }
 {
-    check_counts(extents, sizes, strides, purpose)?;
+    let layout = check_counts(extents, sizes, strides, purpose)?;
     if !machine_allowed(machine) {
         return Err(Refusal::Record);
     }
-    check_spans(extents, sizes, strides)
+    check_spans(layout)?;
+    Ok(layout)
 }

@@ -5,9 +5,10 @@ ghost use Rattle.strided.specs.Machine.{line_allowed, allowed};
 ghost use Rattle.strided.specs.Base.{some_of};
 ghost use Rattle.strided.specs.Layout.{reach};
 ghost use Rattle.strided.specs.Refusals.{row1, row2, row3, row4, row5, row6};
-ghost use Rattle.layout.specs.Laid.{Laid, row_at, far_at};
+ghost use Rattle.layout.specs.Laid.{row_at, far_at};
 
 use super::sizes::{has_zero, reach_of, total_len};
+use super::slices::Rows;
 use strided::{MAX_OPERANDS, MAX_RANK, Machine, Purpose};
 
 // Row 1.
@@ -73,23 +74,13 @@ pub fn total_over(extents: &[u64]) -> bool
     total_len(extents).is_none()
 }
 
-// The reach of operand k, whose strides begin at k * pitch, or 2^63 where that is less.
-pub fn reach_at<'a>(extents: &'a [u64], strides: &'a [i64], pitch: usize, k: usize) -> u64
-    requires { k * pitch + length extents.now ≤ length strides.now }
-    ensures { result ≡ min (reach extents.now (row_at extents.now strides.now pitch k)) (2 ^ 63) }
-{
-    let from = k * pitch;
-    let to = from + extents.len();
-    reach_of(extents, &strides[from..to])
-}
-
 // Whether some operand's reach is above 2^63 - 1.
-fn some_far<'a>(extents: &'a [u64], strides: &'a [i64], pitch: usize, operands: usize) -> bool
-    requires { Laid extents.now strides.now pitch operands }
-    ensures { result ≡ some_of (far_at extents.now (row_at extents.now strides.now pitch)) 0 operands }
+fn some_far(extents: &[u64], rows: Rows) -> bool
+    requires { length extents.now ≤ rows.pitch }
+    ensures { result ≡ some_of (far_at extents.now (row_at extents.now rows.entry.strides.now rows.entry.pitch)) 0 rows.entry.operands }
 {
-    for k in 0..operands {
-        if reach_at(extents, strides, pitch, k) > i64::MAX as u64 {
+    for k in 0..rows.operands {
+        if reach_of(extents, rows.row(k, extents.len())) > i64::MAX as u64 {
             return true;
         }
     }
@@ -97,9 +88,9 @@ fn some_far<'a>(extents: &'a [u64], strides: &'a [i64], pitch: usize, operands: 
 }
 
 // Row 6.
-pub fn reach_over<'a>(extents: &'a [u64], strides: &'a [i64], pitch: usize, operands: usize) -> bool
-    requires { Laid extents.now strides.now pitch operands }
-    ensures { result ≡ (row6 extents.now operands (row_at extents.now strides.now pitch)).applies }
+pub fn reach_over(extents: &[u64], rows: Rows) -> bool
+    requires { length extents.now ≤ rows.pitch }
+    ensures { result ≡ (row6 extents.now rows.entry.operands (row_at extents.now rows.entry.strides.now rows.entry.pitch)).applies }
 {
-    !has_zero(extents) && some_far(extents, strides, pitch, operands)
+    !has_zero(extents) && some_far(extents, rows)
 }

@@ -1,6 +1,6 @@
 // A layout's slices once rows 1 to 3 have let them through, and its strides alone, for whoever only moves along the axes; and a list as an array
 // holds it.
-ghost use Rattle.std.specs.Prelude.{◌≡◌, ◌*◌, ◌≤◌, ◌<◌, length, replicate};
+ghost use Rattle.std.specs.Prelude.{◌≡◌, ◌*◌, ◌≤◌, ◌<◌, length, take, drop, replicate};
 ghost use Rattle.strided.specs.Base.{padded};
 ghost use Rattle.strided.specs.Layout.{stride_row};
 ghost use Rattle.layout.specs.Fitting.{Fitting};
@@ -29,13 +29,21 @@ impl<'a> Layout<'a> {
     }
 
     // The strides of one operand.
-    pub fn row(self, k: usize) -> &'a [i64]
+    pub fn row(self, k: usize) -> Row<'a>
         requires { k < self.operands }
-        ensures { result.now ≡ stride_row self.entry.strides.now (length self.entry.extents.now) k }
+        ensures { result.strides.now ≡ stride_row self.entry.strides.now (length self.entry.extents.now) k }
     {
-        let from = k * self.extents.len();
-        &self.strides[from..from + self.extents.len()]
+        Row {
+            strides: self.rows().row(k, self.extents.len()),
+        }
     }
+}
+
+// One operand's strides, at most 64.
+#[derive(Clone, Copy)]
+pub struct Row<'a> {
+    pub strides: &'a [i64],
+    pub ghost few: { length strides.now ≤ 64 },
 }
 
 // Operand k's stride on axis a stands at k * pitch + a: the pitch is the rank for a layout's own strides, 64 for a plan's.
@@ -45,6 +53,17 @@ pub struct Rows<'a> {
     pub pitch: usize,
     pub operands: usize,
     pub ghost all: { operands * pitch ≤ length strides.now },
+}
+
+impl<'a> Rows<'a> {
+    // Operand k's strides on the first `axes` axes.
+    pub fn row(self, k: usize, axes: usize) -> &'a [i64]
+        requires { (k < self.operands) × (axes ≤ self.pitch) }
+        ensures { result.now ≡ take axes (drop (k * self.entry.pitch) self.entry.strides.now) }
+    {
+        let from = k * self.pitch;
+        &self.strides[from..from + axes]
+    }
 }
 
 // A list, written into an array of zeros.

@@ -5,7 +5,7 @@ ghost use Rattle.std.specs.Prelude.{◌≡◌};
 ghost use Rattle.strided.specs.Mark.{mark_of, marked};
 
 use distinct::{Operand, repeats};
-use layout::{has_zero, rank_over, reach_over, strides_wrong, total_at_most, total_over};
+use layout::{Rows, has_zero, rank_over, reach_over, strides_wrong, total_at_most, total_over};
 use quick::{rising, some_stays};
 use strided::{Mark, Refusal};
 
@@ -45,7 +45,12 @@ pub fn repeat_mark<'a>(extents: &'a [u64], strides: &'a [i64]) -> Result<Mark, R
     if total_over(extents) {
         return Err(Refusal::Total);
     }
-    if reach_over(extents, strides, rank, 1) {
+    let rows = Rows {
+        strides,
+        pitch: rank,
+        operands: 1,
+    };
+    if reach_over(extents, rows) {
         return Err(Refusal::Reach);
     }
     if has_zero(extents) {

@@ -20,7 +20,8 @@ use block::compute_blocks_at;
 use decline::declines_tiles;
 use fuse::compute_costs;
 use l1::L1Sets;
-use region::{AllowedMachine, Axes, Operand, Tail, memory_region};
+use layout::Rows;
+use region::{AllowedMachine, Axes, Cut, Operand, memory_region};
 use strided::{Machine, Purpose};
 
 mod image;
@@ -93,58 +94,46 @@ fn keeps_order(axes: Axes) -> bool
 }
 
 // Whether the whole fits the cache, so that no axis is cut either.
-fn fits_whole(machine: AllowedMachine, bytes: &[u32; 512], axes: Axes) -> bool
-    ensures { let a = axes.entry in result ≡ leb (region machine.numbers bytes.now (length a.sizes.now) a.extents.now 0 a.rank) machine.numbers.cache }
+fn fits_whole(cut: Cut) -> bool
+    ensures { let c = cut.entry in let a = c.axes in result
+        ≡ leb (region c.machine.numbers c.bytes.now (length a.sizes.now) a.extents.now 0 a.rank) c.machine.numbers.cache }
 {
-    let all = Tail {
-        machine,
-        bytes,
-        operands: axes.sizes.len(),
-        offset: 0,
-        rank: axes.rank,
-    };
-    memory_region(all, axes.extents) <= machine.numbers.cache
+    memory_region(cut.all(), cut.axes.extents) <= cut.machine.numbers.cache
 }
 
 // A copy into the chosen operand is fitted to the L1 sets. A fold keeps the model's blocks, which order its sum; walks with more operands
 // lose more by short runs than they gain.
-fn fit_for(
-    machine: AllowedMachine,
-    bytes: &[u32; 512],
-    axes: Axes,
-    purpose: Purpose,
-    blocks: &mut [u64; 64],
-)
-    requires { missing (length axes.sizes.now) (chosen purpose) ≡ false }
-    ensures { let a = axes.entry in blocks.new ≡ fitted_for machine.numbers purpose bytes.now a.sizes.now a.strides.now a.rank blocks.old }
+fn fit_for(cut: Cut, purpose: Purpose, blocks: &mut [u64; 64])
+    requires { missing (length cut.axes.sizes.now) (chosen purpose) ≡ false }
+    ensures { let c = cut.entry in let a = c.axes in blocks.new ≡ fitted_for c.machine.numbers purpose c.bytes.now a.sizes.now a.strides.now a.rank blocks.old }
 {
     match purpose {
         Purpose::Pointwise | Purpose::Fold(_) => (),
         Purpose::PointwiseInto(c) => {
-            if axes.sizes.len() == 2 {
-                L1Sets::fit(machine, bytes, axes, c as usize, blocks);
+            if cut.axes.sizes.len() == 2 {
+                L1Sets::fit(cut, c as usize, blocks);
             }
         }
     }
 }
 
 // The cutting rule on all the plan's axes, which `blocks` holds whole. Costs and ranks are those of the plan's axes, worked out once.
-fn cut_axes(machine: AllowedMachine, bytes: &[u32; 512], axes: Axes, blocks: &mut [u64; 64])
-    requires plannable { Plannable axes.sizes.now blocks.old axes.strides.now axes.rank Pointwise }
-    requires images { let a = axes in Images machine.numbers (length a.sizes.now) a.rank bytes.now (byte_table a.sizes.now a.strides.now) }
-    ensures { let a = axes.entry in blocks.new ≡ ruled machine.numbers a.sizes.now blocks.old a.strides.now a.rank }
+fn cut_axes(cut: Cut, blocks: &mut [u64; 64])
+    requires plannable { let a = cut.axes in Plannable a.sizes.now blocks.old a.strides.now a.rank Pointwise }
+    requires images { let a = cut.axes in Images cut.machine.numbers (length a.sizes.now) a.rank cut.bytes.now (byte_table a.sizes.now a.strides.now) }
+    ensures { let c = cut.entry in let a = c.axes in blocks.new ≡ ruled c.machine.numbers a.sizes.now blocks.old a.strides.now a.rank }
 {
-    let costs = compute_costs(axes.strides, axes.sizes.len(), axes.rank);
+    let axes = cut.axes;
+    let strides = axes.strides;
+    let rows = Rows {
+        strides,
+        pitch: 64,
+        operands: axes.sizes.len(),
+    };
+    let costs = compute_costs(rows, axes.rank);
     let mut ranks = [[0u8; 64]; 8];
     plan_ranks_into(axes, &mut ranks);
-    let all = Tail {
-        machine,
-        bytes,
-        operands: axes.sizes.len(),
-        offset: 0,
-        rank: axes.rank,
-    };
-    compute_blocks_at(all, &costs, &ranks, blocks);
+    compute_blocks_at(cut.all(), &costs, &ranks, blocks);
 }
 
 // The blocks of a plan whose total is above 1,024, from its axes. The tests that keep every axis whole come before what they can spare.
@@ -160,13 +149,18 @@ pub fn block_sizes_into(machine: Machine, axes: Axes, purpose: Purpose, blocks: 
     let machine = AllowedMachine { numbers: machine };
     let mut bytes = [0u32; 512];
     byte_table_into(machine, axes, &mut bytes);
-    if fits_whole(machine, &bytes, axes) {
+    let cut = Cut {
+        machine,
+        bytes: &bytes,
+        axes,
+    };
+    if fits_whole(cut) {
         return;
     }
-    cut_axes(machine, &bytes, axes, blocks);
+    cut_axes(cut, blocks);
     if declines_tiles(machine, axes, blocks) {
         *blocks = *axes.extents;
         return;
     }
-    fit_for(machine, &bytes, axes, purpose, blocks);
+    fit_for(cut, purpose, blocks);
 }

@@ -1,7 +1,8 @@
 -- What the inner functions answer: the readers of the lines and of the whole text, row 19 on numbers that stand in a text, and the two kinds of
 -- description in our numbers.
 -- Assumes nothing.
-use Rattle.std.specs.Prelude.{◌≡◌, Bool, ◌||◌, List, [], ◌∷◌, ◌++◌, ℕ, ◌^◌, ◌≤◌, min, max, eqb, ℤ, length, take, drop, Option, Some, None, Result}
+use Rattle.std.specs.Prelude.{◌≡◌, Bool, ◌||◌, List, [], ◌∷◌, ◌++◌, ℕ, ◌^◌, ◌≤◌, min, max, eqb, ℤ, length, take, Option, Some, None, Result}
+use Rattle.std.specs.Borrow.{Bor}
 use Rattle.std.specs.List.{list_any, FoldsTo}
 use Rattle.std.proofs.lemmas.List.Edits.{sets}
 use Rattle.strided.specs.Digits.{digits_of, signed_of}
@@ -11,7 +12,6 @@ use Rattle.reading.specs.Rows.{RowHere}
 use Rattle.numpy.specs.Descriptions.{Description, head_line, shape_line, strides_part, written, StridesFit, InForm, NotInForm}
 use Rattle.numpy.specs.Numpy.{packed, no_multiple, too_far, described}
 use Rattle.numpy.specs.declared.Described.{Described}
-use Rattle.numpy.specs.declared.lines.Head.{Head}
 use Rattle.numpy.specs.declared.lines.Said.{Said}
 use Rattle.numpy.specs.declared.lines.Said.TheVariants.{Packed, Given}
 
@@ -33,21 +33,21 @@ pub record HeadHere (t : List ℕ) (size rank : ℕ) (rest : List ℕ) : Type 0 
   pub rank_fits : FitU rank
   pub form : t ≡ head_line size rank ++ rest
 
-pub record ReadsHead (s : List ℕ) (r : Option Head) : Type 0 where
-  pub told : (h : Head) → r ≡ Some h → HeadHere s h.size h.rank (drop h.next s)
-  pub bad : r ≡ None → (size rank : ℕ) (rest : List ℕ) → HeadHere s size rank rest → ⊥
+pub record ReadsHead (t : List ℕ) (r : Option (ℕ × ℕ × Bor (List ℕ))) : Type 0 where
+  pub told : (size rank : ℕ) (rest : Bor (List ℕ)) → r ≡ Some (size, rank, rest) → HeadHere t size rank rest.now
+  pub bad : r ≡ None → (size rank : ℕ) (rest : List ℕ) → HeadHere t size rank rest → ⊥
 
--- ---- a line of numbers behind a letter: where they stand, and what is laid into an array from place 0 on
+-- ---- a line of numbers behind a letter: the text from them on, and what is laid into an array from place 0 on
 
 module _ {A : Type 0} (g : A → List ℕ) (Fits : A → Type 0) (letter : ℕ) where
-  pub record LineAt (s : List ℕ) (at rank from next : ℕ) (vs : List A) : Type 0 where
+  pub record LineHere (t : List ℕ) (rank : ℕ) (u rest : List ℕ) (vs : List A) : Type 0 where
     pub count : length vs ≡ rank
-    pub begins : drop at s ≡ letter ∷ drop from s
-    pub row : RowHere g Fits (drop from s) vs (drop next s)
+    pub begins : t ≡ letter ∷ u
+    pub row : RowHere g Fits u vs rest
 
-  pub record TakesLine (s : List ℕ) (at rank : ℕ) (old new : List A) (r : Option (ℕ × ℕ)) : Type 0 where
-    pub there : (from next : ℕ) → r ≡ Some (from, next) → (vs : List A) × LineAt s at rank from next vs × (new ≡ sets old 0 vs)
-    pub bad : r ≡ None → (vs : List A) (t rest : List ℕ) → length vs ≡ rank → drop at s ≡ letter ∷ t → RowHere g Fits t vs rest → ⊥
+  pub record TakesLine (t : List ℕ) (rank : ℕ) (old new : List A) (r : Option (Bor (List ℕ) × Bor (List ℕ))) : Type 0 where
+    pub there : (u rest : Bor (List ℕ)) → r ≡ Some (u, rest) → (vs : List A) × LineHere t rank u.now rest.now vs × (new ≡ sets old 0 vs)
+    pub bad : r ≡ None → (vs : List A) (u rest : List ℕ) → length vs ≡ rank → t ≡ letter ∷ u → RowHere g Fits u vs rest → ⊥
 
 -- ---- the lines behind N, and nothing behind them
 
@@ -57,44 +57,44 @@ pub record LinesHere (rank : ℕ) (t es : List ℕ) (strides : Option (List ℤ)
   pub strides_fit : StridesFit rank strides
   pub form : t ≡ shape_line es ++ strides_part strides
 
--- numbers that stand from a place on to the text's end
-abbrev pub Shape : List ℕ → ℕ → List ℕ → Type 0
-Shape s from es = RowHere digits_of FitU (drop from s) es []
+-- numbers, and nothing behind them
+abbrev pub Shape : List ℕ → List ℕ → Type 0
+Shape t es = RowHere digits_of FitU t es []
 
-abbrev pub Strides : List ℕ → ℕ → List ℤ → Type 0
-Strides s from ts = RowHere signed_of FitI (drop from s) ts []
+abbrev pub Strides : List ℕ → List ℤ → Type 0
+Strides t ts = RowHere signed_of FitI t ts []
 
-pub record TakesLines (s : List ℕ) (at size rank : ℕ) (shape shape' : List ℕ) (bytes bytes' : List ℤ) (r : Option Said) : Type 0 where
-  pub packed : (z n from : ℕ) → r ≡ Some (Packed z n from)
-      → (es : List ℕ) × (size ≡ z) × (rank ≡ n) × LinesHere rank (drop at s) es None × Shape s from es × (shape' ≡ sets shape 0 es)
-  pub given : (z n from : ℕ) → r ≡ Some (Given z n from)
-      → (es : List ℕ) × (ts : List ℤ) × (size ≡ z) × (rank ≡ n) × LinesHere rank (drop at s) es (Some ts) × Strides s from ts
+pub record TakesLines (t : List ℕ) (size rank : ℕ) (shape shape' : List ℕ) (bytes bytes' : List ℤ) (r : Option Said) : Type 0 where
+  pub packed : (z n : ℕ) (row : Bor (List ℕ)) → r ≡ Some (Packed z n row)
+      → (es : List ℕ) × (size ≡ z) × (rank ≡ n) × LinesHere rank t es None × Shape row.now es × (shape' ≡ sets shape 0 es)
+  pub given : (z n : ℕ) (row : Bor (List ℕ)) → r ≡ Some (Given z n row)
+      → (es : List ℕ) × (ts : List ℤ) × (size ≡ z) × (rank ≡ n) × LinesHere rank t es (Some ts) × Strides row.now ts
       × (shape' ≡ sets shape 0 es) × (bytes' ≡ sets bytes 0 ts)
-  pub unformed : r ≡ None → (es : List ℕ) (strides : Option (List ℤ)) → LinesHere rank (drop at s) es strides → ⊥
+  pub unformed : r ≡ None → (es : List ℕ) (strides : Option (List ℤ)) → LinesHere rank t es strides → ⊥
 
 -- ---- the whole text
 
 pub record ReadsDescription (s shape shape' : List ℕ) (bytes bytes' : List ℤ) (r : Option Said) : Type 0 where
-  pub packed : (size rank from : ℕ) → r ≡ Some (Packed size rank from)
-      → (es : List ℕ) × InForm s (saying size rank es None) × Shape s from es × (shape' ≡ sets shape 0 es)
-  pub given : (size rank from : ℕ) → r ≡ Some (Given size rank from)
-      → (es : List ℕ) × (ts : List ℤ) × InForm s (saying size rank es (Some ts)) × Strides s from ts
+  pub packed : (size rank : ℕ) (row : Bor (List ℕ)) → r ≡ Some (Packed size rank row)
+      → (es : List ℕ) × InForm s (saying size rank es None) × Shape row.now es × (shape' ≡ sets shape 0 es)
+  pub given : (size rank : ℕ) (row : Bor (List ℕ)) → r ≡ Some (Given size rank row)
+      → (es : List ℕ) × (ts : List ℤ) × InForm s (saying size rank es (Some ts)) × Strides row.now ts
       × (shape' ≡ sets shape 0 es) × (bytes' ≡ sets bytes 0 ts)
   pub unformed : r ≡ None → NotInForm s
 
 -- ---- row 19 on numbers that stand in a text
 
--- what is answered of the `count` numbers that stand at `at`
-abbrev pub OfShape : List ℕ → ℕ → ℕ → (List ℕ → Type 0) → Type 0
-OfShape s at count P = (vs rest : List ℕ) → length vs ≡ count → RowHere digits_of FitU (drop at s) vs rest → P vs
+-- what is answered of the `count` numbers in front
+abbrev pub OfShape : List ℕ → ℕ → (List ℕ → Type 0) → Type 0
+OfShape t count P = (vs rest : List ℕ) → length vs ≡ count → RowHere digits_of FitU t vs rest → P vs
 
-abbrev pub OfStrides : List ℕ → ℕ → ℕ → (List ℤ → Type 0) → Type 0
-OfStrides s at count P = (vs : List ℤ) (rest : List ℕ) → length vs ≡ count → RowHere signed_of FitI (drop at s) vs rest → P vs
+abbrev pub OfStrides : List ℕ → ℕ → (List ℤ → Type 0) → Type 0
+OfStrides t count P = (vs : List ℤ) (rest : List ℕ) → length vs ≡ count → RowHere signed_of FitI t vs rest → P vs
 
 -- r is what answers that R tells of, one number after the other, make of `first`
 module _ {A B : Type 0} (g : B → List ℕ) (Fits : B → Type 0) (R : A → B → A → Type 0) where
-  abbrev pub Folds : List ℕ → ℕ → ℕ → A → A → Type 0
-  Folds s at count first r = (vs : List B) (rest : List ℕ) → length vs ≡ count → RowHere g Fits (drop at s) vs rest → FoldsTo R first vs r
+  abbrev pub Folds : List ℕ → ℕ → A → A → Type 0
+  Folds t count first r = (vs : List B) (rest : List ℕ) → length vs ≡ count → RowHere g Fits t vs rest → FoldsTo R first vs r
 
 -- the greatest of some numbers, 0 of none
 abbrev pub most_of : List ℕ → ℕ
@@ -105,37 +105,37 @@ most_of (x ∷ xs) = max x (most_of xs)
 abbrev pub Peaked : ℕ → ℕ → List ℕ → Type 0
 Peaked size r es = min r (2 ^ 63) ≡ min (most_of (packed size es)) (2 ^ 63)
 
-abbrev pub Peaks : List ℕ → ℕ → ℕ → ℕ → ℕ → Type 0
-Peaks s at count size r = OfShape s at count (Peaked size r)
+abbrev pub Peaks : List ℕ → ℕ → ℕ → ℕ → Type 0
+Peaks t count size r = OfShape t count (Peaked size r)
 
-abbrev pub PackedWrong : List ℕ → ℕ → ℕ → ℕ → Bool → Type 0
-PackedWrong s at count size r = OfShape s at count (λ es. r ≡ (eqb size 0 || list_any too_far (packed size es)))
+abbrev pub PackedWrong : List ℕ → ℕ → ℕ → Bool → Type 0
+PackedWrong t count size r = OfShape t count (λ es. r ≡ (eqb size 0 || list_any too_far (packed size es)))
 
-abbrev pub SomeNoMultiple : List ℕ → ℕ → ℕ → ℕ → Bool → Type 0
-SomeNoMultiple s at count size r = OfStrides s at count (λ ts. r ≡ list_any (no_multiple size) ts)
+abbrev pub SomeNoMultiple : List ℕ → ℕ → ℕ → Bool → Type 0
+SomeNoMultiple t count size r = OfStrides t count (λ ts. r ≡ list_any (no_multiple size) ts)
 
-abbrev pub GivenWrong : List ℕ → ℕ → ℕ → ℕ → Bool → Type 0
-GivenWrong s at count size r = OfStrides s at count (λ ts. r ≡ (eqb size 0 || list_any (no_multiple size) ts))
+abbrev pub GivenWrong : List ℕ → ℕ → ℕ → Bool → Type 0
+GivenWrong t count size r = OfStrides t count (λ ts. r ≡ (eqb size 0 || list_any (no_multiple size) ts))
 
 -- ---- the two kinds of description, whose numbers are laid in arrays if they are at most 64
 
--- what is asked: numbers stand at the place, and in the array
-pub record ShapeAt (s : List ℕ) (at rank : ℕ) (shape : List ℕ) : Type 0 where
+-- what is asked: numbers stand in front, and in the array
+pub record ShapeAt (t : List ℕ) (rank : ℕ) (shape : List ℕ) : Type 0 where
   pub es : List ℕ
   pub count : length es ≡ rank
-  pub row : Shape s at es
+  pub row : Shape t es
   pub laid : rank ≤ 64 → take rank shape ≡ es
 
-pub record StridesAt (s : List ℕ) (at rank : ℕ) (bytes : List ℤ) : Type 0 where
+pub record StridesAt (t : List ℕ) (rank : ℕ) (bytes : List ℤ) : Type 0 where
   pub ts : List ℤ
   pub count : length ts ≡ rank
-  pub row : Strides s at ts
+  pub row : Strides t ts
   pub laid : rank ≤ 64 → take rank bytes ≡ ts
 
-abbrev pub FromPacked : List ℕ → ℕ → ℕ → ℕ → List ℕ → Result Described Refusal → Type 0
-FromPacked s at size rank shape r = OfShape s at rank (λ es. (rank ≤ 64 → take rank shape ≡ es) → r ≡ described (saying size rank es None))
+abbrev pub FromPacked : List ℕ → ℕ → ℕ → List ℕ → Result Described Refusal → Type 0
+FromPacked t size rank shape r = OfShape t rank (λ es. (rank ≤ 64 → take rank shape ≡ es) → r ≡ described (saying size rank es None))
 
-abbrev pub FromGiven : List ℕ → ℕ → ℕ → ℕ → List ℕ → List ℤ → Result Described Refusal → Type 0
-FromGiven s at size rank shape bytes r =
-    OfStrides s at rank (λ ts. (es : List ℕ) → length es ≡ rank → (rank ≤ 64 → take rank shape ≡ es) → (rank ≤ 64 → take rank bytes ≡ ts)
+abbrev pub FromGiven : List ℕ → ℕ → ℕ → List ℕ → List ℤ → Result Described Refusal → Type 0
+FromGiven t size rank shape bytes r =
+    OfStrides t rank (λ ts. (es : List ℕ) → length es ≡ rank → (rank ≤ 64 → take rank shape ≡ es) → (rank ≤ 64 → take rank bytes ≡ ts)
     → r ≡ described (saying size rank es (Some ts)))

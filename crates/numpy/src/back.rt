@@ -7,7 +7,7 @@ ghost use Rattle.numpy.specs.Readers.{spelled};
 
 use super::units::stride_out;
 use strided::Refusal;
-use writing::line::{numbers_len, put_line, signed_len};
+use writing::line::{fields_len, put_line};
 
 // Row 19 on the way back: whether there is no size, or some stride in bytes leaves 64-bit signed.
 pub fn strides_out(size: u64, strides: &[i64]) -> bool
@@ -30,7 +30,7 @@ fn measure(said: Spelling) -> usize
     ensures { result ≡ length (spelled said.entry.size said.entry.shape.now said.entry.bytes.now) }
 {
     let numbers = [said.size, said.shape.len() as u64];
-    6 + numbers_len(&numbers) + numbers_len(said.shape) + signed_len(said.bytes)
+    6 + fields_len(&numbers) + fields_len(said.shape) + fields_len(said.bytes)
 }
 
 // The text, in bytes that have room for it; those behind it stay.

@@ -7,11 +7,11 @@ ghost use Rattle.numpy.specs.Numpy.{FromNumpy, to_numpy};
 ghost use Rattle.numpy.specs.Readers.{ShapeAt, StridesAt, FromPacked, FromGiven};
 
 use back::{Spelling, list, strides_out};
-use layout::{rank_over, strides_wrong};
+use layout::{Row, rank_over, strides_wrong};
 use lines::{Said, read_description};
 use rows::{given_wrong, packed_wrong};
 use strided::Refusal;
-use units::{byte_strides, element_strides, packed_strides, reversed};
+use units::{Unit, packed_strides, reversed};
 
 pub mod back;
 pub mod lines;
@@ -27,18 +27,12 @@ pub struct Described {
     pub strides: [i64; 64],
 }
 
-// A description without T, whose shape stands in the text from `at` on and, as far as there are places, in `shape`.
-fn from_packed<'a>(
-    text: &'a [u8],
-    at: usize,
-    size: u64,
-    rank: usize,
-    shape: &'a [u64],
-) -> Result<Described, Refusal>
-    requires { (length shape.now ≡ 64) × (ShapeAt text.now at rank shape.now) }
-    ensures { FromPacked text.now at size rank shape.now result }
+// A description without T, whose shape stands in front of `row` and, as far as there are places, in `shape`.
+fn from_packed(row: &[u8], size: u64, rank: usize, shape: &[u64; 64]) -> Result<Described, Refusal>
+    requires { ShapeAt row.now rank shape.now }
+    ensures { FromPacked row.now size rank shape.now result }
 {
-    if packed_wrong(text, at, rank, size) {
+    if packed_wrong(row, rank, size) {
         return Err(Refusal::ByteStrides);
     }
     if rank_over(rank) {
@@ -54,26 +48,28 @@ fn from_packed<'a>(
     })
 }
 
-// A description with T, whose byte strides stand in the text from `at` on and, as far as there are places, in `bytes`.
-fn from_given<'a>(
-    text: &'a [u8],
-    at: usize,
+// A description with T, whose byte strides stand in front of `row` and, as far as there are places, in `bytes`.
+fn from_given(
+    row: &[u8],
     size: u64,
     rank: usize,
-    shape: &'a [u64],
-    bytes: &'a [i64],
+    shape: &[u64; 64],
+    bytes: &[i64; 64],
 ) -> Result<Described, Refusal>
-    requires { (length shape.now ≡ 64) × (length bytes.now ≡ 64) × (StridesAt text.now at rank bytes.now) }
-    ensures { FromGiven text.now at size rank shape.now bytes.now result }
+    requires { StridesAt row.now rank bytes.now }
+    ensures { FromGiven row.now size rank shape.now bytes.now result }
 {
-    if given_wrong(text, at, rank, size) {
+    if given_wrong(row, rank, size) {
         return Err(Refusal::ByteStrides);
     }
     if rank_over(rank) {
         return Err(Refusal::Rank);
     }
     let extents = reversed(&shape[..rank]);
-    let strides = element_strides(size, &bytes[..rank]);
+    let unit = Unit { size };
+    let strides = unit.element_strides(Row {
+        strides: &bytes[..rank],
+    });
     Ok(Described {
         size,
         rank,
@@ -88,12 +84,10 @@ pub fn from_numpy(text: &[u8]) -> Result<Described, Refusal>
 {
     let mut shape = [0u64; 64];
     let mut bytes = [0i64; 64];
-    let Some(said) = read_description(text, &mut shape, &mut bytes) else {
-        return Err(Refusal::Form);
-    };
+    let said = read_description(text, &mut shape, &mut bytes).ok_or(Refusal::Form)?;
     match said {
-        Said::Packed(size, rank, at) => from_packed(text, at, size, rank, &shape),
-        Said::Given(size, rank, at) => from_given(text, at, size, rank, &shape, &bytes),
+        Said::Packed(size, rank, row) => from_packed(row, size, rank, &shape),
+        Said::Given(size, rank, row) => from_given(row, size, rank, &shape, &bytes),
     }
 }
 
@@ -118,7 +112,8 @@ pub fn to_numpy<'a>(
         return Err(Refusal::StrideCount);
     }
     let shape = reversed(extents);
-    let bytes = byte_strides(size, strides);
+    let unit = Unit { size };
+    let bytes = unit.byte_strides(Row { strides });
     let said = Spelling {
         size,
         shape: &shape[..rank],

@@ -7,79 +7,64 @@ use reading::head::read_counts;
 use reading::number::Number;
 use reading::row::read_row;
 
-// What the N line says, and the place behind it.
+// What a text says: size and rank, and the numbers of the shape as they stand there, or the byte strides if there are some.
 #[derive(Clone, Copy)]
-pub struct Head {
-    pub size: u64,
-    pub rank: usize,
-    pub next: usize,
-}
-
-// What a text says: size, rank, and where the shape stands, or the byte strides if there are some.
-#[derive(Clone, Copy)]
-pub enum Said {
-    Packed(u64, usize, usize),
-    Given(u64, usize, usize),
+pub enum Said<'a> {
+    Packed(u64, usize, &'a [u8]),
+    Given(u64, usize, &'a [u8]),
 }
 
 // "N,size,rank"
-fn read_head(s: &[u8]) -> Option<Head>
+fn read_head(s: &[u8]) -> Option<(u64, usize, &[u8])>
     ensures { ReadsHead s.now result }
 {
-    let from = behind(s, 0, b'N')?;
-    let counts = read_counts(s, from)?;
-    let next = behind(s, counts.next, b'\n')?;
-    Some(Head {
-        size: counts.first as u64,
-        rank: counts.second,
-        next,
-    })
+    let (size, rank, end) = read_counts(behind(s, b'N')?)?;
+    let rest = behind(end, b'\n')?;
+    Some((size as u64, rank, rest))
 }
 
-// A line of `rank` numbers behind a letter, "S,shape" or "T,byte strides": the place of its numbers, and the place behind the line.
-fn read_line<T: Number>(
-    s: &[u8],
-    at: usize,
+// A line of `rank` numbers behind a letter, "S,shape" or "T,byte strides": the text from its numbers on, and what is behind the line.
+fn read_line<'a, T: Number>(
+    s: &'a [u8],
     letter: u8,
     rank: usize,
     out: &mut [T],
-) -> Option<(usize, usize)>
-    ensures { TakesLine T.text T.fits letter s.now at rank out.old out.new result }
+) -> Option<(&'a [u8], &'a [u8])>
+    ensures { TakesLine T.text T.fits letter s.now rank out.old out.new result }
 {
-    let from = behind(s, at, letter)?;
-    let next = read_row(s, from, rank, out)?;
-    Some((from, next))
+    let row = behind(s, letter)?;
+    let rest = read_row(row, rank, out)?;
+    Some((row, rest))
 }
 
 // The lines behind N, to the text's end.
-fn read_lines(
-    s: &[u8],
-    at: usize,
+fn read_lines<'a>(
+    s: &'a [u8],
     size: u64,
     rank: usize,
     shape: &mut [u64],
     bytes: &mut [i64],
-) -> Option<Said>
-    ensures { TakesLines s.now at size rank shape.old shape.new bytes.old bytes.new result }
+) -> Option<Said<'a>>
+    ensures { TakesLines s.now size rank shape.old shape.new bytes.old bytes.new result }
 {
-    let (from, next) = read_line(s, at, b'S', rank, shape)?;
-    if s.len() <= next {
-        return Some(Said::Packed(size, rank, from));
+    let (sizes, rest) = read_line(s, b'S', rank, shape)?;
+    if rest.is_empty() {
+        return Some(Said::Packed(size, rank, sizes));
     }
-    let (row, end) = read_line(s, next, b'T', rank, bytes)?;
-    if s.len() <= end {
-        return Some(Said::Given(size, rank, row));
+    let (strides, end) = read_line(rest, b'T', rank, bytes)?;
+    if end.is_empty() {
+        return Some(Said::Given(size, rank, strides));
     }
     None
 }
 
 // THE TEXT: what it says, if it is in the form.
-pub fn read_description(s: &[u8], shape: &mut [u64], bytes: &mut [i64]) -> Option<Said>
+pub fn read_description<'a>(s: &'a [u8], shape: &mut [u64], bytes: &mut [i64]) -> Option<Said<'a>>
     ensures { ReadsDescription s.now shape.old shape.new bytes.old bytes.new result }
 {
     if MAX_TEXT < s.len() {
         return None;
     }
-    let head = read_head(s)?;
-    read_lines(s, head.next, head.size, head.rank, shape, bytes)
+    let (size, rank, lines) = read_head(s)?;
+    read_lines(lines, size, rank, shape, bytes)
 }

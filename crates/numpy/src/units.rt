@@ -5,28 +5,9 @@ ghost use Rattle.numpy.specs.Numpy.{reversed, no_multiple, element_stride, strid
 ghost use Rattle.std.specs.List.{All, list_any};
 ghost use Rattle.numpy.specs.Units.{firsts, Near, Turns};
 
+use layout::Row;
 use layout::sizes::mul_cap;
 use reading::number::{negative, positive};
-
-// Whether a byte stride is no multiple of the size.
-pub fn no_multiple(size: u64, bytes: i64) -> bool
-    requires { 0 < size }
-    ensures { result ≡ no_multiple size bytes }
-{
-    bytes.unsigned_abs() % size != 0
-}
-
-// A byte stride in elements.
-fn element_stride(size: u64, bytes: i64) -> i64
-    requires { (0 < size) × (no_multiple size bytes ≡ false) }
-    ensures { result ≡ element_stride size bytes }
-{
-    let count = bytes.unsigned_abs() / size;
-    if bytes < 0 {
-        return negative(count);
-    }
-    positive(count)
-}
 
 // Whether an element stride in bytes leaves 64-bit signed.
 pub fn stride_out(size: u64, stride: i64) -> bool
@@ -39,21 +20,9 @@ pub fn stride_out(size: u64, stride: i64) -> bool
     bytes >= 1 << 63
 }
 
-// An element stride in bytes.
-fn byte_stride(size: u64, stride: i64) -> i64
-    requires { (0 < size) × (stride_out size stride ≡ false) }
-    ensures { result ≡ byte_stride size stride }
-{
-    let bytes = stride.unsigned_abs() * size;
-    if stride < 0 {
-        return negative(bytes);
-    }
-    positive(bytes)
-}
-
 // What f makes of the numbers, from the last to the first, with zeros behind.
-// Kept: that a slice has at most 64 places, here and below. Each of these is called at one place or two, with the rank that was let through
-// just before; a type for such a slice would be made and taken apart at each call.
+// Kept: that a slice has at most 64 places, here and in the two functions on extents below. Of strides `Row` says it; a type for extents would
+// be made and taken apart at each call.
 fn turned<T: Copy, F: Fn(T) -> T>(numbers: &[T], zero: T, f: F) -> [T; 64]
     requires len { length numbers.now ≤ 64 }
     requires callable { All (F.pre f) numbers.now }
@@ -76,22 +45,6 @@ pub fn reversed(numbers: &[u64]) -> [u64; 64]
     turned(numbers, 0, |e| e)
 }
 
-// Byte strides in elements, with the axes reversed.
-pub fn element_strides(size: u64, bytes: &[i64]) -> [i64; 64]
-    requires { (length bytes.now ≤ 64) × (0 < size) × (list_any (no_multiple size) bytes.now ≡ false) }
-    ensures { result ≡ padded 64 (pos 0) (reversed (map (element_stride size) bytes.now)) }
-{
-    turned(bytes, 0, |b| element_stride(size, b))
-}
-
-// Element strides in bytes, with the axes reversed.
-pub fn byte_strides(size: u64, strides: &[i64]) -> [i64; 64]
-    requires { (length strides.now ≤ 64) × (0 < size) × (list_any (stride_out size) strides.now ≡ false) }
-    ensures { result ≡ padded 64 (pos 0) (reversed (map (byte_stride size) strides.now)) }
-{
-    turned(strides, 0, |z| byte_stride(size, z))
-}
-
 // The element strides of a packed array in our order: 1 on axis 0, and on each axis the product of the extents before it.
 pub fn packed_strides(extents: &[u64]) -> [i64; 64]
     requires { (length extents.now ≤ 64) × (Near extents.now) }
@@ -105,4 +58,60 @@ pub fn packed_strides(extents: &[u64]) -> [i64; 64]
         step = mul_cap(step, extents[i], 1 << 63);
     }
     out
+}
+
+// The size of an element, which has a byte at least.
+#[derive(Clone, Copy)]
+pub struct Unit {
+    pub size: u64,
+    pub ghost some: { 0 < size },
+}
+
+impl Unit {
+    // Whether a byte stride is no multiple of the size.
+    pub fn no_multiple(self, bytes: i64) -> bool
+        ensures { result ≡ no_multiple self.size bytes }
+    {
+        !bytes.unsigned_abs().is_multiple_of(self.size)
+    }
+
+    // A byte stride in elements.
+    fn element_stride(self, bytes: i64) -> i64
+        requires { no_multiple self.size bytes ≡ false }
+        ensures { result ≡ element_stride self.size bytes }
+    {
+        let count = bytes.unsigned_abs() / self.size;
+        if bytes < 0 {
+            return negative(count);
+        }
+        positive(count)
+    }
+
+    // An element stride in bytes.
+    fn byte_stride(self, stride: i64) -> i64
+        requires { stride_out self.size stride ≡ false }
+        ensures { result ≡ byte_stride self.size stride }
+    {
+        let bytes = stride.unsigned_abs() * self.size;
+        if stride < 0 {
+            return negative(bytes);
+        }
+        positive(bytes)
+    }
+
+    // Byte strides in elements, with the axes reversed.
+    pub fn element_strides(self, row: Row) -> [i64; 64]
+        requires { list_any (no_multiple self.size) row.strides.now ≡ false }
+        ensures { result ≡ padded 64 (pos 0) (reversed (map (element_stride self.size) row.entry.strides.now)) }
+    {
+        turned(row.strides, 0, |b| self.element_stride(b))
+    }
+
+    // Element strides in bytes, with the axes reversed.
+    pub fn byte_strides(self, row: Row) -> [i64; 64]
+        requires { list_any (stride_out self.size) row.strides.now ≡ false }
+        ensures { result ≡ padded 64 (pos 0) (reversed (map (byte_stride self.size) row.entry.strides.now)) }
+    {
+        turned(row.strides, 0, |z| self.byte_stride(z))
+    }
 }

@@ -6,7 +6,7 @@ ghost use Rattle.parts.specs.Answers.{plan_costs};
 
 use fuse::compute_costs;
 use kernel::axes_into;
-use layout::Layout;
+use layout::{Layout, Rows};
 use strided::Purpose;
 
 // The costs of the plan's axes, 0 where an axis has none.
@@ -17,5 +17,10 @@ pub fn costs_of(layout: Layout, purpose: Purpose) -> [u64; 64]
     let mut es = [0u64; 64];
     let mut table = [0i64; 512];
     let rank = axes_into(layout, purpose, &mut es, &mut table);
-    compute_costs(&table, layout.operands, rank)
+    let rows = Rows {
+        strides: &table,
+        pitch: 64,
+        operands: layout.operands,
+    };
+    compute_costs(rows, rank)
 }

@@ -22,7 +22,7 @@ use costs::costs_of;
 use finding::map_into;
 use importance::compute_importance_into;
 use kernel::axes_into;
-use layout::{Layout, check_counts, check_layout, lead, number, purpose_of};
+use layout::{check_counts, check_layout, lead, number, purpose_of};
 use order::compute_order_into;
 
 mod costs;
@@ -40,10 +40,9 @@ pub extern "C" fn parts_check<'a>(
 ) -> u64
     ensures { result ≡ told (layout_refused extents.now sizes.now strides.now (purpose_of kind chosen)) }
 {
-    let checked = check_layout(extents, sizes, strides, purpose_of(kind, chosen));
-    match checked {
+    match check_layout(extents, sizes, strides, purpose_of(kind, chosen)) {
         Err(refusal) => number(refusal),
-        Ok(()) => 0,
+        Ok(_) => 0,
     }
 }
 
@@ -61,17 +60,9 @@ pub extern "C" fn parts_ranks<'a>(
         (padded 8 (replicate 64 0) (map (padded 64 0) (rank_table strides.now (length extents.now) (length sizes.now))))
         ranks.old ranks.new result }
 {
-    let checked = check_counts(extents, sizes, strides, purpose_of(kind, chosen));
-    match checked {
+    match check_counts(extents, sizes, strides, purpose_of(kind, chosen)) {
         Err(refusal) => number(refusal),
-        Ok(()) => {
-            let operands = sizes.len();
-            let layout = Layout {
-                extents,
-                strides,
-                operands,
-            };
-            *ranks = [[0u8; 64]; 8];
+        Ok(layout) => {
             rank_table_into(layout, ranks);
             0
         }
@@ -93,16 +84,9 @@ pub extern "C" fn parts_weights<'a>(
         importance.old importance.new result }
 {
     let purpose = purpose_of(kind, chosen);
-    let checked = check_counts(extents, sizes, strides, purpose);
-    match checked {
+    match check_counts(extents, sizes, strides, purpose) {
         Err(refusal) => number(refusal),
-        Ok(()) => {
-            let layout = Layout {
-                extents,
-                strides,
-                operands: sizes.len(),
-            };
-            *importance = [0u64; 64];
+        Ok(layout) => {
             compute_importance_into(layout, lead(purpose), importance);
             0
         }
@@ -124,17 +108,10 @@ pub extern "C" fn parts_order<'a>(
         order.old order.new result }
 {
     let purpose = purpose_of(kind, chosen);
-    let checked = check_counts(extents, sizes, strides, purpose);
-    match checked {
+    match check_counts(extents, sizes, strides, purpose) {
         Err(refusal) => number(refusal),
-        Ok(()) => {
-            let layout = Layout {
-                extents,
-                strides,
-                operands: sizes.len(),
-            };
+        Ok(layout) => {
             let mut weights = [0u64; 64];
-            *order = [0usize; 64];
             compute_order_into(layout, purpose, &mut weights, order);
             0
         }
@@ -158,17 +135,10 @@ pub extern "C" fn parts_fused<'a>(
         fused.old fused.new result }
 {
     let purpose = purpose_of(kind, chosen);
-    let checked = check_counts(extents, sizes, strides, purpose);
-    match checked {
+    match check_counts(extents, sizes, strides, purpose) {
         Err(refusal) => number(refusal),
-        Ok(()) => {
-            let layout = Layout {
-                extents,
-                strides,
-                operands: sizes.len(),
-            };
+        Ok(layout) => {
             let mut order = [0usize; 64];
-            *fused = [0u64; 64];
             map_into(layout, purpose, &mut order, fused);
             0
         }
@@ -198,15 +168,9 @@ pub extern "C" fn parts_axes<'a>(
         table.old table.new result }
 {
     let purpose = purpose_of(kind, chosen);
-    let checked = check_counts(extents, sizes, strides, purpose);
-    match checked {
+    match check_counts(extents, sizes, strides, purpose) {
         Err(refusal) => number(refusal),
-        Ok(()) => {
-            let layout = Layout {
-                extents,
-                strides,
-                operands: sizes.len(),
-            };
+        Ok(layout) => {
             *kept = [0u64; 64];
             *table = [0i64; 512];
             let rank = axes_into(layout, purpose, kept, table);
@@ -231,15 +195,9 @@ pub extern "C" fn parts_costs<'a>(
         costs.old costs.new result }
 {
     let purpose = purpose_of(kind, chosen);
-    let checked = check_counts(extents, sizes, strides, purpose);
-    match checked {
+    match check_counts(extents, sizes, strides, purpose) {
         Err(refusal) => number(refusal),
-        Ok(()) => {
-            let layout = Layout {
-                extents,
-                strides,
-                operands: sizes.len(),
-            };
+        Ok(layout) => {
             *costs = costs_of(layout, purpose);
             0
         }

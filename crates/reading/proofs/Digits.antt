@@ -7,28 +7,34 @@ use mathlib.Core.List.{List, [], ◌∷◌, ◌++◌}
 use mathlib.Core.Logic.{◌↔◌, ◌⊎◌, inl, inr, ⊎_elim}
 use Prim.Native.Nat.{ℕ, ◌+◌, ◌-◌, ◌*◌, ◌^◌, ◌≤◌, ◌<◌}
 use native.Mathlib.Omega.{arith}
-use lib.ListN.{drop}
+use lib.ListN.{length}
 use Rattle.strided.specs.Digits.{digits_of}
 use Rattle.strided.specs.Text.{FitU}
 use Rattle.laws.specs.Base.Ranges.{below_or}
 use Rattle.laws.specs.Text.Lengths.{digits_small}
 use Rattle.laws.specs.Text.Numbers.{is_digit, goes_on, Digits, none, more, value_from, value_grows, digit_of, digits_cat, First, digits_first, digits_go, head, tail}
+use Rattle.std.specs.Borrow.{Bor}
+use Rattle.reading.specs.Bytes.{DigitHere}
 use Rattle.reading.specs.Here.{Here}
 use Rattle.reading.specs.Numbers.{Reads, More, ReadsMore}
-use Rattle.reading.proofs.Bytes.{DigitAt}
 use Rattle.reading.proofs.Answers.{clash, same_found, is_value, is_bad}
 use Rattle.std.specs.Prelude.{Option, Some, None}
+
+digit_low : (b : ℕ) → is_digit b ≡ true → 48 ≤ b
+digit_low b d = let f = digit_of b d in omega arith
+
+pub digit_short : {t : List ℕ} {d : ℕ} {rest : List ℕ} → DigitHere t d rest → length rest < length t
+digit_short h = let l = ap length h.form in omega arith
 
 -- ---- behind digits that say a
 
 -- the two answers of the reader
-module _ {a : ℕ} {s : List ℕ} {at : ℕ} where
-  pub more_value : (v next : ℕ) → More a (drop at s) v (drop next s) → ReadsMore a s at (Some (v, next))
-  more_value v next h =
-      record { value = λ w n e. same_found (λ x p. More a (drop at s) x (drop p s)) e h; bad = λ e. clash (cc) }
+module _ {a : ℕ} {t : List ℕ} where
+  pub more_value : (v : ℕ) (rest : Bor (List ℕ)) → More a t v rest.now → ReadsMore a t (Some (v, rest))
+  more_value v rest h = record { value = λ w x e. same_found (λ y z. More a t y z.now) e h; bad = λ e. clash (cc) }
 
-  pub more_bad : ((v : ℕ) (rest : List ℕ) → More a (drop at s) v rest → ⊥) → ReadsMore a s at None
-  more_bad h = record { value = λ w n e. clash (cc); bad = λ e. h }
+  pub more_bad : ((v : ℕ) (rest : List ℕ) → More a t v rest → ⊥) → ReadsMore a t None
+  more_bad h = record { value = λ w x e. clash (cc); bad = λ e. h }
 
 -- no digit follows: a is the number
 pub more_none : (a : ℕ) (t : List ℕ) → a < 2 ^ 64 → goes_on t ≡ false → More a t a t
@@ -64,15 +70,15 @@ pub more_over : (a : ℕ) {t : List ℕ} {v : ℕ} {rest : List ℕ} → 2 ^ 64 
 more_over a h m = let g = value_grows a m.digits in omega arith
 
 -- the loop: behind the digits read so far, which say n, stands what stood behind those that say `first` at the start
-module _ {first : ℕ} (at : ℕ) {s : List ℕ} {n i b : ℕ} (l : (v : ℕ) (rest : List ℕ) → More n (drop i s) v rest ↔ More first (drop at s) v rest) (d : DigitAt s i b) where
-  pub reading_turn : (v : ℕ) (rest : List ℕ) → More (n * 10 + (b - 48)) (drop (i + 1) s) v rest ↔ More first (drop at s) v rest
-  reading_turn v rest =
-      let t = more_turn n b d.rest d.is v rest in
-      ((λ m. (l v rest).0 (t.0 m)), (λ m. t.1 ((l v rest).1 m)))
+module _ {first : ℕ} {t rest u : List ℕ} {n k : ℕ} (l : (v : ℕ) (x : List ℕ) → More n rest v x ↔ More first t v x) (d : DigitHere rest k u) where
+  pub reading_turn : (v : ℕ) (x : List ℕ) → More (n * 10 + k) u v x ↔ More first t v x
+  reading_turn v x =
+      let m = more_turn n d.byte d.form d.is v x in
+      rw d.says ((λ y. (l v x).0 (m.0 y)), (λ y. m.1 ((l v x).1 y)))
 
   -- with this digit they say too much
-  pub reading_over : 2 ^ 64 ≤ n * 10 + (b - 48) → ReadsMore first s at None
-  reading_over h = more_bad (λ v rest m. more_over _ h ((reading_turn v rest).1 m))
+  pub reading_over : 2 ^ 64 ≤ n * 10 + k → ReadsMore first t None
+  reading_over h = more_bad (λ v x m. more_over _ h ((reading_turn v x).1 m))
 
 -- ---- a number from its first byte
 
@@ -140,22 +146,37 @@ module _ (b : ℕ) {t u : List ℕ} (e : t ≡ b ∷ u) (above : 48 < b) (v : �
 
 -- ---- the reader of a number, by its first digit
 
-module _ {s : List ℕ} {at b : ℕ} (d : DigitAt s at b) where
-  pub first_reads : {r : Option (ℕ × ℕ)} → 48 < b → ReadsMore (b - 48) s (at + 1) r → Reads digits_of s at r
+pub digit_small : {t : List ℕ} {d : ℕ} {rest : List ℕ} → DigitHere t d rest → d < 10
+digit_small h = let f = digit_of h.byte h.is in let says = h.says in let small : h.byte - 48 < 10 = f.0 in omega arith
+
+-- the digit that goes on behind n
+pub more_digit : {t u : List ℕ} {n k : ℕ} {r : Option (ℕ × Bor (List ℕ))} → DigitHere t k u → ReadsMore (n * 10 + k) u r → ReadsMore n t r
+more_digit {t} {n = n} d m =
+    let turn = reading_turn {first = n} {t = t} (λ v x. ((λ y. y), (λ y. y))) d in
+    record { value = λ v rest q. (turn v rest.now).0 (m.value v rest q); bad = λ q v rest g. m.bad q v rest ((turn v rest).1 g) }
+
+pub digit_goes : {t : List ℕ} {d : ℕ} {rest : List ℕ} → DigitHere t d rest → goes_on t ≡ true
+digit_goes h = ap goes_on h.form ∙ h.is
+
+module _ {t u : List ℕ} {k : ℕ} (d : DigitHere t k u) where
+  pub first_reads : {r : Option (ℕ × Bor (List ℕ))} → 0 < k → ReadsMore k u r → Reads digits_of t r
   first_reads h m =
+      let above : 48 < d.byte = let says = d.says in omega arith in
+      let n = rw d.says at m in
       record {
-        value = λ v next q. first-here b d.rest h v (drop next s) d.is (m.value v next q);
-        bad = λ q v rest g. m.bad q v rest (first_more b d.rest h v rest g);
+        value = λ v rest q. first-here d.byte d.form above v rest.now d.is (n.value v rest q);
+        bad = λ q v rest g. n.bad q v rest (first_more d.byte d.form above v rest g);
       }
 
-  pub one_reads : goes_on (drop (at + 1) s) ≡ false → Reads digits_of s at (Some (b - 48, at + 1))
-  one_reads g = is_value digits_of FitU (b - 48) (at + 1) (digit_alone b d.rest d.is g)
-
-  pub zero_bad : b ≤ 48 → goes_on (drop (at + 1) s) ≡ true → Reads digits_of s at None
+  pub zero_bad : k ≡ 0 → goes_on u ≡ true → Reads digits_of t None
   zero_bad h g =
-      let low = d.low in
-      let e : b ≡ 48 = omega arith in
-      is_bad digits_of FitU (zero_more (d.rest ∙ ap (λ (x : ℕ). x ∷ drop (at + 1) s) e) g)
+      let low = digit_low d.byte d.is in
+      let says = d.says in
+      let e : d.byte ≡ 48 = omega arith in
+      is_bad digits_of FitU (zero_more (d.form ∙ ap (λ (x : ℕ). x ∷ u) e) g)
 
-pub none_bad : (s : List ℕ) (at : ℕ) → goes_on (drop at s) ≡ false → Reads digits_of s at None
-none_bad s at g = is_bad digits_of FitU (number_none (drop at s) g)
+pub one_reads : {t : List ℕ} {k : ℕ} (rest : Bor (List ℕ)) → DigitHere t k rest.now → goes_on rest.now ≡ false → Reads digits_of t (Some (k, rest))
+one_reads rest d g = rw d.says (is_value digits_of FitU (d.byte - 48) rest (digit_alone d.byte d.form d.is g))
+
+pub none_bad : (t : List ℕ) → goes_on t ≡ false → Reads digits_of t None
+none_bad t g = is_bad digits_of FitU (number_none t g)

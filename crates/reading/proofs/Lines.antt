@@ -1,16 +1,16 @@
 -- Reading the lines behind L, each from its parts, and the operands' lines one by one. A loop's invariant is what is left, as for rows.
 -- Assumes nothing.
 use mathlib.Core.Path.{◌≡◌, refl, sym, ap, ◌∙◌}
-use mathlib.Core.Bool.{false, false≢true}
+use mathlib.Core.Bool.{Bool, false, false≢true}
 use mathlib.Core.List.{List, [], ◌∷◌, ◌++◌, append_assoc, append-nil}
 use Prim.Native.Nat.{ℕ, suc, ◌+◌, ◌-◌, ◌≤◌, ◌<◌}
 use native.Mathlib.Numerals.{add-one}
 use native.Mathlib.Omega.{arith}
-use lib.Dec.{leb}
 use lib.IntN.{ℤ}
-use lib.ListN.{length, drop, set, length-append, length-set, length-drop}
+use lib.ListN.{length, set, length-append, length-set}
 use lib.Seq.{sets, length-sets}
-use borrow.Author.Tests.{leb-true, leb-false}
+use lib.Dec.{eqb}
+use borrow.Author.Tests.{eqb-true, eqb-false}
 use Rattle.strided.specs.Base.{over}
 use Rattle.strided.specs.Digits.{digits_of, signed_of}
 use Rattle.strided.specs.Text.{FitU, FitI, OperandLine, signed_field, extents_line, operand_line}
@@ -20,23 +20,22 @@ use Rattle.reading.specs.Here.{Here, Nowhere}
 use Rattle.reading.specs.Rows.{RowHere, TakesRow}
 use Rattle.reading.specs.Laid.{sets_append}
 use Rattle.reading.specs.Lines.{ExtentsHere, TakesExtents, size_text, OperandHere, TakesOperand, OperandsHere, TakesOperands, sizes_in, strides_in, LinesHere, Arrays, arrays, laid, TakesLines}
+use Rattle.std.specs.Borrow.{Bor}
 use Rattle.std.specs.Prelude.{Option, Some, None}
-use Rattle.reading.proofs.Bytes.{none_at}
 use Rattle.reading.proofs.Answers.{clash, same_found, here_once, field_once}
 use Rattle.reading.proofs.Rows.{row_long}
 
 -- ---- the E line
 
-module _ {s : List ℕ} {at rank : ℕ} {old new : List ℕ} where
-  pub extents_reads : (from : ℕ) {r : Option ℕ} → drop at s ≡ 69 ∷ drop from s → TakesRow digits_of FitU s from rank 0 old new r → TakesExtents s at rank old new r
-  extents_reads from e t =
-      record {
-        to = λ next q. (
-            let w = t.to next q in
-            (w.0, record { count = w.1; fits = w.2.fits; form = e ∙ ap (λ (l : List ℕ). 69 ∷ l) w.2.form ∙ sym (extents_text w.0 (drop next s)) }, w.3));
-        bad = λ q es rest h.
-            t.bad q es rest h.count (record { fits = h.fits; form = ap tail (sym e ∙ h.form ∙ extents_text es rest) });
-      }
+pub extents_reads : {t u : List ℕ} {rank : ℕ} {old new : List ℕ} {r : Option (Bor (List ℕ))} → t ≡ 69 ∷ u → TakesRow digits_of FitU u rank 0 old new r → TakesExtents t rank old new r
+extents_reads e k =
+    record {
+      to = λ rest q. (
+          let w = k.to rest q in
+          (w.0, record { count = w.1; fits = w.2.fits; form = e ∙ ap (λ (l : List ℕ). 69 ∷ l) w.2.form ∙ sym (extents_text w.0 rest.now) }, w.3));
+      bad = λ q es rest h.
+          k.bad q es rest h.count (record { fits = h.fits; form = ap tail (sym e ∙ h.form ∙ extents_text es rest) });
+    }
 
 -- ---- the front of an O line
 
@@ -70,28 +69,27 @@ operand_long o {rest} h =
     let m = ap length (size_of h).form ∙ length-append (size_text o.size) (over o.strides signed_field ++ (10 ∷ rest)) in
     omega arith
 
-module _ {s : List ℕ} {at rank from : ℕ} {old new : List ℤ} where
-  no_operand : ((o : OperandLine) (rest : List ℕ) → OperandHere rank (drop at s) o rest → ⊥) → TakesOperand s at rank from old new None
-  no_operand none = record { value = λ size next q. clash (cc); bad = λ q. none }
+module _ {t : List ℕ} {rank from : ℕ} {old new : List ℤ} where
+  no_operand : ((o : OperandLine) (rest : List ℕ) → OperandHere rank t o rest → ⊥) → TakesOperand t rank from old new None
+  no_operand none = record { value = λ size rest q. clash (cc); bad = λ q. none }
 
-  pub operand_none : Nowhere size_text FitU (drop at s) → TakesOperand s at rank from old new None
+  pub operand_none : Nowhere size_text FitU t → TakesOperand t rank from old new None
   operand_none none = no_operand (λ o rest h. none o.size (over o.strides signed_field ++ (10 ∷ rest)) (size_of h))
 
-  module _ (p : ℕ) {v : ℕ} (h : Here size_text FitU (drop at s) v (drop p s)) where
-    pub operand_open : ((ts : List ℤ) (rest : List ℕ) → length ts ≡ rank → RowHere signed_of FitI (drop p s) ts rest → ⊥)
-        → TakesOperand s at rank from old new None
+  module _ {u : List ℕ} {v : ℕ} (h : Here size_text FitU t v u) where
+    pub operand_open : ((ts : List ℤ) (rest : List ℕ) → length ts ≡ rank → RowHere signed_of FitI u ts rest → ⊥) → TakesOperand t rank from old new None
     operand_open none =
         no_operand (λ o rest g.
         none o.strides rest g.fits.count
         (record { fits = g.fits.strides_fit; form = (here_once size_text size_once h (size_of g)).1 }))
 
-    pub operand_told : (next : ℕ) → (ts : List ℤ) × (length ts ≡ rank) × RowHere signed_of FitI (drop p s) ts (drop next s) × (new ≡ sets old from ts)
-        → TakesOperand s at rank from old new (Some (v, next))
-    operand_told next w =
+    pub operand_told : (rest : Bor (List ℕ)) → (ts : List ℤ) × (length ts ≡ rank) × RowHere signed_of FitI u ts rest.now × (new ≡ sets old from ts)
+        → TakesOperand t rank from old new (Some (v, rest))
+    operand_told rest w =
         record {
-          value = λ size n e. (
+          value = λ size x e. (
               same_found
-              (λ (x y : ℕ). (o : OperandLine) × (o.size ≡ x) × OperandHere rank (drop at s) o (drop y s) × (new ≡ sets old from o.strides)) e
+              (λ (y : ℕ) (z : Bor (List ℕ)). (o : OperandLine) × (o.size ≡ y) × OperandHere rank t o z.now × (new ≡ sets old from o.strides)) e
               (record { size = v; strides = w.0 }, refl, line_of h w.2 w.1, w.3));
           bad = λ e. clash (cc);
         }
@@ -102,20 +100,20 @@ first_line : {rank n : ℕ} {t : List ℕ} {o : OperandLine} {ls : List OperandL
     → OperandHere rank t o (over ls operand_line ++ rest)
 first_line {o = o} {ls = ls} {rest = rest} h = record { fits = h.fits.0; form = h.form ∙ append_assoc (operand_line o) (over ls operand_line) rest }
 
-module _ {s : List ℕ} {at rank k from : ℕ} {sizes sizes' : List ℕ} {strides strides' : List ℤ} where
-  line_turn : {n c : ℕ} (nx : ℕ) {r : Option ℕ} (o : OperandLine) → n ≡ suc c → OperandHere rank (drop at s) o (drop nx s)
-      → TakesOperands s nx rank c (k + 1) (from + rank) (set sizes k o.size) sizes' (sets strides from o.strides) strides' r
-      → TakesOperands s at rank n k from sizes sizes' strides strides' r
-  line_turn {n} {c} nx {r} o q h t =
+module _ {s : List ℕ} {rank k from : ℕ} {sizes sizes' : List ℕ} {strides strides' : List ℤ} where
+  line_turn : {n c : ℕ} {u : List ℕ} {r : Option (Bor (List ℕ))} (o : OperandLine) → n ≡ suc c → OperandHere rank s o u
+      → TakesOperands u rank c (k + 1) (from + rank) (set sizes k o.size) sizes' (sets strides from o.strides) strides' r
+      → TakesOperands s rank n k from sizes sizes' strides strides' r
+  line_turn {n} {c} {u} {r} o q h t =
       record {
-        to = λ next e. (
-            let w = t.to next e in
+        to = λ rest e. (
+            let w = t.to rest e in
             let i : from + rank ≡ from + length o.strides = ap (λ (x : ℕ). from + x) (sym h.fits.count) in (
               o ∷ w.0,
               record {
                 count = ap suc w.1.count ∙ sym q;
                 fits = (h.fits, w.1.fits);
-                form = h.form ∙ ap (λ (l : List ℕ). operand_line o ++ l) w.1.form ∙ sym (append_assoc (operand_line o) (over w.0 operand_line) (drop next s));
+                form = h.form ∙ ap (λ (l : List ℕ). operand_line o ++ l) w.1.form ∙ sym (append_assoc (operand_line o) (over w.0 operand_line) rest.now);
               },
               w.2 ∙ ap (λ (x : ℕ). sets (set sizes k o.size) x (sizes_in w.0)) (add-one k),
               w.3 ∙ ap (λ (x : ℕ). sets (sets strides from o.strides) x (strides_in w.0)) i ∙ sym (sets_append strides from o.strides (strides_in w.0)),
@@ -123,39 +121,39 @@ module _ {s : List ℕ} {at rank k from : ℕ} {sizes sizes' : List ℕ} {stride
         bad = λ e ls rest g. none e ls rest g;
       }
     where
-      none : r ≡ None → (ls : List OperandLine) (rest : List ℕ) → OperandsHere rank n (drop at s) ls rest → ⊥
+      none : r ≡ None → (ls : List OperandLine) (rest : List ℕ) → OperandsHere rank n s ls rest → ⊥
       none e [] rest g = omega arith
       none e (w ∷ ws) rest g =
           let f = first_line g in
-          let o-w = operand_once o w (drop nx s) (over ws operand_line ++ rest) (sym h.form ∙ f.form) in
+          let o-w = operand_once o w u (over ws operand_line ++ rest) (sym h.form ∙ f.form) in
           t.bad e ws rest (record { count = omega arith; fits = g.fits.1; form = o-w.1 })
 
-  no_line : {n c : ℕ} → n ≡ suc c → ((o : OperandLine) (rest : List ℕ) → OperandHere rank (drop at s) o rest → ⊥)
-      → TakesOperands s at rank n k from sizes sizes' strides strides' None
-  no_line {n} {c} q none = record { to = λ next e. clash (cc); bad = λ e ls rest g. go ls rest g }
+  no_line : {n c : ℕ} → n ≡ suc c → ((o : OperandLine) (rest : List ℕ) → OperandHere rank s o rest → ⊥)
+      → TakesOperands s rank n k from sizes sizes' strides strides' None
+  no_line {n} {c} q none = record { to = λ rest e. clash (cc); bad = λ e ls rest g. go ls rest g }
     where
-      go : (ls : List OperandLine) (rest : List ℕ) → OperandsHere rank n (drop at s) ls rest → ⊥
+      go : (ls : List OperandLine) (rest : List ℕ) → OperandsHere rank n s ls rest → ⊥
       go [] rest g = omega arith
       go (w ∷ ws) rest g = none w (over ws operand_line ++ rest) (first_line g)
 
--- the loop: k lines are read, and what is left begins at p
-pub record Lining (s : List ℕ) (at rank count : ℕ) (sizes₀ sizes : List ℕ) (strides₀ strides : List ℤ) (p k from : ℕ) : Type 0 where
+-- the loop: k lines are read, and what is left is u
+pub record Lining (s : List ℕ) (rank count : ℕ) (sizes₀ sizes : List ℕ) (strides₀ strides : List ℤ) (u : List ℕ) (k from : ℕ) : Type 0 where
   pub within : k ≤ count
-  pub short : from + length (drop p s) ≤ length s
+  pub short : from + length u ≤ length s
   pub same-sizes : length sizes ≡ length sizes₀
   pub same_strides : length strides ≡ length strides₀
-  pub left : (sizes' : List ℕ) (strides' : List ℤ) (r : Option ℕ) → TakesOperands s p rank (count - k) k from sizes sizes' strides strides' r
-      → TakesOperands s at rank count 0 0 sizes₀ sizes' strides₀ strides' r
+  pub left : (sizes' : List ℕ) (strides' : List ℤ) (r : Option (Bor (List ℕ))) → TakesOperands u rank (count - k) k from sizes sizes' strides strides' r
+      → TakesOperands s rank count 0 0 sizes₀ sizes' strides₀ strides' r
 
-module _ {s : List ℕ} {at rank count : ℕ} {sizes₀ sizes : List ℕ} {strides₀ strides : List ℤ} {p k from : ℕ}
-    (d : Lining s at rank count sizes₀ sizes strides₀ strides p k from) where
+module _ {s : List ℕ} {rank count : ℕ} {sizes₀ sizes : List ℕ} {strides₀ strides : List ℤ} {u : List ℕ} {k from : ℕ}
+    (d : Lining s rank count sizes₀ sizes strides₀ strides u k from) where
   -- a line is read
-  module _ {size : ℕ} (nx : ℕ) {new : List ℤ}
-      (w : (o : OperandLine) × (o.size ≡ size) × OperandHere rank (drop p s) o (drop nx s) × (new ≡ sets strides from o.strides)) where
-    pub lining_short : from + rank + length (drop nx s) ≤ length s
+  module _ {size : ℕ} {x : List ℕ} {new : List ℤ}
+      (w : (o : OperandLine) × (o.size ≡ size) × OperandHere rank u o x × (new ≡ sets strides from o.strides)) where
+    pub lining_short : from + rank + length x ≤ length s
     lining_short = let l = operand_long w.0 w.2 in omega arith
 
-    pub lining_turn : k < count → Lining s at rank count sizes₀ (set sizes k size) strides₀ new nx (k + 1) (from + rank)
+    pub lining_turn : k < count → Lining s rank count sizes₀ (set sizes k size) strides₀ new x (k + 1) (from + rank)
     lining_turn h =
         let q : count - k ≡ suc (count - (k + 1)) = omega arith in
         record {
@@ -163,16 +161,20 @@ module _ {s : List ℕ} {at rank count : ℕ} {sizes₀ sizes : List ℕ} {strid
           short = lining_short;
           same-sizes = length-set sizes k size ∙ d.same-sizes;
           same_strides = ap length w.3 ∙ length-sets strides from w.0.strides ∙ d.same_strides;
-          left = λ sizes' strides' r' u.
-              d.left sizes' strides' r' (line_turn nx w.0 q w.2 (rw (← w.1, w.3) at u));
+          left = λ sizes' strides' r' t.
+              d.left sizes' strides' r' (line_turn w.0 q w.2 (rw (← w.1, w.3) at t));
         }
 
   -- no line stands there
-  pub lining_bad : {new : List ℤ} → k < count → ((o : OperandLine) (rest : List ℕ) → OperandHere rank (drop p s) o rest → ⊥)
-      → TakesOperands s at rank count 0 0 sizes₀ sizes strides₀ new None
+  pub lining_bad : {new : List ℤ} → k < count → ((o : OperandLine) (rest : List ℕ) → OperandHere rank u o rest → ⊥)
+      → TakesOperands s rank count 0 0 sizes₀ sizes strides₀ new None
   lining_bad {new} h none = let q : count - k ≡ suc (count - (k + 1)) = omega arith in d.left sizes new None (no_line q none)
 
 -- ---- all lines, and nothing behind them
+
+no_length : (l : List ℕ) → length l ≡ 0 → l ≡ []
+no_length [] h = refl
+no_length (x ∷ l) h = absurd (omega arith)
 
 extents-rest : {rank : ℕ} {t : List ℕ} (a b : List ℕ) {x y : List ℕ} → ExtentsHere rank t a x → ExtentsHere rank t b y → x ≡ y
 extents-rest a b {x} {y} f g = (row_once digits_of digits_once a b x y (ap tail (sym (extents_text a x) ∙ sym f.form ∙ g.form ∙ extents_text b y))).1
@@ -181,32 +183,36 @@ extents-rest a b {x} {y} f g = (row_once digits_of digits_once a b x y (ap tail 
 extents_of_lem : {rank operands : ℕ} {t es : List ℕ} {ls : List OperandLine} → LinesHere rank operands t es ls → ExtentsHere rank t es (over ls operand_line)
 extents_of_lem h = record { count = h.axes; fits = h.extents_fit; form = h.form }
 
-module _ {s : List ℕ} {at rank operands : ℕ} {old new : Arrays} where
-  no_lines : ((es : List ℕ) (ls : List OperandLine) → LinesHere rank operands (drop at s) es ls → ⊥) → TakesLines s at rank operands old new false
+module _ {t : List ℕ} {rank operands : ℕ} {old new : Arrays} where
+  no_lines : ((es : List ℕ) (ls : List OperandLine) → LinesHere rank operands t es ls → ⊥) → TakesLines t rank operands old new false
   no_lines none = record { yes = λ e. absurd (false≢true e); no = λ e. none }
 
-module _ {s : List ℕ} {at rank : ℕ} {es es' : List ℕ} {a : Option ℕ} (f : TakesExtents s at rank es es' a) where
+module _ {t : List ℕ} {rank : ℕ} {es es' : List ℕ} {a : Option (Bor (List ℕ))} (f : TakesExtents t rank es es' a) (p : Bor (List ℕ)) (e : a ≡ Some p) where
   -- the operands' lines stand behind the E line
-  behind_extents : (p : ℕ) → a ≡ Some p → {operands : ℕ} (xs : List ℕ) (ls : List OperandLine) → LinesHere rank operands (drop at s) xs ls
-      → drop p s ≡ over ls operand_line
-  behind_extents p e xs ls h = let w = f.to p e in extents-rest w.0 xs w.1 (extents_of_lem h)
+  behind_extents : {operands : ℕ} (xs : List ℕ) (ls : List OperandLine) → LinesHere rank operands t xs ls → p.now ≡ over ls operand_line
+  behind_extents xs ls h = let w = f.to p e in extents-rest w.0 xs w.1 (extents_of_lem h)
 
-  module _ (p : ℕ) (e : a ≡ Some p) {operands : ℕ} {sizes sizes' : List ℕ} {strides strides' : List ℤ} {b : Option ℕ}
-      (g : TakesOperands s p rank operands 0 0 sizes sizes' strides strides' b) where
-    pub lines_open : {old new : Arrays} → b ≡ None → TakesLines s at rank operands old new false
+  module _ {operands : ℕ} {sizes sizes' : List ℕ} {strides strides' : List ℤ} {b : Option (Bor (List ℕ))}
+      (g : TakesOperands p.now rank operands 0 0 sizes sizes' strides strides' b) where
+    pub lines_open : {old new : Arrays} → b ≡ None → TakesLines t rank operands old new false
     lines_open q =
         no_lines (λ xs ls h.
-        g.bad q ls [] (record { count = h.operand_lines; fits = h.rows; form = behind_extents p e xs ls h ∙ sym (append-nil (over ls operand_line)) }))
+        g.bad q ls [] (record { count = h.operand_lines; fits = h.rows; form = behind_extents xs ls h ∙ sym (append-nil (over ls operand_line)) }))
 
-    pub lines_told : (end : ℕ) → b ≡ Some end → TakesLines s at rank operands (arrays es sizes strides) (arrays es' sizes' strides') (leb (length s) end)
-    lines_told end q = record { yes = λ t. all (leb-true (length s) end t); no = λ t xs ls h. more (leb-false (length s) end t) xs ls h }
+    pub lines_told : (end : Bor (List ℕ)) → b ≡ Some end → {empty : Bool} → empty ≡ eqb (length end.now) 0
+        → TakesLines t rank operands (arrays es sizes strides) (arrays es' sizes' strides') empty
+    lines_told end q z =
+        record {
+          yes = λ k. all (no_length end.now (eqb-true (length end.now) 0 (sym z ∙ k)));
+          no = λ k xs ls h. more (λ n. eqb-false (length end.now) 0 (sym z ∙ k) (ap length n)) xs ls h;
+        }
       where
-        all : length s ≤ end → (xs : List ℕ) × (ls : List OperandLine) × LinesHere rank operands (drop at s) xs ls × (arrays es' sizes' strides' ≡ laid (arrays es sizes strides) xs ls)
-        all t =
+        all : end.now ≡ [] → (xs : List ℕ) × (ls : List OperandLine) × LinesHere rank operands t xs ls × (arrays es' sizes' strides' ≡ laid (arrays es sizes strides) xs ls)
+        all z =
             let w = f.to p e in
             let v = g.to end q in
-            let ops : drop p s ≡ over v.0 operand_line =
-            v.1.form ∙ ap (λ (l : List ℕ). over v.0 operand_line ++ l) (none_at s end t) ∙ append-nil (over v.0 operand_line) in (
+            let ops : p.now ≡ over v.0 operand_line =
+            v.1.form ∙ ap (λ (l : List ℕ). over v.0 operand_line ++ l) z ∙ append-nil (over v.0 operand_line) in (
               w.0,
               v.0,
               record {
@@ -219,11 +225,8 @@ module _ {s : List ℕ} {at rank : ℕ} {es es' : List ℕ} {a : Option ℕ} (f 
               λ i. record { extents = w.2 i; sizes = v.2 i; strides = v.3 i },
             )
 
-        more : end < length s → (xs : List ℕ) (ls : List OperandLine) → LinesHere rank operands (drop at s) xs ls → ⊥
-        more t xs ls h =
+        more : (end.now ≡ [] → ⊥) → (xs : List ℕ) (ls : List OperandLine) → LinesHere rank operands t xs ls → ⊥
+        more left xs ls h =
             let v = g.to end q in
             let n : length v.0 ≡ length ls = v.1.count ∙ sym h.operand_lines in
-            let z : drop end s ≡ [] =
-            operands_rest v.0 ls (drop end s) [] n (sym v.1.form ∙ behind_extents p e xs ls h ∙ sym (append-nil (over ls operand_line))) in
-            let l : length s - end ≡ 0 = sym (length-drop end s) ∙ ap length z in
-            omega arith
+            left (operands_rest v.0 ls end.now [] n (sym v.1.form ∙ behind_extents xs ls h ∙ sym (append-nil (over ls operand_line))))

@@ -6,7 +6,7 @@ use mathlib.Core.List.{List, [], ◌∷◌, ◌++◌}
 use Prim.Native.Nat.{ℕ, suc, ◌+◌, ◌-◌, ◌≤◌, ◌<◌}
 use native.Mathlib.Numerals.{add-one}
 use native.Mathlib.Omega.{arith}
-use lib.ListN.{length, drop, set, length-append, length-set}
+use lib.ListN.{length, set, length-append, length-set}
 use lib.Seq.{sets}
 use Rattle.strided.specs.Base.{over}
 use Rattle.laws.specs.Text.Once.{Once, celled, cell_once, row_stops, row_cons}
@@ -14,6 +14,7 @@ use Rattle.reading.specs.Here.{Here, Nowhere}
 use Rattle.reading.specs.Bytes.{Behind}
 use Rattle.reading.specs.Rows.{RowHere, TakesRow}
 use Rattle.reading.proofs.Answers.{clash}
+use Rattle.std.specs.Borrow.{Bor}
 use Rattle.std.specs.Prelude.{Option, None}
 
 module _ {A : Type 0} (g : A → List ℕ) (Fits : A → Type 0) where
@@ -40,70 +41,69 @@ module _ {A : Type 0} (g : A → List ℕ) (Fits : A → Type 0) where
       let f : length t ≡ length (celled g v) + length (over vs (celled g) ++ (10 ∷ rest)) = ap length (first_field h).form ∙ length-append (celled g v) _ in
       omega arith
 
-  module _ (once : Once g) {s : List ℕ} {at from : ℕ} {old new : List A} {r : Option ℕ} where
+  module _ (once : Once g) {s u : List ℕ} {from : ℕ} {old new : List A} {r : Option (Bor (List ℕ))} where
     -- ---- one step of the reader
 
-    turn : {nx k n : ℕ} {v : A} → n ≡ suc k → Here (celled g) Fits (drop at s) v (drop nx s) → TakesRow g Fits s nx k (from + 1) (set old from v) new r
-        → TakesRow g Fits s at n from old new r
-    turn {nx} {k} {n} {v} q h t =
+    turn : {k n : ℕ} {v : A} → n ≡ suc k → Here (celled g) Fits s v u → TakesRow g Fits u k (from + 1) (set old from v) new r
+        → TakesRow g Fits s n from old new r
+    turn {k} {n} {v} q h t =
         record {
           to = λ next e. (let w = t.to next e in
               (v ∷ w.0, ap suc w.1 ∙ sym q, joined h w.2, w.3 ∙ ap (λ (i : ℕ). sets (set old from v) i w.0) (add-one from)));
           bad = λ e vs rest l. none e vs rest (l ∙ q);
         }
       where
-        none : r ≡ None → (vs : List A) (rest : List ℕ) → length vs ≡ suc k → RowHere g Fits (drop at s) vs rest → ⊥
+        none : r ≡ None → (vs : List A) (rest : List ℕ) → length vs ≡ suc k → RowHere g Fits s vs rest → ⊥
         none e [] rest l row = omega arith
         none e (w ∷ ws) rest l row =
             let f = first_field row in
-            let o = cell_once g once v w (drop nx s) (over ws (celled g) ++ (10 ∷ rest)) h.stops f.stops (sym h.form ∙ f.form) in
+            let o = cell_once g once v w u (over ws (celled g) ++ (10 ∷ rest)) h.stops f.stops (sym h.form ∙ f.form) in
             let m : length ws ≡ k = omega arith in
             t.bad e ws rest m (rw o.1 (other_fields row))
 
-  no_field : {s : List ℕ} {at from : ℕ} {old new : List A} {k n : ℕ} → n ≡ suc k → Nowhere (celled g) Fits (drop at s)
-      → TakesRow g Fits s at n from old new None
-  no_field {s} {at} {k = k} q none =
+  no_field : {s : List ℕ} {from : ℕ} {old new : List A} {k n : ℕ} → n ≡ suc k → Nowhere (celled g) Fits s
+      → TakesRow g Fits s n from old new None
+  no_field {s} {k = k} q none =
       record { to = λ next e. clash (cc); bad = λ e vs rest l row. go vs rest (l ∙ q) row }
     where
-      go : (vs : List A) (rest : List ℕ) → length vs ≡ suc k → RowHere g Fits (drop at s) vs rest → ⊥
+      go : (vs : List A) (rest : List ℕ) → length vs ≡ suc k → RowHere g Fits s vs rest → ⊥
       go [] rest l row = omega arith
       go (w ∷ ws) rest l row = none w (over ws (celled g) ++ (10 ∷ rest)) (first_field row)
 
-  line_end : {s : List ℕ} {at from : ℕ} {old : List A} {n : ℕ} {r : Option ℕ} → n ≡ 0 → Behind 10 s at r → TakesRow g Fits s at n from old old r
-  line_end {s} {at} {r = r} q b =
+  line_end : {s : List ℕ} {from : ℕ} {old : List A} {n : ℕ} {r : Option (Bor (List ℕ))} → n ≡ 0 → Behind 10 s r → TakesRow g Fits s n from old old r
+  line_end {s} {r = r} q b =
       record {
         to = λ next e. ([], sym q, record { fits = tt; form = b.to next e }, refl);
         bad = λ e vs rest l row. go e vs rest (l ∙ q) row;
       }
     where
-      go : r ≡ None → (vs : List A) (rest : List ℕ) → length vs ≡ 0 → RowHere g Fits (drop at s) vs rest → ⊥
+      go : r ≡ None → (vs : List A) (rest : List ℕ) → length vs ≡ 0 → RowHere g Fits s vs rest → ⊥
       go e [] rest l row = b.bad e rest row.form
       go e (w ∷ ws) rest l row = omega arith
 
-  -- ---- the loop: i numbers are read, and what is left begins at p
+  -- ---- the loop: i numbers are read, and what is left is u
 
-  pub record Rowing (s : List ℕ) (at count from : ℕ) (old out : List A) (p i : ℕ) : Type 0 where
+  pub record Rowing (s : List ℕ) (count from : ℕ) (old out : List A) (u : List ℕ) (i : ℕ) : Type 0 where
     pub within : i ≤ count
     pub same : length out ≡ length old
-    pub short : i + length (drop p s) ≤ length (drop at s)
-    pub left : (new : List A) (r : Option ℕ) → TakesRow g Fits s p (count - i) (from + i) out new r → TakesRow g Fits s at count from old new r
+    pub short : i + length u ≤ length s
+    pub left : (new : List A) (r : Option (Bor (List ℕ))) → TakesRow g Fits u (count - i) (from + i) out new r → TakesRow g Fits s count from old new r
 
-  module _ {s : List ℕ} {at count from : ℕ} {old out : List A} {p i : ℕ} (d : Rowing s at count from old out p i) where
-    pub rowing_turn : Once g → {v : A} {nx : ℕ} → i < count → Here (celled g) Fits (drop p s) v (drop nx s)
-        → Rowing s at count from old (set out (from + i) v) nx (i + 1)
-    rowing_turn once {v} {nx} h f =
+  module _ {s : List ℕ} {count from : ℕ} {old out : List A} {u : List ℕ} {i : ℕ} (d : Rowing s count from old out u i) where
+    pub rowing_turn : Once g → {v : A} {x : List ℕ} → i < count → Here (celled g) Fits u v x → Rowing s count from old (set out (from + i) v) x (i + 1)
+    rowing_turn once {v} {x} h f =
         record {
           within = omega arith;
           same = length-set out (from + i) v ∙ d.same;
-          short = let l = ap length f.form ∙ length-append (celled g v) (drop nx s) in omega arith;
+          short = let l = ap length f.form ∙ length-append (celled g v) x in omega arith;
           left = λ new r t.
               let q : count - i ≡ suc (count - (i + 1)) = omega arith in
               let a : from + (i + 1) ≡ from + i + 1 = omega arith in
               d.left new r (turn once q f (rw a at t));
         }
 
-    pub rowing_bad : i < count → Nowhere (celled g) Fits (drop p s) → TakesRow g Fits s at count from old out None
+    pub rowing_bad : i < count → Nowhere (celled g) Fits u → TakesRow g Fits s count from old out None
     rowing_bad h none = let q : count - i ≡ suc (count - (i + 1)) = omega arith in d.left out None (no_field q none)
 
-    pub rowing_end : {r : Option ℕ} → count ≤ i → Behind 10 s p r → TakesRow g Fits s at count from old out r
+    pub rowing_end : {r : Option (Bor (List ℕ))} → count ≤ i → Behind 10 u r → TakesRow g Fits s count from old out r
     rowing_end {r} h b = let q : count - i ≡ 0 = omega arith in d.left out r (line_end q b)

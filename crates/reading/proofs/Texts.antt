@@ -4,7 +4,7 @@ use mathlib.Core.Path.{◌≡◌, sym, ap, ◌∙◌}
 use mathlib.Core.Bool.{Bool, true, false}
 use mathlib.Core.List.{List, ◌++◌}
 use Prim.Native.Nat.{ℕ, ◌≤◌}
-use lib.ListN.{length, drop}
+use lib.ListN.{length}
 use Rattle.strided.specs.Text.{Parsed, head_line, NotInForm}
 use Rattle.strided.specs.declared.Purpose.{Purpose}
 use Rattle.laws.specs.Text.Once.{head_once}
@@ -20,13 +20,13 @@ module _ {text : List ℕ} {old new : Arrays} {x : Unformed} where
   not_formed : NotInForm text → ReadsText text old new (Err x)
   not_formed none = record { layout = λ l e. clash (cc); unformed = λ y e. none }
 
-  module _ (at : ℕ) {u : Purpose} {rank operands : ℕ} (h : HeadHere text u rank operands (drop at text)) {b : Bool} (t : TakesLines text at rank operands old new b) where
+  module _ {u : Purpose} {rank operands : ℕ} {lines : List ℕ} (h : HeadHere text u rank operands lines) {b : Bool} (t : TakesLines lines rank operands old new b) where
     pub text_open : b ≡ false → ReadsText text old new (Err x)
     text_open e = not_formed none
       where
         none : NotInForm text
         none p f =
-            let s = head_once u p.purpose rank p.rank operands p.operands (drop at text) _ (sym h.form ∙ f.form) in
+            let s = head_once u p.purpose rank p.rank operands p.operands lines _ (sym h.form ∙ f.form) in
             t.no e p.extents p.lines
             (record {
               axes = f.axes ∙ sym s.ranks;

@@ -1,13 +1,13 @@
 -- What the readers of the L line answer, from its end on: the chosen operand with the line's end, the counts, all behind the letter, the line.
 -- Assumes nothing.
-use Rattle.std.specs.Prelude.{◌≡◌, Bool, false, cond, List, ◌∷◌, ◌++◌, ℕ, drop, Option, Some, None}
+use Rattle.std.specs.Prelude.{◌≡◌, false, List, ◌∷◌, ◌++◌, ℕ, Option, Some, None}
+use Rattle.std.specs.Borrow.{Bor}
 use Rattle.strided.specs.Layout.{chosen, lead_of}
 use Rattle.strided.specs.Text.{FitU, field, purpose_letter, chosen_field, head_line}
 use Rattle.strided.specs.declared.Purpose.{Purpose}
 use Rattle.laws.specs.Text.Numbers.{goes_on}
 use Rattle.laws.specs.Text.Once.{head_rest}
-use Rattle.reading.specs.declared.head.Counts.{Counts}
-use Rattle.reading.specs.declared.head.Head.{Head}
+use Rattle.reading.specs.declared.Said.{Said}
 
 -- ---- a number that ends the line
 
@@ -15,9 +15,9 @@ pub record LastHere (t : List ℕ) (k : ℕ) (rest : List ℕ) : Type 0 where
   pub fits : FitU k
   pub form : t ≡ field k ++ (10 ∷ rest)
 
-pub record ReadsLast (s : List ℕ) (at : ℕ) (r : Option (ℕ × ℕ)) : Type 0 where
-  pub value : (k next : ℕ) → r ≡ Some (k, next) → LastHere (drop at s) k (drop next s)
-  pub bad : r ≡ None → (k : ℕ) (rest : List ℕ) → LastHere (drop at s) k rest → ⊥
+pub record ReadsLast (t : List ℕ) (r : Option (ℕ × Bor (List ℕ))) : Type 0 where
+  pub value : (k : ℕ) (rest : Bor (List ℕ)) → r ≡ Some (k, rest) → LastHere t k rest.now
+  pub bad : r ≡ None → (k : ℕ) (rest : List ℕ) → LastHere t k rest → ⊥
 
 -- ---- the chosen operand of a purpose with this letter, and the line's end
 
@@ -26,12 +26,13 @@ pub record ChosenHere (letter : ℕ) (t : List ℕ) (u : Purpose) (rest : List �
   pub fits : FitU (lead_of (chosen u))
   pub form : t ≡ chosen_field (chosen u) ++ (10 ∷ rest)
 
-pub record ReadsChosen (letter : ℕ) (s : List ℕ) (at : ℕ) (r : Option (Purpose × ℕ)) : Type 0 where
-  pub by : (u : Purpose) (next : ℕ) → r ≡ Some (u, next) → ChosenHere letter (drop at s) u (drop next s)
-  pub bad : r ≡ None → (u : Purpose) (rest : List ℕ) → ChosenHere letter (drop at s) u rest → ⊥
+pub record ReadsChosen (letter : ℕ) (t : List ℕ) (r : Option (Purpose × Bor (List ℕ))) : Type 0 where
+  pub by : (u : Purpose) (rest : Bor (List ℕ)) → r ≡ Some (u, rest) → ChosenHere letter t u rest.now
+  pub bad : r ≡ None → (u : Purpose) (rest : List ℕ) → ChosenHere letter t u rest → ⊥
 
-abbrev pub letter_of : Bool → ℕ
-letter_of fold = cond fold 70 80
+-- whatever a function that R tells of answers
+abbrev pub ReadsChosenBy : ℕ → (Bor (List ℕ) → Option (Purpose × Bor (List ℕ)) → Type 0) → Type 0
+ReadsChosenBy letter R = (s : Bor (List ℕ)) (r : Option (Purpose × Bor (List ℕ))) → R s r → ReadsChosen letter s.now r
 
 -- ---- two counts: the rank and how many operands, here
 
@@ -41,9 +42,9 @@ pub record CountsHere (t : List ℕ) (first second : ℕ) (rest : List ℕ) : Ty
   pub form : t ≡ field first ++ (field second ++ rest)
   pub stops : goes_on rest ≡ false
 
-pub record ReadsCounts (s : List ℕ) (at : ℕ) (r : Option Counts) : Type 0 where
-  pub told : (c : Counts) → r ≡ Some c → CountsHere (drop at s) c.first c.second (drop c.next s)
-  pub bad : r ≡ None → (first second : ℕ) (rest : List ℕ) → CountsHere (drop at s) first second rest → ⊥
+pub record ReadsCounts (t : List ℕ) (r : Option (ℕ × ℕ × Bor (List ℕ))) : Type 0 where
+  pub told : (first second : ℕ) (rest : Bor (List ℕ)) → r ≡ Some (first, second, rest) → CountsHere t first second rest.now
+  pub bad : r ≡ None → (first second : ℕ) (rest : List ℕ) → CountsHere t first second rest → ⊥
 
 -- ---- all behind the letter, and the whole line
 
@@ -54,9 +55,9 @@ pub record ToldHere (letter : ℕ) (t : List ℕ) (u : Purpose) (rank operands :
   pub chosen_fits : FitU (lead_of (chosen u))
   pub form : t ≡ head_rest u rank operands rest
 
-pub record ReadsTold (letter : ℕ) (s : List ℕ) (at : ℕ) (r : Option Head) : Type 0 where
-  pub told : (h : Head) → r ≡ Some h → ToldHere letter (drop at s) h.purpose h.rank h.operands (drop h.next s)
-  pub bad : r ≡ None → (u : Purpose) (rank operands : ℕ) (rest : List ℕ) → ToldHere letter (drop at s) u rank operands rest → ⊥
+pub record ReadsTold (letter : ℕ) (t : List ℕ) (r : Option (Said × Bor (List ℕ))) : Type 0 where
+  pub told : (h : Said) (rest : Bor (List ℕ)) → r ≡ Some (h, rest) → ToldHere letter t h.purpose h.rank h.operands rest.now
+  pub bad : r ≡ None → (u : Purpose) (rank operands : ℕ) (rest : List ℕ) → ToldHere letter t u rank operands rest → ⊥
 
 pub record HeadHere (t : List ℕ) (u : Purpose) (rank operands : ℕ) (rest : List ℕ) : Type 0 where
   pub rank_fits : FitU rank
@@ -64,6 +65,6 @@ pub record HeadHere (t : List ℕ) (u : Purpose) (rank operands : ℕ) (rest : L
   pub chosen_fits : FitU (lead_of (chosen u))
   pub form : t ≡ head_line u rank operands ++ rest
 
-pub record ReadsHead (s : List ℕ) (r : Option Head) : Type 0 where
-  pub told : (h : Head) → r ≡ Some h → HeadHere s h.purpose h.rank h.operands (drop h.next s)
-  pub bad : r ≡ None → (u : Purpose) (rank operands : ℕ) (rest : List ℕ) → HeadHere s u rank operands rest → ⊥
+pub record ReadsHead (t : List ℕ) (r : Option (Said × Bor (List ℕ))) : Type 0 where
+  pub told : (h : Said) (rest : Bor (List ℕ)) → r ≡ Some (h, rest) → HeadHere t h.purpose h.rank h.operands rest.now
+  pub bad : r ≡ None → (u : Purpose) (rank operands : ℕ) (rest : List ℕ) → HeadHere t u rank operands rest → ⊥

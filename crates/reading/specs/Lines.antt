@@ -1,7 +1,8 @@
 -- What the readers of the lines behind L answer: the E line, the front of an O line, an O line, all O lines, all of these to the text's end.
 -- Numbers are laid into arrays from a place on (`sets`), as far as an array has places.
 -- Assumes nothing.
-use Rattle.std.specs.Prelude.{◌≡◌, Bool, true, false, List, ◌∷◌, ◌++◌, map, ℕ, ℤ, length, drop, Option, Some, None}
+use Rattle.std.specs.Prelude.{◌≡◌, Bool, true, false, List, ◌∷◌, ◌++◌, map, ℕ, ℤ, length, Option, Some, None}
+use Rattle.std.specs.Borrow.{Bor}
 use Rattle.std.proofs.lemmas.List.Edits.{sets}
 use Rattle.strided.specs.Base.{over}
 use Rattle.strided.specs.Text.{Each, FitU, LineFits, OperandLine, field, extents_line, operand_line}
@@ -13,9 +14,9 @@ pub record ExtentsHere (rank : ℕ) (t es rest : List ℕ) : Type 0 where
   pub fits : Each FitU es
   pub form : t ≡ extents_line es ++ rest
 
-pub record TakesExtents (s : List ℕ) (at rank : ℕ) (old new : List ℕ) (r : Option ℕ) : Type 0 where
-  pub to : (next : ℕ) → r ≡ Some next → (es : List ℕ) × ExtentsHere rank (drop at s) es (drop next s) × (new ≡ sets old 0 es)
-  pub bad : r ≡ None → (es rest : List ℕ) → ExtentsHere rank (drop at s) es rest → ⊥
+pub record TakesExtents (t : List ℕ) (rank : ℕ) (old new : List ℕ) (r : Option (Bor (List ℕ))) : Type 0 where
+  pub to : (rest : Bor (List ℕ)) → r ≡ Some rest → (es : List ℕ) × ExtentsHere rank t es rest.now × (new ≡ sets old 0 es)
+  pub bad : r ≡ None → (es rest : List ℕ) → ExtentsHere rank t es rest → ⊥
 
 -- ---- an O line
 
@@ -26,10 +27,10 @@ pub record OperandHere (rank : ℕ) (t : List ℕ) (o : OperandLine) (rest : Lis
   pub fits : LineFits rank o
   pub form : t ≡ operand_line o ++ rest
 
-pub record TakesOperand (s : List ℕ) (at rank from : ℕ) (old new : List ℤ) (r : Option (ℕ × ℕ)) : Type 0 where
-  pub value : (size next : ℕ) → r ≡ Some (size, next)
-      → (o : OperandLine) × (o.size ≡ size) × OperandHere rank (drop at s) o (drop next s) × (new ≡ sets old from o.strides)
-  pub bad : r ≡ None → (o : OperandLine) (rest : List ℕ) → OperandHere rank (drop at s) o rest → ⊥
+pub record TakesOperand (t : List ℕ) (rank from : ℕ) (old new : List ℤ) (r : Option (ℕ × Bor (List ℕ))) : Type 0 where
+  pub value : (size : ℕ) (rest : Bor (List ℕ)) → r ≡ Some (size, rest)
+      → (o : OperandLine) × (o.size ≡ size) × OperandHere rank t o rest.now × (new ≡ sets old from o.strides)
+  pub bad : r ≡ None → (o : OperandLine) (rest : List ℕ) → OperandHere rank t o rest → ⊥
 
 -- ---- `count` O lines: the sizes are laid from place k on, the strides from place `from` on
 
@@ -44,10 +45,10 @@ sizes_in ls = map (λ (o : OperandLine). o.size) ls
 abbrev pub strides_in : List OperandLine → List ℤ
 strides_in ls = over ls (λ (o : OperandLine). o.strides)
 
-pub record TakesOperands (s : List ℕ) (at rank count k from : ℕ) (sizes sizes' : List ℕ) (strides strides' : List ℤ) (r : Option ℕ) : Type 0 where
-  pub to : (next : ℕ) → r ≡ Some next
-      → (ls : List OperandLine) × OperandsHere rank count (drop at s) ls (drop next s) × (sizes' ≡ sets sizes k (sizes_in ls)) × (strides' ≡ sets strides from (strides_in ls))
-  pub bad : r ≡ None → (ls : List OperandLine) (rest : List ℕ) → OperandsHere rank count (drop at s) ls rest → ⊥
+pub record TakesOperands (t : List ℕ) (rank count k from : ℕ) (sizes sizes' : List ℕ) (strides strides' : List ℤ) (r : Option (Bor (List ℕ))) : Type 0 where
+  pub to : (rest : Bor (List ℕ)) → r ≡ Some rest
+      → (ls : List OperandLine) × OperandsHere rank count t ls rest.now × (sizes' ≡ sets sizes k (sizes_in ls)) × (strides' ≡ sets strides from (strides_in ls))
+  pub bad : r ≡ None → (ls : List OperandLine) (rest : List ℕ) → OperandsHere rank count t ls rest → ⊥
 
 -- ---- all of them, and nothing behind
 
@@ -70,6 +71,6 @@ arrays es sizes strides = record { extents = es; sizes = sizes; strides = stride
 abbrev pub laid : Arrays → List ℕ → List OperandLine → Arrays
 laid a es ls = arrays (sets a.extents 0 es) (sets a.sizes 0 (sizes_in ls)) (sets a.strides 0 (strides_in ls))
 
-pub record TakesLines (s : List ℕ) (at rank operands : ℕ) (old new : Arrays) (r : Bool) : Type 0 where
-  pub yes : r ≡ true → (es : List ℕ) × (ls : List OperandLine) × LinesHere rank operands (drop at s) es ls × (new ≡ laid old es ls)
-  pub no : r ≡ false → (es : List ℕ) (ls : List OperandLine) → LinesHere rank operands (drop at s) es ls → ⊥
+pub record TakesLines (t : List ℕ) (rank operands : ℕ) (old new : Arrays) (r : Bool) : Type 0 where
+  pub yes : r ≡ true → (es : List ℕ) × (ls : List OperandLine) × LinesHere rank operands t es ls × (new ≡ laid old es ls)
+  pub no : r ≡ false → (es : List ℕ) (ls : List OperandLine) → LinesHere rank operands t es ls → ⊥

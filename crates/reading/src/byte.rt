@@ -1,21 +1,22 @@
-// Single bytes of the text.
-ghost use Rattle.std.specs.Prelude.{◌≡◌, drop};
-ghost use Rattle.laws.specs.Text.Numbers.{goes_on};
-ghost use Rattle.reading.specs.Bytes.{Behind};
+// Single bytes of the text. Each function answers what is behind the byte.
+ghost use Rattle.reading.specs.Bytes.{Behind, FindsDigit};
 
-// Whether a digit stands at `at`.
-pub fn digit(s: &[u8], at: usize) -> bool
-    ensures { result ≡ goes_on (drop at s.now) }
+// The digit in front, as a number.
+pub fn digit(s: &[u8]) -> Option<(u64, &[u8])>
+    ensures { FindsDigit s.now result }
 {
-    at < s.len() && s[at].is_ascii_digit()
+    let (first, rest) = s.split_first()?;
+    if first.is_ascii_digit() {
+        Some((u64::from(*first) - 48, rest))
+    } else {
+        None
+    }
 }
 
-// The place behind the byte b.
-pub fn behind(s: &[u8], at: usize, b: u8) -> Option<usize>
-    ensures { Behind b s.now at result }
+// The byte b.
+pub fn behind(s: &[u8], b: u8) -> Option<&[u8]>
+    ensures { Behind b s.now result }
 {
-    if s.len() <= at {
-        return None;
-    }
-    if s[at] == b { Some(at + 1) } else { None }
+    let (byte, rest) = s.split_first()?;
+    if *byte == b { Some(rest) } else { None }
 }

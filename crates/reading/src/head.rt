@@ -1,110 +1,86 @@
 // The L line: purpose, rank, operand count and chosen operand. `-` chooses none, with P only.
+ghost use Rattle.std.specs.Prelude.{ℕ};
 ghost use Rattle.reading.specs.Bytes.{BehindAll};
-ghost use Rattle.reading.specs.Heads.{ReadsLast, ReadsChosen, ReadsCounts, ReadsTold, ReadsHead, letter_of};
+ghost use Rattle.reading.specs.Heads.{ReadsLast, ReadsChosen, ReadsCounts, ReadsChosenBy, ReadsTold, ReadsHead};
 
+use super::Said;
 use super::byte::behind;
 use super::number::field;
 use strided::Purpose;
 
-// Two counts of a line, such as rank and operand count, and the place behind them.
-#[derive(Clone, Copy)]
-pub struct Counts {
-    pub first: usize,
-    pub second: usize,
-    pub next: usize,
-}
-
-// What the line tells, and the place behind it.
-#[derive(Clone, Copy)]
-pub struct Head {
-    pub purpose: Purpose,
-    pub rank: usize,
-    pub operands: usize,
-    pub next: usize,
-}
-
-// The place behind the bytes of a word.
-fn behind_all<'a>(s: &'a [u8], at: usize, word: &'a [u8]) -> Option<usize>
-    ensures { BehindAll word.now s.now at result }
+// What is behind the bytes of a word.
+fn behind_all<'a>(s: &'a [u8], word: &[u8]) -> Option<&'a [u8]>
+    ensures { BehindAll word.now s.now result }
 {
-    let mut p = at;
+    let mut rest = s;
     for &b in word {
-        p = behind(s, p, b)?;
+        rest = behind(rest, b)?;
     }
-    Some(p)
+    Some(rest)
 }
 
 // The field of the chosen operand, and the line's end.
-fn read_last(s: &[u8], at: usize) -> Option<(u64, usize)>
-    ensures { ReadsLast s.now at result }
+fn read_last(s: &[u8]) -> Option<(u64, &[u8])>
+    ensures { ReadsLast s.now result }
 {
-    let (k, p) = field(s, at)?;
-    let next = behind(s, p, b'\n')?;
-    Some((k, next))
+    let (k, end) = field(s)?;
+    Some((k, behind(end, b'\n')?))
 }
 
 // The end of a line with P.
-fn read_pointwise(s: &[u8], at: usize) -> Option<(Purpose, usize)>
-    ensures { ReadsChosen 80 s.now at result }
+fn read_pointwise(s: &[u8]) -> Option<(Purpose, &[u8])>
+    ensures { ReadsChosen 80 s.now result }
 {
-    if let Some(next) = behind_all(s, at, b",-\n") {
-        return Some((Purpose::Pointwise, next));
+    if let Some(rest) = behind_all(s, b",-\n") {
+        return Some((Purpose::Pointwise, rest));
     }
-    let (k, next) = read_last(s, at)?;
-    Some((Purpose::PointwiseInto(k), next))
+    let (k, rest) = read_last(s)?;
+    Some((Purpose::PointwiseInto(k), rest))
 }
 
 // The end of a line with F.
-fn read_fold(s: &[u8], at: usize) -> Option<(Purpose, usize)>
-    ensures { ReadsChosen 70 s.now at result }
+fn read_fold(s: &[u8]) -> Option<(Purpose, &[u8])>
+    ensures { ReadsChosen 70 s.now result }
 {
-    let (k, next) = read_last(s, at)?;
-    Some((Purpose::Fold(k), next))
+    let (k, rest) = read_last(s)?;
+    Some((Purpose::Fold(k), rest))
 }
 
-// Kept: a bool: it is the letter that was read, and the contract names it too.
-fn read_chosen(s: &[u8], at: usize, fold: bool) -> Option<(Purpose, usize)>
-    ensures { ReadsChosen (letter_of fold) s.now at result }
+// Two counts of a line, such as rank and operand count.
+pub fn read_counts(s: &[u8]) -> Option<(usize, usize, &[u8])>
+    ensures { ReadsCounts s.now result }
 {
-    if fold {
-        return read_fold(s, at);
-    }
-    read_pointwise(s, at)
+    let (first, rest) = field::<u64>(s)?;
+    let (second, rest) = field::<u64>(rest)?;
+    Some((first as usize, second as usize, rest))
 }
 
-pub fn read_counts(s: &[u8], at: usize) -> Option<Counts>
-    ensures { ReadsCounts s.now at result }
+// What is behind a letter whose lines end as `read_chosen` reads them.
+fn read_told<F: Fn(&[u8]) -> Option<(Purpose, &[u8])>>(
+    s: &[u8],
+    read_chosen: F,
+) -> Option<(Said, &[u8])>
+    requires { F.IsAlwaysCallable read_chosen }
+    ensures { (letter : ℕ) → ReadsChosenBy letter (F.post read_chosen) → ReadsTold letter s.now result }
 {
-    let (first, p) = field::<u64>(s, at)?;
-    let (second, next) = field::<u64>(s, p)?;
-    Some(Counts {
-        first: first as usize,
-        second: second as usize,
-        next,
-    })
-}
-
-// What is behind the letter.
-fn read_told(s: &[u8], at: usize, fold: bool) -> Option<Head>
-    ensures { ReadsTold (letter_of fold) s.now at result }
-{
-    let counts = read_counts(s, at)?;
-    let (purpose, next) = read_chosen(s, counts.next, fold)?;
-    Some(Head {
-        purpose,
-        rank: counts.first,
-        operands: counts.second,
-        next,
-    })
+    let (rank, operands, rest) = read_counts(s)?;
+    let (purpose, rest) = read_chosen(rest)?;
+    Some((
+        Said {
+            purpose,
+            rank,
+            operands,
+        },
+        rest,
+    ))
 }
 
 // The line that a text begins with.
-pub fn read_head(s: &[u8]) -> Option<Head>
+pub fn read_head(s: &[u8]) -> Option<(Said, &[u8])>
     ensures { ReadsHead s.now result }
 {
-    if let Some(at) = behind_all(s, 0, b"L,P") {
-        return read_told(s, at, false);
+    if let Some(rest) = behind_all(s, b"L,P") {
+        return read_told(rest, read_pointwise);
     }
-    let at = behind_all(s, 0, b"L,F")?;
-    read_told(s, at, true)
+    read_told(behind_all(s, b"L,F")?, read_fold)
 }

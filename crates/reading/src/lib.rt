@@ -47,23 +47,9 @@ pub fn read_text(
     if MAX_TEXT < text.len() {
         return Err(Unformed);
     }
-    let Some(head) = read_head(text) else {
-        return Err(Unformed);
-    };
-    if read_lines(
-        text,
-        head.next,
-        head.rank,
-        head.operands,
-        extents,
-        sizes,
-        strides,
-    ) {
-        return Ok(Said {
-            purpose: head.purpose,
-            rank: head.rank,
-            operands: head.operands,
-        });
+    let (said, lines) = read_head(text).ok_or(Unformed)?;
+    if read_lines(lines, said.rank, said.operands, extents, sizes, strides) {
+        return Ok(said);
     }
     Err(Unformed)
 }

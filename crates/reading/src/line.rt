@@ -1,5 +1,5 @@
 // The lines behind L: the extents, and size and strides of each operand. The strides are laid into one flat array, operand by operand.
-ghost use Rattle.std.specs.Prelude.{◌+◌, ◌≤◌, length, drop};
+ghost use Rattle.std.specs.Prelude.{◌+◌, ◌<◌, ◌^◌, length};
 ghost use Rattle.reading.specs.Numbers.{Reads};
 ghost use Rattle.reading.specs.Lines.{size_text, TakesExtents, TakesOperand, TakesOperands, TakesLines, arrays};
 
@@ -8,79 +8,74 @@ use super::number::field;
 use super::row::{keep, read_row, read_row_from};
 
 // The E line of `rank` extents.
-fn read_extents(s: &[u8], at: usize, rank: usize, extents: &mut [u64]) -> Option<usize>
-    ensures { TakesExtents s.now at rank extents.old extents.new result }
+fn read_extents<'a>(s: &'a [u8], rank: usize, extents: &mut [u64]) -> Option<&'a [u8]>
+    ensures { TakesExtents s.now rank extents.old extents.new result }
 {
-    let from = behind(s, at, b'E')?;
-    read_row(s, from, rank, extents)
+    read_row(behind(s, b'E')?, rank, extents)
 }
 
 // The front of an O line: the operand's size.
-fn read_size(s: &[u8], at: usize) -> Option<(u64, usize)>
-    ensures { Reads size_text s.now at result }
+fn read_size(s: &[u8]) -> Option<(u64, &[u8])>
+    ensures { Reads size_text s.now result }
 {
-    let from = behind(s, at, b'O')?;
-    field(s, from)
+    field(behind(s, b'O')?)
 }
 
 // An O line of `rank` strides, which are laid from place `from` on. Its size is answered.
-fn read_operand(
-    s: &[u8],
-    at: usize,
+fn read_operand<'a>(
+    s: &'a [u8],
     rank: usize,
     from: usize,
     strides: &mut [i64],
-) -> Option<(u64, usize)>
-    requires { from + length (drop at s.now) ≤ length s.now }
-    ensures { TakesOperand s.now at rank from strides.old strides.new result }
+) -> Option<(u64, &'a [u8])>
+    requires { from + length s.now < 2 ^ 64 }
+    ensures { TakesOperand s.now rank from strides.old strides.new result }
 {
-    let (size, p) = read_size(s, at)?;
-    let next = read_row_from(s, p, rank, from, strides)?;
-    Some((size, next))
+    let (size, row) = read_size(s)?;
+    let rest = read_row_from(row, rank, from, strides)?;
+    Some((size, rest))
 }
 
 // The O lines of all operands.
-fn read_operands(
-    s: &[u8],
-    at: usize,
+fn read_operands<'a>(
+    s: &'a [u8],
     rank: usize,
     operands: usize,
     sizes: &mut [u64],
     strides: &mut [i64],
-) -> Option<usize>
-    ensures { TakesOperands s.now at rank operands 0 0 sizes.old sizes.new strides.old strides.new result }
+) -> Option<&'a [u8]>
+    ensures { TakesOperands s.now rank operands 0 0 sizes.old sizes.new strides.old strides.new result }
 {
-    let mut p = at;
+    let mut rest = s;
     let mut from: usize = 0;
     for k in 0..operands {
-        let (size, next) = read_operand(s, p, rank, from, strides)?;
+        let (size, next) = read_operand(rest, rank, from, strides)?;
         keep(sizes, k, size);
-        p = next;
+        rest = next;
         from += rank;
     }
-    Some(p)
+    Some(rest)
 }
 
 // Whether the lines are there, and nothing behind them.
 pub fn read_lines(
     s: &[u8],
-    at: usize,
     rank: usize,
     operands: usize,
     extents: &mut [u64],
     sizes: &mut [u64],
     strides: &mut [i64],
 ) -> bool
-    ensures { TakesLines s.now at rank operands
+    ensures { TakesLines s.now rank operands
         (arrays extents.old sizes.old strides.old)
         (arrays extents.new sizes.new strides.new)
         result }
 {
-    let Some(p) = read_extents(s, at, rank, extents) else {
+    let Some(lines) = read_extents(s, rank, extents) else {
         return false;
     };
-    match read_operands(s, p, rank, operands, sizes, strides) {
-        Some(end) => s.len() <= end,
+    match read_operands(lines, rank, operands, sizes, strides) {
+        Some(rest) => rest.is_empty(),
         None => false,
     }
 }

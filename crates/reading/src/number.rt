@@ -1,5 +1,5 @@
-// Numbers of the text: decimal, no leading zero, no "-0", within 64 bits. Each function answers the number that stands at a place, with the
-// place behind it, or that none does. "None" is exact: no number of its kind has the bytes there as its text.
+// Numbers of the text: decimal, no leading zero, no "-0", within 64 bits. Each function answers the number that stands in front, with
+// what is behind it, or that none does. "None" is exact: no number of its kind has the bytes there as its text.
 ghost use Rattle.std.specs.Prelude.{◌≡◌, ◌-◌, ◌<◌, ◌≤◌, ◌^◌, pos, negsuc, List, ℕ};
 ghost use Rattle.strided.specs.Digits.{digits_of, signed_of};
 ghost use Rattle.strided.specs.Text.{FitU, FitI};
@@ -11,36 +11,31 @@ ghost use Rattle.reading.specs.Numbers.{Reads, ReadsSigned, ReadsMore, Minus, Pl
 use super::byte::{behind, digit};
 
 // Goes on behind digits that say `first`.
-fn read_more(s: &[u8], at: usize, first: u64) -> Option<(u64, usize)>
-    ensures { ReadsMore first s.now at result }
+fn read_more(s: &[u8], first: u64) -> Option<(u64, &[u8])>
+    ensures { ReadsMore first s.now result }
 {
     let mut n = first;
-    let mut i = at;
-    while digit(s, i) {
-        let d = u64::from(s[i]) - 48;
+    let mut rest = s;
+    while let Some((d, behind)) = digit(rest) {
         n = n.checked_mul(10)?.checked_add(d)?;
-        i += 1;
+        rest = behind;
     }
-    Some((n, i))
+    Some((n, rest))
 }
 
-// The number at `at`. A `0` stands alone. Whether a second digit follows is tested first: a branch on the digit itself is badly predicted in
+// The number in front. A `0` stands alone. Whether a second digit follows is tested first: a branch on the digit itself is badly predicted in
 // lists of indices 0 and 1.
-pub fn read_u64(s: &[u8], at: usize) -> Option<(u64, usize)>
-    ensures { Reads digits_of s.now at result }
+pub fn read_u64(s: &[u8]) -> Option<(u64, &[u8])>
+    ensures { Reads digits_of s.now result }
 {
-    if digit(s, at) {
-        let first = u64::from(s[at]) - 48;
-        let next = at + 1;
-        if digit(s, next) {
-            if first == 0 {
-                return None;
-            }
-            return read_more(s, next, first);
-        }
-        return Some((first, next));
+    let (first, rest) = digit(s)?;
+    let Some((second, behind)) = digit(rest) else {
+        return Some((first, rest));
+    };
+    if first == 0 {
+        return None;
     }
-    None
+    read_more(behind, first * 10 + second)
 }
 
 // The number below 0 of this size, and the one from 0 on.
@@ -60,8 +55,8 @@ pub fn positive(n: u64) -> i64
 }
 
 // A size behind the sign `-`: 1 to 2^63.
-fn minus(n: u64, next: usize) -> Option<(i64, usize)>
-    ensures { Minus n next result }
+fn minus(n: u64) -> Option<i64>
+    ensures { Minus n result }
 {
     if n == 0 {
         return None;
@@ -69,29 +64,28 @@ fn minus(n: u64, next: usize) -> Option<(i64, usize)>
     if n > 1 << 63 {
         return None;
     }
-    Some((negative(n), next))
+    Some(negative(n))
 }
 
 // A size with no sign: below 2^63.
-fn plus(n: u64, next: usize) -> Option<(i64, usize)>
-    ensures { Plus n next result }
+fn plus(n: u64) -> Option<i64>
+    ensures { Plus n result }
 {
-    let v = i64::try_from(n).ok()?;
-    Some((v, next))
+    i64::try_from(n).ok()
 }
 
-// The number with a sign at `at`.
-pub fn read_i64(s: &[u8], at: usize) -> Option<(i64, usize)>
-    ensures { ReadsSigned signed_of s.now at result }
+// The number with a sign in front.
+pub fn read_i64(s: &[u8]) -> Option<(i64, &[u8])>
+    ensures { ReadsSigned signed_of s.now result }
 {
-    match behind(s, at, b'-') {
-        Some(from) => {
-            let (n, next) = read_u64(s, from)?;
-            minus(n, next)
+    match behind(s, b'-') {
+        Some(size) => {
+            let (n, rest) = read_u64(size)?;
+            Some((minus(n)?, rest))
         }
         None => {
-            let (n, next) = read_u64(s, at)?;
-            plus(n, next)
+            let (n, rest) = read_u64(s)?;
+            Some((plus(n)?, rest))
         }
     }
 }
@@ -102,9 +96,9 @@ pub trait Number: Copy {
 
     ghost fits: { Self → Type 0 };
 
-    // The number at `at`.
-    fn read(s: &[u8], at: usize) -> Option<(Self, usize)>
-        ensures { Finds text fits s.now at result };
+    // The number in front.
+    fn read(s: &[u8]) -> Option<(Self, &[u8])>
+        ensures { Finds text fits s.now result };
 
     ghost once: { Once text };
 }
@@ -116,8 +110,8 @@ impl Number for u64 {
 
     ghost once = { digits_once };
 
-    fn read(s: &[u8], at: usize) -> Option<(u64, usize)> {
-        read_u64(s, at)
+    fn read(s: &[u8]) -> Option<(u64, &[u8])> {
+        read_u64(s)
     }
 }
 
@@ -128,15 +122,14 @@ impl Number for i64 {
 
     ghost once = { signed_once };
 
-    fn read(s: &[u8], at: usize) -> Option<(i64, usize)> {
-        read_i64(s, at)
+    fn read(s: &[u8]) -> Option<(i64, &[u8])> {
+        read_i64(s)
     }
 }
 
 // A comma and a number.
-pub fn field<T: Number>(s: &[u8], at: usize) -> Option<(T, usize)>
-    ensures { Finds (celled T.text) T.fits s.now at result }
+pub fn field<T: Number>(s: &[u8]) -> Option<(T, &[u8])>
+    ensures { Finds (celled T.text) T.fits s.now result }
 {
-    let from = behind(s, at, b',')?;
-    T::read(s, from)
+    T::read(behind(s, b',')?)
 }

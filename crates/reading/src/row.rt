@@ -1,6 +1,6 @@
 // Rows of the text: a field for each number and the line's end. The numbers are laid into a lent array from a place on. Those that have no
 // place there are read all the same, so that a line with too many numbers is told from one that is not in the form.
-ghost use Rattle.std.specs.Prelude.{◌≡◌, ◌+◌, ◌≤◌, length, drop, set};
+ghost use Rattle.std.specs.Prelude.{◌≡◌, ◌+◌, ◌<◌, ◌^◌, length, set};
 ghost use Rattle.reading.specs.Rows.{TakesRow};
 
 use super::byte::behind;
@@ -16,28 +16,27 @@ pub fn keep<T: Copy>(out: &mut [T], i: usize, v: T)
 }
 
 // `count` numbers, which are laid from place `from` on.
-pub fn read_row_from<T: Number>(
-    s: &[u8],
-    at: usize,
+pub fn read_row_from<'a, T: Number>(
+    s: &'a [u8],
     count: usize,
     from: usize,
     out: &mut [T],
-) -> Option<usize>
-    requires { from + length (drop at s.now) ≤ length s.now }
-    ensures { TakesRow T.text T.fits s.now at count from out.old out.new result }
+) -> Option<&'a [u8]>
+    requires { from + length s.now < 2 ^ 64 }
+    ensures { TakesRow T.text T.fits s.now count from out.old out.new result }
 {
-    let mut p = at;
+    let mut rest = s;
     for i in 0..count {
-        let (v, next) = field::<T>(s, p)?;
+        let (v, behind) = field::<T>(rest)?;
         keep(out, from + i, v);
-        p = next;
+        rest = behind;
     }
-    behind(s, p, b'\n')
+    behind(rest, b'\n')
 }
 
 // `count` numbers, from place 0 on.
-pub fn read_row<T: Number>(s: &[u8], at: usize, count: usize, out: &mut [T]) -> Option<usize>
-    ensures { TakesRow T.text T.fits s.now at count 0 out.old out.new result }
+pub fn read_row<'a, T: Number>(s: &'a [u8], count: usize, out: &mut [T]) -> Option<&'a [u8]>
+    ensures { TakesRow T.text T.fits s.now count 0 out.old out.new result }
 {
-    read_row_from(s, at, count, 0, out)
+    read_row_from(s, count, 0, out)
 }

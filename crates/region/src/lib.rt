@@ -10,7 +10,7 @@ ghost use Rattle.region.specs.Tail.{axes};
 
 mod tail;
 
-pub use tail::{AllowedMachine, Axes, Operand, Tail};
+pub use tail::{AllowedMachine, Axes, Cut, Operand, Tail};
 
 // The bytes of the lines up to the one that holds byte c. A line is a power of two, so that shifts divide and multiply by it.
 fn whole_lines(machine: AllowedMachine, c: u64) -> u64

@@ -1,5 +1,5 @@
 // A machine that is allowed, the axes that blocks are cut for, and a tail of them.
-ghost use Rattle.std.specs.Prelude.{◌≤◌, ◌<◌, length};
+ghost use Rattle.std.specs.Prelude.{◌≡◌, ◌≤◌, ◌<◌, length};
 ghost use Rattle.strided.specs.Machine.{Allowed};
 ghost use Rattle.laws.specs.Refusals.Allowed.{Allowed-prop};
 
@@ -20,6 +20,7 @@ pub struct Axes<'a> {
     pub rank: usize,
     pub ghost few: { length sizes.now ≤ 8 },
     pub ghost to: { rank ≤ 64 },
+    pub ghost all: { length strides.now ≡ 512 },
 }
 
 // One operand on these axes, by its number.
@@ -41,4 +42,31 @@ pub struct Tail<'a> {
     pub ghost few: { operands ≤ 8 },
     pub ghost from: { offset ≤ rank },
     pub ghost to: { rank ≤ 64 },
+}
+
+// What blocks are cut by: a machine, the byte strides in its table, and the axes.
+#[derive(Clone, Copy)]
+pub struct Cut<'a> {
+    pub machine: AllowedMachine,
+    pub bytes: &'a [u32; 512],
+    pub axes: Axes<'a>,
+}
+
+impl<'a> Cut<'a> {
+    // The tail of all axes.
+    pub fn all(self) -> Tail<'a>
+        ensures machine { result.machine.numbers ≡ self.entry.machine.numbers }
+        ensures bytes { result.bytes.now ≡ self.entry.bytes.now }
+        ensures operands { result.operands ≡ length self.entry.axes.sizes.now }
+        ensures offset { result.offset ≡ 0 }
+        ensures rank { result.rank ≡ self.entry.axes.rank }
+    {
+        Tail {
+            machine: self.machine,
+            bytes: self.bytes,
+            operands: self.axes.sizes.len(),
+            offset: 0,
+            rank: self.axes.rank,
+        }
+    }
 }

@@ -3,7 +3,7 @@ use mathlib.Core.Path.{◌≡◌, refl, sym, ap, ap₂, ◌∙◌, subst}
 use mathlib.Core.Bool.{Bool, true, false, ◌&&◌, not, cond, false≢true}
 use mathlib.Core.List.{List, [], ◌∷◌, ◌++◌}
 use mathlib.Core.Logic.{⊎_elim}
-use Rattle.std.specs.Prelude.{Option, None, Some, Result, Err, is_ok}
+use Rattle.std.specs.Prelude.{Option, None, Some, Result, Ok, Err, is_ok}
 use Prim.Native.Nat.{ℕ, ◌+◌, ◌-◌, ◌*◌, ◌≤◌, ◌<◌}
 use native.Mathlib.Omega.{arith}
 use lib.Dec.{ltb, leb, eqb}
@@ -35,10 +35,12 @@ use Rattle.laws.specs.Base.Tests.{and_both, or_cases}
 use Rattle.laws.specs.Fuse.Arrays.{pick_rows}
 use Rattle.session.specs.declared.Numbers.{Numbers}
 use Rattle.session.specs.declared.Session.{Session}
-use Rattle.session.specs.Session.{Given, refused_of, ranks_of, weights_of, costs_of, plan_of, kind_of, fresh_of, same_nats, same_ints, Right, holds, row10}
+use Rattle.layout.specs.declared.slices.Layout.{Layout}
+use Rattle.layout.specs.Checked.{Checked}
+use Rattle.session.specs.Session.{Given, given_of, ranks_of, weights_of, costs_of, plan_of, kind_of, fresh_of, same_nats, same_ints, Right, holds, row10}
 use Rattle.session.specs.Same.{Decides, same_nats_lem, nats_same, same_ints_lem, ints_same, right-holds, decides_holds}
 use Rattle.session.specs.Afresh.{taken_of, allowed_of, few_strides}
-use Rattle.session.specs.Made.{Even, rows_of, ranks_in, TableOf, AxesIn, StaysIn, AxesAt, Cuttable, BlocksAt, KeptIn, Keeps, LayoutRight, Laid, weights_in, Weighed, with_plan, given_in, session_at}
+use Rattle.session.specs.Made.{Even, rows_of, ranks_in, TableOf, AxesIn, StaysIn, AxesAt, Cuttable, BlocksAt, KeptIn, Keeps, LayoutRight, with_plan, given_in, numbers_of, LaidRight, AxesRight, BlocksRight, KeepsRight}
 use Rattle.session.specs.Tabled.{Tabled}
 use Rattle.session.proofs.Tabling.{rows_more, own_tabled, exact_ranks}
 
@@ -79,12 +81,19 @@ decides_yes p = record { yes = λ h. p; no = λ h. absurd (false≢true (sym h))
 pub decides_is : {a b : Bool} {P : Type 0} → a ≡ b → Decides b P → Decides a P
 decides_is e d = record { yes = λ h. d.yes (sym e ∙ h); no = λ h. d.no (sym e ∙ h) }
 
-none_decides : (o : Option Refusal) → Decides (is_ok (answered o)) (o ≡ None)
-none_decides None = decides_yes refl
-none_decides (Some r) = decides_not (λ h. cc)
+-- a claim on the session that is lent, made on its fields
+pub decides_for : {b : Bool} (P : Session → Type 0) {s t : Session} → s ≡ t → Decides b (P s) → Decides b (P t)
+decides_for {b} P e d = subst (λ x. Decides b (P x)) e d
 
-pub decides_served : (a : Result (Unit {0}) Refusal) (o : Option Refusal) {b : Bool} → a ≡ answered o → b ≡ is_ok a → Decides b (o ≡ None)
-decides_served a o e d = decides_is (d ∙ ap is_ok e) (none_decides o)
+-- a check hands out its layout exactly if nothing refuses it
+pub decides_checked : (es sizes : List ℕ) (ss : List ℤ) {o : Option Refusal} (a : Result Layout Refusal) {b : Bool} → Checked o es sizes ss a → b ≡ is_ok a → Decides b (o ≡ None)
+decides_checked es sizes ss (Ok l) c d = decides_is d (decides_yes c.served)
+decides_checked es sizes ss (Err r) c d = decides_is d (decides_not (λ h. let z : ◌≡◌ {A = Option Refusal} (Some r) None = sym c ∙ h in cc))
+
+-- a claim on a layout where it is laid is one on the session's
+pub laid_as : (P : Numbers → List ℕ → List ℕ → List ℤ → Type 0) {n n' : Numbers} {E E' Z Z' : List ℕ} {S S' : List ℤ} → n ≡ n' → E ≡ E' → Z ≡ Z' → S ≡ S'
+    → P n E Z S → P n' E' Z' S'
+laid_as P {n} {n'} {E} {E'} {Z} {Z'} {S} {S'} a b c d p = subst (λ x. P x E' Z' S') a (subst (λ x. P n x Z' S') b (subst (λ x. P n E x S') c (subst (λ x. P n E Z x) d p)))
 
 -- ---- the purpose
 
@@ -94,8 +103,11 @@ told_by p c u = eqb (kind_of u) p && eqb (lead u) c
 -- ---- places behind the counts
 
 -- a slice from place n on
+pub rest_of : {A : Type 0} (m n : ℕ) (l : List A) → length l ≡ m → take (m - n) (drop n l) ≡ drop n l
+rest_of m n l e = take_all (m - n) (drop n l) (let d = length-drop n l in omega (arith, d, e))
+
 pub rest_is : {A : Type 0} (n : ℕ) (l : List A) → take (length l - n) (drop n l) ≡ drop n l
-rest_is n l = take_all (length l - n) (drop n l) (let d = length-drop n l in omega (arith, d))
+rest_is n l = rest_of (length l) n l refl
 
 decides_blank : (n r : ℕ) (l : List ℕ) → length l ≡ n → r ≤ n → Decides (blank (drop r l)) (l ≡ padded n 0 (take r l))
 decides_blank n r l e h =
@@ -130,18 +142,17 @@ module _ (n : Numbers) (E Z : List ℕ) (S : List ℤ) (e : length E ≡ 64) (z 
       (or_cases (eqb n.operands 0) (ltb 8 n.operands) h)
 
   -- the three tests of a layout whose counts are within the limits
-  module _ (axes : n.rank ≤ 64) (few : n.operands ≤ 8) {told neat plain : Bool} {u : Purpose} {answer : Result (Unit {0}) Refusal}
+  module _ (axes : n.rank ≤ 64) (few : n.operands ≤ 8) {told neat plain : Bool} {u : Purpose}
       (a : told ≡ told_by n.purpose n.chosen (purpose_of n.purpose n.chosen))
       (b : neat ≡ (blank (drop n.rank E) && (blank (drop n.operands Z) && blank_z (drop (n.rank * n.operands) S))))
-      (c : plain ≡ is_ok answer) (p : u ≡ purpose_of n.purpose n.chosen)
-      (d : answer ≡ answered (planning_refused n.machine (take n.rank E) (take n.operands Z) (take (n.rank * n.operands) S) u)) where
+      (p : u ≡ purpose_of n.purpose n.chosen)
+      (d : Decides plain (planning_refused n.machine (take n.rank E) (take n.operands Z) (take (n.rank * n.operands) S) u ≡ None)) where
     pub layout_decides : Decides (told && (neat && plain)) (LayoutRight n E Z S)
     layout_decides =
         let purposes = decides_is a (decides_both (eqb (kind_of (purpose_of n.purpose n.chosen)) n.purpose) (eqb (lead (purpose_of n.purpose n.chosen)) n.chosen) (decides_eqb _ _) (decides_eqb _ _)) in
         let places = decides_is b (decides_both (blank (drop n.rank E)) _ (decides_blank 64 n.rank E e axes)
         (decides_both (blank (drop n.operands Z)) (blank_z (drop (n.rank * n.operands) S)) (decides_blank 8 n.operands Z z few) (decides_blank_z 512 (n.rank * n.operands) S s (few_strides _ _ axes few)))) in
-        let planned = decides_served answer (refused_of (given_in n E Z S))
-        (d ∙ ap (λ (v : Purpose). answered (planning_refused n.machine (take n.rank E) (take n.operands Z) (take (n.rank * n.operands) S) v)) p) c in
+        let planned = subst (λ (v : Purpose). Decides plain (planning_refused n.machine (take n.rank E) (take n.operands Z) (take (n.rank * n.operands) S) v ≡ None)) p d in
         decides_as (decides_both told (neat && plain) purposes (decides_both neat plain places planned))
         (λ q. record { axes = axes; few = few; kind = q.0.0; chosen = q.0.1; extents = q.1.0.0; sizes = q.1.0.1.0; strides = q.1.0.1.1; accepted = q.1.1 })
         (λ r. ((r.kind, r.chosen), ((r.extents, (r.sizes, r.strides)), r.accepted)))
@@ -211,6 +222,12 @@ module _ (es : List ℕ) (m : ℕ) (ss : List ℤ) (u : Purpose) {rank : ℕ} {E
         (q.0, fresh.count ∙ sym a.count),
         (fresh.extents ∙ sym a.extents, fresh.strides ∙ sym a.strides),
       ))
+
+-- they are the axes of another layout that is the same
+pub stays_as : {es es' : List ℕ} {m m' : ℕ} {ss ss' : List ℤ} {u u' : Purpose} {rank : ℕ} {E A : List ℕ} → es ≡ es' → m ≡ m' → ss ≡ ss' → u ≡ u'
+    → StaysIn es m ss u rank E A → StaysIn es' m' ss' u' rank E A
+stays_as {es} {es'} {m} {m'} {ss} {ss'} {u} {u'} {rank} {E} {A} a b c d p =
+    subst (λ x. StaysIn x m' ss' u' rank E A) a (subst (λ x. StaysIn es x ss' u' rank E A) b (subst (λ x. StaysIn es m x u' rank E A) c (subst (λ x. StaysIn es m ss x rank E A) d p)))
 
 pub blocks_places : (n : Numbers) (E Z PE : List ℕ) (PS : List ℤ) {C B : List ℕ} → length PE ≡ 64 → BlocksAt n E Z PE PS C B → (length C ≡ 64) × (length B ≡ 64)
 blocks_places n E Z PE PS e b = (
@@ -314,20 +331,6 @@ module _ (n : Numbers) (E Z : List ℕ) (S : List ℤ) (l : LayoutRight n E Z S)
           blocks = ap (λ (y : Plan). y.blocks) p ∙ (λ i. cond (leb (total lg.extents) 1024) (sym ee i) (cut_blocks n.machine lg.sizes (sym ee i) (sym es i) (sym er i) lg.purpose));
         }
 
-  pub keeps_of : {W PE C B : List ℕ} {PS : List ℤ} → n.plan_operands ≡ n.operands → AxesAt n E S n.plan_rank W PE PS → BlocksAt n E Z PE PS C B → Keeps lg n W C PE B PS
-  keeps_of {W} {PE} {C} {B} {PS} q a b =
-      record {
-        parts = parts_kept n (λ i. record { purpose = n.purpose; chosen = n.chosen; machine = n.machine; rank = n.rank; operands = n.operands; plan_rank = n.plan_rank; plan_operands = q i }) a b;
-        operands = q ∙ sym g_operands;
-      }
-
-  -- the table of ranks, laid out
-  pub laid_of : (table : List (List ℕ)) → TableOf (take (n.rank * n.operands) S) n.rank n.operands table → Laid n E S table
-  laid_of table t = record { axes = l.axes; few = l.few; extents = extents_long; strides = strides_long; ranks = t }
-
-  pub weighed_of : (W : List ℕ) → W ≡ weights_in n E S → Weighed n E S W
-  weighed_of W e = record { axes = l.axes; few = l.few; extents = extents_long; strides = strides_long; weights = e }
-
   pub own_ranks : (table : List (List ℕ)) → TableOf (take (n.rank * n.operands) S) n.rank n.operands table → ranks_in table n.operands ≡ ranks_of lg
   own_ranks table t =
       ap (ranks_in table) (sym g_operands)
@@ -337,14 +340,11 @@ module _ (n : Numbers) (E Z : List ℕ) (S : List ℤ) (l : LayoutRight n E Z S)
 
 -- ---- the session
 
-module _ (n : Numbers) (E Z : List ℕ) (S : List ℤ) (R W C PE PB : List ℕ) (PS : List ℤ) where
-  abbrev s : Session
-  s = session_at n E Z S R W C PE PB PS
-
+module _ (s : Session) where
   abbrev g : Given
-  g = given_in n E Z S
+  g = given_of s
 
-  pub right_layout : Right s → LayoutRight n E Z S
+  pub right_layout : Right s → LaidRight s
   unfolding fresh_of
   right_layout r =
       let f = r.afresh in
@@ -364,54 +364,68 @@ module _ (n : Numbers) (E Z : List ℕ) (S : List ℤ) (R W C PE PB : List ℕ) 
         accepted = r.accepted;
       }
 
-  pub right-ranks : Right s → R ≡ ranks_of g
+  pub right-ranks : Right s → s.ranks ≡ ranks_of g
   unfolding fresh_of
   right-ranks r = ap (λ (t : Session). t.ranks) r.afresh
 
-  pub right_keeps : Right s → Keeps g n W C PE PB PS
+  pub right_keeps : Right s → KeepsRight s
   unfolding fresh_of plan_of plan_from
   right_keeps r =
       let p = ap (λ (t : Session). t.plan) r.afresh in
-      let m : n.plan_operands ≡ length g.sizes = ap (λ (x : Plan). x.operands) p in
+      let m : s.plan.operands ≡ length g.sizes = ap (λ (x : Plan). x.operands) p in
       record {
         parts = record {
           weights = ap (λ (t : Session). t.weights) r.afresh;
           costs = ap (λ (t : Session). t.costs) r.afresh;
-          plan = (λ i. record { rank = n.plan_rank; operands = sym m i; extents = PE; blocks = PB; strides = PS }) ∙ p;
+          plan = (λ i. record { rank = s.plan.rank; operands = sym m i; extents = s.plan.extents; blocks = s.plan.blocks; strides = s.plan.strides }) ∙ p;
         };
         operands = m;
       }
 
-  pub all_right : LayoutRight n E Z S → R ≡ ranks_of g → Keeps g n W C PE PB PS → Right s
-  unfolding fresh_of
-  all_right l r k =
-      let a = taken_of g l.accepted in
-      let axes = l.axes in let few = l.few in
-      let er : n.rank ≡ length (take n.rank E) = sym (length-take-le n.rank E (let q = ap length l.extents ∙ length-padded 0 64 (take n.rank E) in omega (arith, q, axes))) in
-      let eo : n.operands ≡ length (take n.operands Z) = sym (length-take-le n.operands Z (let q = ap length l.sizes ∙ length-padded 0 8 (take n.operands Z) in omega (arith, q, few))) in
-      let m = k.operands in
-      let ek = l.kind in let ec = l.chosen in let ee = l.extents in let ez = l.sizes in let es = l.strides in
-      let ew = k.parts.weights in let ecc = k.parts.costs in
-      let ep : ◌≡◌ {A = Plan} (record { rank = n.plan_rank; operands = n.plan_operands; extents = PE; blocks = PB; strides = PS }) (plan_of g) =
-      (λ i. record { rank = n.plan_rank; operands = m i; extents = PE; blocks = PB; strides = PS }) ∙ k.parts.plan in
-      record {
-        accepted = l.accepted;
-        afresh =
-            λ i. record {
-              purpose = sym ek i;
-              chosen = sym ec i;
-              machine = n.machine;
-              rank = er i;
-              operands = eo i;
-              extents = ee i;
-              sizes = ez i;
-              strides = es i;
-              ranks = r i;
-              weights = ew i;
-              costs = ecc i;
-              plan = ep i;
-            };
-      }
+  -- the plan has the layout's operands
+  plan_counted : s.plan.operands ≡ s.operands → numbers_of s ≡ with_plan (numbers_of s) s.plan.rank
+  plan_counted e = λ i. record { purpose = s.purpose; chosen = s.chosen; machine = s.machine; rank = s.rank; operands = s.operands; plan_rank = s.plan.rank; plan_operands = e i }
+
+  module _ (l : LaidRight s) where
+    pub all_right : s.ranks ≡ ranks_of g → KeepsRight s → Right s
+    unfolding fresh_of
+    all_right r k =
+        let er : s.rank ≡ length g.extents = sym (length-take-le s.rank s.extents (let q = extents_long (numbers_of s) s.extents s.sizes s.strides l in let axes = l.axes in omega (arith, q, axes))) in
+        let eo = sym (g_operands (numbers_of s) s.extents s.sizes s.strides l) in
+        let m = k.operands in
+        let ek = l.kind in let ec = l.chosen in let ee = l.extents in let ez = l.sizes in let es = l.strides in
+        let ew = k.parts.weights in let ecc = k.parts.costs in
+        let ep : s.plan ≡ plan_of g =
+        (λ i. record { rank = s.plan.rank; operands = m i; extents = s.plan.extents; blocks = s.plan.blocks; strides = s.plan.strides }) ∙ k.parts.plan in
+        record {
+          accepted = l.accepted;
+          afresh =
+              λ i. record {
+                purpose = sym ek i;
+                chosen = sym ec i;
+                machine = s.machine;
+                rank = er i;
+                operands = eo i;
+                extents = ee i;
+                sizes = ez i;
+                strides = es i;
+                ranks = r i;
+                weights = ew i;
+                costs = ecc i;
+                plan = ep i;
+              };
+        }
+
+    -- the plan's axes can be cut
+    pub cuttable_of : AxesRight s → Cuttable (numbers_of s) s.extents s.sizes s.plan.extents s.plan.strides
+    cuttable_of a = cuttable (numbers_of s) s.extents s.sizes s.strides l (numbers_of s) (plan_counted a.0) a.1
+
+    pub keeps_of : AxesRight s → BlocksRight s → KeepsRight s
+    keeps_of a b =
+        record {
+          parts = parts_kept (numbers_of s) s.extents s.sizes s.strides l (numbers_of s) (plan_counted a.0) a.1 b;
+          operands = a.0 ∙ sym (g_operands (numbers_of s) s.extents s.sizes s.strides l);
+        }
 
 -- row 6 of one operand, whose strides stand alone
 pub new_far : (es : List ℕ) (ts : List ℤ) (rank : ℕ) → length es ≡ rank → length ts ≡ rank → (row6 es 1 (row_at es ts rank)).applies ≡ (row6 es 1 (λ k. ts)).applies

@@ -133,9 +133,6 @@ module _ (rank operands : ℕ) (axes : rank ≤ 64) (few : operands ≤ 8) (S : 
   pub own_fits : Fitting ss rank operands
   own_fits = record { rank-few = axes; operands_few = few; strides_all = own_strides }
 
-  pub kept_fits : (E : List ℕ) → length E ≡ 64 → Fitting ss (length (take rank E)) operands
-  kept_fits E e = subst (λ (r : ℕ). Fitting ss r operands) (sym (length-take-le rank E (omega (arith, e, axes)))) own_fits
-
   pub own_tabled : (E : List ℕ) → length E ≡ 64 → (table : List (List ℕ)) → table ≡ table_of ss rank operands → Tabled (take rank E) ss table operands
   own_tabled E e table is =
       let l : length (take rank E) ≡ rank = length-take-le rank E (omega (arith, e, axes)) in

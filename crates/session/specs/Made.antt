@@ -121,24 +121,9 @@ with_plan n rank =
 
 -- ---- the kept parts
 
--- the layout is within the limits, and its table of ranks is at hand
-pub record Laid (n : Numbers) (E : List ℕ) (S : List ℤ) (table : List (List ℕ)) : Type 0 where
-  pub axes : n.rank ≤ 64
-  pub few : n.operands ≤ 8
-  pub extents : length E ≡ 64
-  pub strides : length S ≡ 512
-  pub ranks : TableOf (take (n.rank * n.operands) S) n.rank n.operands table
-
--- the weights of its axes, in an array; and they are at hand
+-- the weights of the layout's axes, in an array
 abbrev pub weights_in : Numbers → List ℕ → List ℤ → List ℕ
 weights_in n E S = padded 64 0 (weighed (take n.rank E) n.operands (take (n.rank * n.operands) S) (lead (purpose_in n)))
-
-pub record Weighed (n : Numbers) (E : List ℕ) (S : List ℤ) (W : List ℕ) : Type 0 where
-  pub axes : n.rank ≤ 64
-  pub few : n.operands ≤ 8
-  pub extents : length E ≡ 64
-  pub strides : length S ≡ 512
-  pub weights : W ≡ weights_in n E S
 
 -- the weights of a layout, and its plan's axes, are in the arrays
 pub record AxesIn (es : List ℕ) (m : ℕ) (ss : List ℤ) (u : Purpose) (rank : ℕ) (W E : List ℕ) (S : List ℤ) : Type 0 where
@@ -212,6 +197,18 @@ session_at n E Z S R W C PE PB PS =
       plan = record { rank = n.plan_rank; operands = n.plan_operands; extents = PE; blocks = PB; strides = PS };
     }
 
+-- the arrays have their whole lengths
+pub record Whole (s : Session) : Type 0 where
+  pub extents : length s.extents ≡ 64
+  pub sizes : length s.sizes ≡ 8
+  pub strides : length s.strides ≡ 512
+  pub ranks : length s.ranks ≡ 512
+  pub weights : length s.weights ≡ 64
+  pub costs : length s.costs ≡ 64
+  pub plan_extents : length s.plan.extents ≡ 64
+  pub blocks : length s.plan.blocks ≡ 64
+  pub plan_strides : length s.plan.strides ≡ 512
+
 -- the numbers of a session
 abbrev pub numbers_of : Session → Numbers
 numbers_of s =
@@ -225,12 +222,22 @@ numbers_of s =
       plan_operands = s.plan.operands;
     }
 
--- a session's layout is right; the table is that of its ranks; and what it keeps beside them is what the layout gives
+-- a session's layout is right; the table is that of its ranks; its weights, its plan's axes, their costs and blocks are what the layout gives, and
+-- so is all that it keeps beside the ranks
 abbrev pub LaidRight : Session → Type 0
 LaidRight s = LayoutRight (numbers_of s) s.extents s.sizes s.strides
 
 abbrev pub Tables : Session → List (List ℕ) → Type 0
 Tables s table = TableOf (take (s.rank * s.operands) s.strides) s.rank s.operands table
+
+abbrev pub WeightsRight : Session → Type 0
+WeightsRight s = s.weights ≡ weights_in (numbers_of s) s.extents s.strides
+
+abbrev pub AxesRight : Session → Type 0
+AxesRight s = (s.plan.operands ≡ s.operands) × AxesAt (numbers_of s) s.extents s.strides s.plan.rank s.weights s.plan.extents s.plan.strides
+
+abbrev pub BlocksRight : Session → Type 0
+BlocksRight s = BlocksAt (numbers_of s) s.extents s.sizes s.plan.extents s.plan.strides s.costs s.plan.blocks
 
 abbrev pub KeepsRight : Session → Type 0
 KeepsRight s = Keeps (given_of s) (numbers_of s) s.weights s.costs s.plan.extents s.plan.blocks s.plan.strides

@@ -1,6 +1,6 @@
 // Row 10, "for a session that no beginning and accepted calls lead to": planning accepts the session's layout, and everything else in it is
 // what that layout gives. The table of ranks that the check works out serves the call that goes on.
-ghost use Rattle.std.specs.Prelude.{◌≡◌, true, ◌&&◌, [], ◌∷◌, ℕ, ◌+◌, ◌*◌, ◌≤◌, ◌<◌, eqb, pos, length, get_or, take, drop, replicate};
+ghost use Rattle.std.specs.Prelude.{◌≡◌, true, ◌&&◌, [], ◌∷◌, ℕ, ◌+◌, ◌*◌, ◌≤◌, ◌<◌, eqb, pos, length, get_or, take, drop};
 ghost use Rattle.strided.specs.Base.{padded};
 ghost use Rattle.strided.specs.Layout.{lead as lead_of};
 ghost use Rattle.strided.specs.Memory.{purpose_of};
@@ -10,16 +10,15 @@ ghost use Rattle.strided.specs.Refusals.{refused_by, answered};
 ghost use Rattle.laws.specs.Fuse.Arrays.{pick_rows};
 ghost use Rattle.session.specs.Session.{kind_of, same_nats, same_ints, Right, row21, new_rows};
 ghost use Rattle.session.specs.Same.{Decides};
-ghost use Rattle.session.specs.Made.{RankRow, Even, ranks_in, TableOf, Laid, weights_in, Weighed, AxesAt, Cuttable, BlocksAt, LayoutRight, LaidRight, Tables, KeepsRight};
+ghost use Rattle.session.specs.Made.{RankRow, Even, ranks_in, LaidRight, Tables, WeightsRight, AxesRight, BlocksRight, KeepsRight};
 
+use super::LentSession;
 use super::compare::same;
-use super::kept::{blocks_kept_into, stays_by_into, weights_kept};
-use super::{LentSession, Numbers};
+use super::kept::{blocks_kept_into, stays_kept_into, weights_kept};
 use auxiliary::rank_table_into;
 use fuse::compute_costs;
 use layout::{
-    Layout, Rows, all_zero, check_planning, operands_wrong, purpose_of, rank_over, reach_over,
-    strides_wrong,
+    Rows, all_zero, check_planning, operands_wrong, rank_over, reach_over, strides_wrong,
 };
 use strided::{MAX_OPERANDS, Refusal};
 
@@ -35,70 +34,54 @@ fn purpose_told(purpose: u64, chosen: u64) -> bool
 }
 
 // Whether the places behind the counts are 0.
-// Kept: rank and operands beside the arrays, here and in `ranks_right`: the arrays are whole, and looked at behind their counts.
-fn tidy<'a>(
-    rank: usize,
-    operands: usize,
-    extents: &'a [u64; 64],
-    sizes: &'a [u64; 8],
-    strides: &'a [i64; 512],
-) -> bool
-    requires { (rank ≤ 64) × (operands ≤ 8) }
-    ensures { result ≡ (blank (drop rank extents.now) && (blank (drop operands sizes.now)
-        && blank_z (drop (rank * operands) strides.now))) }
+fn tidy(session: &LentSession) -> bool
+    requires { (session.now.rank ≤ 64) × (session.now.operands ≤ 8) }
+    ensures { let s = session.now in
+        result ≡ (blank (drop s.rank s.extents) && (blank (drop s.operands s.sizes) && blank_z (drop (s.rank * s.operands) s.strides))) }
 {
-    let count = rank * operands;
-    let e = all_zero(&extents[rank..]);
-    let z = all_zero(&sizes[operands..]);
+    let numbers = session.numbers;
+    let extents = session.extents;
+    let sizes = session.sizes;
+    let strides = session.strides;
+    let count = numbers.rank * numbers.operands;
+    let e = all_zero(&extents[numbers.rank..]);
+    let z = all_zero(&sizes[numbers.operands..]);
     let s = all_zero(&strides[count..]);
     e & (z & s)
 }
 
 // Whether a session's layout is one that planning accepts, laid out as a session has it.
-fn layout_right<'a>(
-    numbers: Numbers,
-    extents: &'a [u64; 64],
-    sizes: &'a [u64; 8],
-    strides: &'a [i64; 512],
-) -> bool
-    ensures { Decides result (LayoutRight numbers extents.now sizes.now strides.now) }
+fn layout_right(session: &LentSession) -> bool
+    ensures { Decides result (LaidRight session.now) }
 {
-    let rank = numbers.rank;
+    let numbers = session.numbers;
     let operands = numbers.operands;
-    if rank_over(rank) || operands_wrong(operands) {
+    if rank_over(numbers.rank) || operands_wrong(operands) {
         return false;
     }
     let told = purpose_told(numbers.purpose, numbers.chosen);
-    let neat = tidy(rank, operands, extents, sizes, strides);
-    let count = rank * operands;
+    let neat = tidy(session);
+    let laid = session.laid();
+    let layout = laid.layout();
+    let sizes = session.sizes;
     let answer = check_planning(
-        &extents[..rank],
+        layout.extents,
         &sizes[..operands],
-        &strides[..count],
-        purpose_of(numbers.purpose, numbers.chosen),
+        layout.strides,
+        laid.purpose(),
         numbers.machine,
     );
     let plain = answer.is_ok();
     told & (neat & plain)
 }
 
-// The table of the ranks of a layout in arrays, written into one of zeros.
-fn table_into<'a>(
-    numbers: Numbers,
-    extents: &'a [u64; 64],
-    strides: &'a [i64; 512],
-    table: &mut [[u8; 64]; 8],
-)
-    requires few { (numbers.rank ≤ 64) × (numbers.operands ≤ 8) }
-    requires table_value { table.old ≡ replicate 8 (replicate 64 0) }
-    ensures { TableOf (take (numbers.rank * numbers.operands) strides.now) numbers.rank numbers.operands table.new }
+// The table of the ranks of a session's layout.
+fn table_into(session: &LentSession, table: &mut [[u8; 64]; 8])
+    requires { LaidRight session.now }
+    ensures { Tables session.now table.new }
 {
-    let layout = Layout {
-        extents: &extents[..numbers.rank],
-        strides: &strides[..numbers.rank * numbers.operands],
-        operands: numbers.operands,
-    };
-    rank_table_into(layout, table);
+    let laid = session.laid();
+    rank_table_into(laid.layout(), table);
 }
 
 // Whether a row of ranks is that of the table.
@@ -114,10 +97,12 @@ fn row_right<'a>(row: &'a [u8; 64], ranks: &'a [u64]) -> bool
 }
 
 // Whether the ranks are those of the table.
-fn ranks_right<'a>(table: &'a [[u8; 64]; 8], operands: usize, ranks: &'a [u64; 512]) -> bool
-    requires operands_bound { (operands ≤ 8) × Even table.now }
-    ensures { Decides result (ranks.now ≡ ranks_in table.now operands) }
+fn ranks_right(session: &LentSession, table: &[[u8; 64]; 8]) -> bool
+    requires operands_bound { (session.now.operands ≤ 8) × Even table.now }
+    ensures { Decides result (session.now.ranks ≡ ranks_in table.now session.now.operands) }
 {
+    let operands = session.numbers.operands;
+    let ranks = session.ranks;
     let mut alike = true;
     for k in 0..operands {
         let start = k * 64;
@@ -130,17 +115,14 @@ fn ranks_right<'a>(table: &'a [[u8; 64]; 8], operands: usize, ranks: &'a [u64; 5
 }
 
 // Whether the weights are what the layout gives.
-fn weights_right<'a>(
-    numbers: Numbers,
-    extents: &'a [u64; 64],
-    strides: &'a [i64; 512],
-    table: &'a [[u8; 64]; 8],
-    weights: &'a [u64; 64],
-) -> bool
-    requires { Laid numbers extents.now strides.now table.now }
-    ensures { Decides result (weights.now ≡ weights_in numbers extents.now strides.now) }
+fn weights_right(session: &LentSession, table: &[[u8; 64]; 8]) -> bool
+    requires layout_right { LaidRight session.now }
+    requires table_of { Tables session.now table.now }
+    ensures { Decides result (WeightsRight session.now) }
 {
-    let w = weights_kept(numbers, extents, strides, table);
+    let weights = session.weights;
+    let laid = session.laid();
+    let w = weights_kept(&laid, table);
     same(&w, weights)
 }
 
@@ -183,55 +165,43 @@ fn strides_right(rows: Rows, axes: &[u8], plan_strides: &[i64; 512]) -> bool
 }
 
 // Whether the plan's axes are what the layout gives, where the weights are.
-fn axes_right<'a>(
-    numbers: Numbers,
-    extents: &'a [u64; 64],
-    strides: &'a [i64; 512],
-    weights: &'a [u64; 64],
-    plan_extents: &'a [u64; 64],
-    plan_strides: &'a [i64; 512],
-) -> bool
-    requires { Weighed numbers extents.now strides.now weights.now }
-    ensures { Decides result ((numbers.plan_operands ≡ numbers.operands) × AxesAt numbers extents.now strides.now
-        numbers.plan_rank weights.now plan_extents.now plan_strides.now) }
+fn axes_right(session: &LentSession) -> bool
+    requires layout_right { LaidRight session.now }
+    requires weights_right { WeightsRight session.now }
+    ensures { Decides result (AxesRight session.now) }
 {
-    let layout = Layout {
-        extents: &extents[..numbers.rank],
-        strides: &strides[..numbers.rank * numbers.operands],
-        operands: numbers.operands,
-    };
+    let numbers = session.numbers;
+    let laid = session.laid();
+    let layout = laid.layout();
     let mut e = [0u64; 64];
     let mut axes = [0u8; 64];
-    let found = stays_by_into(
-        layout,
-        purpose_of(numbers.purpose, numbers.chosen),
-        weights,
-        &mut e,
-        &mut axes,
-    );
+    let found = stays_kept_into(&laid, session.weights, &mut e, &mut axes);
     let counts = (numbers.plan_operands == numbers.operands) & (found == numbers.plan_rank);
+    let plan_extents = session.plan_extents;
     let loops = same(&e, plan_extents);
-    let moves = strides_right(layout.rows(), &axes[..found], plan_strides);
+    let moves = strides_right(layout.rows(), &axes[..found], session.plan_strides);
     counts & (loops & moves)
 }
 
 // Whether costs and blocks are what the layout gives, where the plan's axes are.
-fn blocks_right<'a>(
-    numbers: Numbers,
-    extents: &'a [u64; 64],
-    sizes: &'a [u64; 8],
-    plan_extents: &'a [u64; 64],
-    plan_strides: &'a [i64; 512],
-    costs: &'a [u64; 64],
-    blocks: &'a [u64; 64],
-) -> bool
-    requires { Cuttable numbers extents.now sizes.now plan_extents.now plan_strides.now }
-    ensures { Decides result (BlocksAt numbers extents.now sizes.now plan_extents.now plan_strides.now
-        costs.now blocks.now) }
+fn blocks_right(session: &LentSession) -> bool
+    requires layout_right { LaidRight session.now }
+    requires axes_right { AxesRight session.now }
+    ensures { Decides result (BlocksRight session.now) }
 {
-    let c = compute_costs(plan_strides, numbers.operands, numbers.plan_rank);
+    let numbers = session.numbers;
+    let plan_strides = session.plan_strides;
+    let rows = Rows {
+        strides: plan_strides,
+        pitch: 64,
+        operands: numbers.operands,
+    };
+    let c = compute_costs(rows, numbers.plan_rank);
     let mut b = [0u64; 64];
-    blocks_kept_into(numbers, extents, sizes, plan_extents, plan_strides, &mut b);
+    let laid = session.laid();
+    blocks_kept_into(&laid, session.plan_extents, plan_strides, &mut b);
+    let costs = session.costs;
+    let blocks = session.blocks;
     same(&c, costs) & same(&b, blocks)
 }
 
@@ -241,91 +211,47 @@ fn kept_right(session: &LentSession, table: &[[u8; 64]; 8]) -> bool
     requires table_of { Tables session.now table.now }
     ensures { Decides result (KeepsRight session.now) }
 {
-    weights_right(
-        session.numbers,
-        session.extents,
-        session.strides,
-        table,
-        session.weights,
-    ) && (axes_right(
-        session.numbers,
-        session.extents,
-        session.strides,
-        session.weights,
-        session.plan_extents,
-        session.plan_strides,
-    ) && blocks_right(
-        session.numbers,
-        session.extents,
-        session.sizes,
-        session.plan_extents,
-        session.plan_strides,
-        session.costs,
-        session.blocks,
-    ))
+    weights_right(session, table) && (axes_right(session) && blocks_right(session))
 }
 
-// Whether everything else in a session is what its layout gives, where that is right. The table of its ranks is left in `table`, which is lent
-// as zeros.
-fn parts_right(session: &LentSession, table: &mut [[u8; 64]; 8]) -> bool
-    requires table_value { table.old ≡ replicate 8 (replicate 64 0) }
-    requires layout_right { LaidRight session.now }
-    ensures told { Decides result (Right session.now) }
-    ensures table { result ≡ true → Tables session.now table.new }
-{
-    let numbers = session.numbers;
-    table_into(numbers, session.extents, session.strides, &mut *table);
-    ranks_right(table, numbers.operands, session.ranks) && kept_right(session, table)
-}
-
-// Whether a session is one that beginnings and accepted calls lead to. If it is, the table of its ranks is left in `table`, which is lent as
-// zeros.
+// Whether a session is one that beginnings and accepted calls lead to. If it is, the table of its ranks is left in `table`.
+// Kept: tried, as plain Rust: an `Option` of the table, whose 512 bytes are copied then: a join of 10 x 10 takes 4 % more instructions, and 986 ns
+// where it took 910 to 941.
 pub fn holds(session: &LentSession, table: &mut [[u8; 64]; 8]) -> bool
-    requires { table.old ≡ replicate 8 (replicate 64 0) }
     ensures told { Decides result (Right session.now) }
     ensures table { result ≡ true → Tables session.now table.new }
 {
-    layout_right(
-        session.numbers,
-        session.extents,
-        session.sizes,
-        session.strides,
-    ) && parts_right(session, table)
+    if !layout_right(session) {
+        return false;
+    }
+    table_into(session, &mut *table);
+    ranks_right(session, table) && kept_right(session, table)
 }
 
-// Rows 20, 3 and 6 of an operand that is to join a layout of these extents.
-fn check_new<'a>(
-    rank: usize,
-    operands: usize,
-    extents: &'a [u64],
-    joining: &'a [i64],
-) -> Result<(), Refusal>
-    requires { (rank ≤ 64) × (length extents.now ≡ rank) }
-    ensures { result ≡ answered (refused_by (new_rows rank operands extents.now joining.now)) }
+// Rows 20, 3 and 6 of an operand that is to join the layout of a session.
+pub fn check_joining(session: &LentSession, joining: &[i64]) -> Result<(), Refusal>
+    requires { session.now.rank ≤ 64 }
+    ensures { let s = session.now in
+        result ≡ answered (refused_by (new_rows s.rank s.operands (take s.rank s.extents) joining.now)) }
 {
+    let rank = session.numbers.rank;
+    let operands = session.numbers.operands;
     if MAX_OPERANDS <= operands {
         return Err(Refusal::Ninth);
     }
     if strides_wrong(rank, 1, joining) {
         return Err(Refusal::StrideCount);
     }
-    if reach_over(extents, joining, rank, 1) {
+    let rows = Rows {
+        strides: joining,
+        pitch: rank,
+        operands: 1,
+    };
+    let extents = session.extents;
+    if reach_over(&extents[..rank], rows) {
         return Err(Refusal::Reach);
     }
     Ok(())
-}
-
-// The same of the layout in a session's arrays.
-pub fn check_joining<'a>(
-    numbers: Numbers,
-    extents: &'a [u64; 64],
-    joining: &'a [i64],
-) -> Result<(), Refusal>
-    requires { numbers.rank ≤ 64 }
-    ensures { result ≡ answered (refused_by (new_rows numbers.rank numbers.operands (take numbers.rank extents.now) joining.now)) }
-{
-    let rank = numbers.rank;
-    check_new(rank, numbers.operands, &extents[..rank], joining)
 }
 
 // Row 21 of an operand that is to leave.

@@ -2,7 +2,7 @@
 // keeps the ranks and weights of the layout's axes, the costs of the plan's axes, and the plan.
 #![tactic(auto)]
 
-ghost use Rattle.std.specs.Prelude.{◌≡◌, replicate, Ok};
+ghost use Rattle.std.specs.Prelude.{◌≡◌, Ok};
 ghost use Rattle.strided.specs.Refusals.{refused_by, answered};
 ghost use Rattle.session.specs.Session.{join_rows, leave_rows};
 ghost use Rattle.session.specs.Made.{Tables};
@@ -14,6 +14,9 @@ use strided::{Machine, Plan, Refusal};
 pub mod check;
 pub mod compare;
 pub mod kept;
+pub mod laid;
+
+pub use laid::Laid;
 
 // A session. The purpose is 0, 1 or 2 as a C program tells it, with `chosen` 0 where there is none. The strides stand one after the other
 // with `rank` of them for each operand, as a layout has them; operand k's rank on axis i stands at k * 64 + i. Places behind the counts
@@ -64,28 +67,52 @@ pub struct LentSession<'a> {
 
 impl<'a> Model for LentSession<'a> {
     ghost use Rattle.session.specs.declared.Session.{Session};
-    ghost use Rattle.session.specs.Made.{session_at};
+    ghost use Rattle.session.specs.Made.{session_at, Whole};
 
     ghost Value = { Session };
 
     ghost view = { λ l. session_at l.numbers l.extents.now l.sizes.now l.strides.now l.ranks.now
         l.weights.now l.costs.now l.plan_extents.now l.blocks.now l.plan_strides.now };
+
+    ghost invariant = { λ l. Whole (session_at l.numbers l.extents.now l.sizes.now l.strides.now l.ranks.now
+        l.weights.now l.costs.now l.plan_extents.now l.blocks.now l.plan_strides.now) };
 }
 
-// What joining is refused for: rows 10, 20, 3 and 6. The table of the session's ranks is left in `table`, which is lent as zeros.
+impl<'a> LentSession<'a> {
+    ghost use Rattle.std.specs.Prelude.{◌≡◌, ◌≤◌};
+    ghost use Rattle.session.specs.Made.{numbers_of};
+
+    // Its layout.
+    pub fn laid(&self) -> Laid<'a>
+        requires { (self.now.rank ≤ 64) × (self.now.operands ≤ 8) }
+        ensures numbers { result.numbers ≡ numbers_of self.now }
+        ensures extents { result.extents.now ≡ self.now.extents }
+        ensures sizes { result.sizes.now ≡ self.now.sizes }
+        ensures strides { result.strides.now ≡ self.now.strides }
+    {
+        Laid {
+            numbers: self.numbers,
+            extents: self.extents,
+            sizes: self.sizes,
+            strides: self.strides,
+        }
+    }
+}
+
+// What joining is refused for: rows 10, 20, 3 and 6. The table of the session's ranks is left in `table`.
+// Kept: the table lent, here and in leaving: see `holds`.
 pub fn check_join<'a>(
     session: &LentSession,
     joining: &'a [i64],
     table: &mut [[u8; 64]; 8],
 ) -> Result<(), Refusal>
-    requires { table.old ≡ replicate 8 (replicate 64 0) }
     ensures told { result ≡ answered (refused_by (join_rows session.now joining.now)) }
     ensures table { result ≡ Ok tt → Tables session.now table.new }
 {
     if !holds(session, table) {
         return Err(Refusal::State);
     }
-    check_joining(session.numbers, session.extents, joining)
+    check_joining(session, joining)
 }
 
 // What leaving is refused for: rows 10 and 21. The table is left as in joining.
@@ -94,7 +121,6 @@ pub fn check_leave(
     operand: u64,
     table: &mut [[u8; 64]; 8],
 ) -> Result<(), Refusal>
-    requires { table.old ≡ replicate 8 (replicate 64 0) }
     ensures told { result ≡ answered (refused_by (leave_rows session.now operand)) }
     ensures table { result ≡ Ok tt → Tables session.now table.new }
 {

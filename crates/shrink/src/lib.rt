@@ -2,7 +2,7 @@
 // to shorten is the one with the greatest score.
 #![tactic(auto)]
 
-ghost use Rattle.std.specs.Prelude.{◌≡◌, ◌<◌};
+ghost use Rattle.std.specs.Prelude.{◌≡◌, ◌<◌, ◌≤◌, ◌*◌};
 ghost use Rattle.strided.specs.Region.{region};
 ghost use Rattle.strided.specs.Cut.{score, greatest_score, halved, lessened, shrunk};
 ghost use Rattle.region.specs.Tail.{axes};
@@ -10,6 +10,7 @@ ghost use Rattle.laws.specs.Cut.Steps.{ScoresFit};
 ghost use Rattle.laws.specs.Cut.Picks.{top_of};
 ghost use Rattle.laws.specs.Cut.Jump.{clipped_over};
 ghost use Rattle.laws.specs.Cut.Level.{Least};
+ghost use Rattle.shrink.specs.Rules.{Shortens};
 
 use region::{Tail, memory_region};
 
@@ -39,14 +40,24 @@ fn last_argmax_weighted(scores: Scores) -> Option<usize>
     best
 }
 
-// While the region is at least twice the cache, the picked block is halved, rounding up.
+// While the region is `least` or above, the picked block becomes what `f` makes of it. A region above twice the cache is told as one just above.
 // Kept: here, below and in block the clause on the scores. The blocks are lent to be changed, and a struct that held them as `&mut` would ask for
 // clauses on its references in each contract.
-fn halve<'a>(tail: Tail<'a>, costs: &'a [u64; 64], blocks: &mut [u64; 64])
-    requires { ScoresFit tail.rank costs.now blocks.old }
-    ensures { let t = tail.entry in blocks.new ≡ halved t.machine.numbers t.bytes.now t.operands costs.now t.offset (axes t) blocks.old }
+fn shorten<'a, F: Fn(u64) -> u64>(
+    tail: Tail<'a>,
+    costs: &'a [u64; 64],
+    blocks: &mut [u64; 64],
+    least: u64,
+    f: F,
+)
+    requires fit { ScoresFit tail.rank costs.now blocks.old }
+    requires callable { F.IsAlwaysCallable f }
+    requires limit { least ≤ 2 * tail.machine.numbers.cache }
+    requires rule { Shortens (F.post f) least tail.machine.numbers tail.bytes.now tail.operands costs.now tail.offset (axes tail) tail.rank }
+    ensures { let t = tail.entry in (s : Shortens (F.post f) least t.machine.numbers t.bytes.now t.operands costs.now t.offset (axes t) t.rank)
+        → blocks.new ≡ s.rule blocks.old }
 {
-    while 2 * tail.machine.numbers.cache <= memory_region(tail, blocks) {
+    while least <= memory_region(tail, blocks) {
         let Some(i) = last_argmax_weighted(Scores {
             tail,
             costs,
@@ -54,24 +65,7 @@ fn halve<'a>(tail: Tail<'a>, costs: &'a [u64; 64], blocks: &mut [u64; 64])
         }) else {
             return;
         };
-        blocks[i] = blocks[i].div_ceil(2);
-    }
-}
-
-// While the region is above the cache, the picked block loses 1.
-fn lessen<'a>(tail: Tail<'a>, costs: &'a [u64; 64], blocks: &mut [u64; 64])
-    requires { ScoresFit tail.rank costs.now blocks.old }
-    ensures { let t = tail.entry in blocks.new ≡ lessened t.machine.numbers t.bytes.now t.operands costs.now t.offset (axes t) blocks.old }
-{
-    while tail.machine.numbers.cache < memory_region(tail, blocks) {
-        let Some(i) = last_argmax_weighted(Scores {
-            tail,
-            costs,
-            blocks,
-        }) else {
-            return;
-        };
-        blocks[i] -= 1;
+        blocks[i] = f(blocks[i]);
     }
 }
 
@@ -125,8 +119,8 @@ fn level(scores: Scores) -> u64
     lo
 }
 
-// As `lessen`, with one jump in place of the many single steps before the last few: below the jump's score each axis has at most one more.
-fn lessen_far<'a>(tail: Tail<'a>, costs: &'a [u64; 64], blocks: &mut [u64; 64])
+// While the region is above the cache, the picked block loses 1. Most of these steps are one jump: below its score each axis has at most one more.
+fn lessen<'a>(tail: Tail<'a>, costs: &'a [u64; 64], blocks: &mut [u64; 64])
     requires { ScoresFit tail.rank costs.now blocks.old }
     ensures { let t = tail.entry in blocks.new ≡ lessened t.machine.numbers t.bytes.now t.operands costs.now t.offset (axes t) blocks.old }
 {
@@ -146,14 +140,26 @@ fn lessen_far<'a>(tail: Tail<'a>, costs: &'a [u64; 64], blocks: &mut [u64; 64])
     };
     clip_into(whole, s, &mut t);
     *blocks = t;
-    lessen(tail, costs, blocks);
+    shorten(
+        tail,
+        costs,
+        blocks,
+        tail.machine.numbers.cache + 1,
+        |b| b.saturating_sub(1),
+    );
 }
 
-// The blocks of the tail, halved and then lessened.
+// The blocks of the tail: while the region is at least twice the cache, the picked block is halved, rounding up; then they are lessened.
 pub fn shrink<'a>(tail: Tail<'a>, costs: &'a [u64; 64], blocks: &mut [u64; 64])
     requires { ScoresFit tail.rank costs.now blocks.old }
     ensures { let t = tail.entry in blocks.new ≡ shrunk t.machine.numbers t.bytes.now t.operands costs.now t.offset (axes t) blocks.old }
 {
-    halve(tail, costs, blocks);
-    lessen_far(tail, costs, blocks);
+    shorten(
+        tail,
+        costs,
+        blocks,
+        2 * tail.machine.numbers.cache,
+        |b| b.div_ceil(2),
+    );
+    lessen(tail, costs, blocks);
 }

@@ -20,15 +20,21 @@ use Rattle.strided.specs.Layout.{has_zero, reach, reach_down}
 use Rattle.laws.specs.Base.Layouts.{nozero_at}
 use Rattle.laws.specs.Refusals.Reaches.{term_reach}
 use Rattle.laws.specs.Refusals.Zeros.{no_zero_of}
-use Rattle.laws.specs.Walk.Row9.{down_reach}
+use Rattle.laws.specs.Walk.Row9.{below_term, down_reach}
 use Rattle.span.specs.Span.{in_cells, outside, Spans}
-use Rattle.span.specs.Ways.{down_term, Full}
+use Rattle.span.specs.Ways.{Full}
 
 -- ---- the sum over the axes
 
 -- what is summed up, and what is left from axis i on
 abbrev pub Left : List ℕ → List ℤ → ℕ → ℕ → Type 0
 Left es ts sum i = sum + reach_down (drop i es) (drop i ts) ≡ reach_down es ts
+
+-- an axis's part of the way below the start is the part below the counter 0
+down_below : (e : ℕ) (t : ℤ) → cond (non_neg t) 0 ((e - 1) * nat_abs t) ≡ below_term e 0 t
+unfolding below_term
+down_below e (pos a) = omega arith
+down_below e (negsuc a) = ap (λ (n : ℕ). n * suc a) (let q : e - 1 ≡ e - 1 - 0 = omega arith in q)
 
 module _ (es : List ℕ) (ts : List ℤ) (p : Full es ts) where
   pub stride_there : (i : ℕ) → i < length es → i < length ts
@@ -44,10 +50,15 @@ module _ (es : List ℕ) (ts : List ℤ) (p : Full es ts) where
   pub down_fits : reach_down es ts < 2 ^ 63
   down_fits = omega (arith, down_reach es ts, p.near)
 
-  left_cons : (i : ℕ) → i < length es → reach_down (drop i es) (drop i ts) ≡ down_term (get_or es i 0) (get_or ts i (pos 0)) + reach_down (drop (i + 1) es) (drop (i + 1) ts)
-  left_cons i h = rw (add-one i, drop-cons es i 0 h, drop-cons ts i (pos 0) (stride_there i h))
+  left_cons : (i : ℕ) → i < length es → reach_down (drop i es) (drop i ts) ≡ below_term (get_or es i 0) 0 (get_or ts i (pos 0)) + reach_down (drop (i + 1) es) (drop (i + 1) ts)
+  left_cons i h =
+      rw (add-one i, drop-cons es i 0 h, drop-cons ts i (pos 0) (stride_there i h))
+      (ap (λ (n : ℕ). n + reach_down (drop (suc i) es) (drop (suc i) ts)) (down_below (get_or es i 0) (get_or ts i (pos 0))))
 
-  module _ (sum i t : ℕ) (h : i < length es) (l : Left es ts sum i) (is : t ≡ down_term (get_or es i 0) (get_or ts i (pos 0))) where
+  module _ (sum i t : ℕ) (h : i < length es) (l : Left es ts sum i) (is : t ≡ below_term (get_or es i 0) 0 (get_or ts i (pos 0))) where
+    pub left_turn : Left es ts (sum + t) (i + 1)
+    left_turn = let q = left_cons i h in omega (arith, q, is, l)
+
     pub left_fits : sum + t < 2 ^ 64
     left_fits = let q = left_cons i h in omega (arith, q, is, l, down_fits)
 

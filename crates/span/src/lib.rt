@@ -1,25 +1,13 @@
 // Whether some cell of an operand lies outside those that are lent, told exactly from its least and its greatest offset. Rows 17 and 22 ask it.
 #![tactic(auto)]
 
-ghost use Rattle.std.specs.Prelude.{◌≡◌, ◌-◌, ◌*◌, ◌^◌, ◌<◌, nat_abs};
+ghost use Rattle.std.specs.Prelude.{◌≡◌};
 ghost use Rattle.strided.specs.Layout.{reach_down};
 ghost use Rattle.span.specs.Span.{outside, Spans};
-ghost use Rattle.span.specs.Ways.{down_term, Full};
+ghost use Rattle.span.specs.Ways.{Full};
 
-use layout::has_zero;
 use layout::sizes::reach_of;
-
-// The part of an axis's way that lies below the start.
-// Kept: the clause on the way. Its two numbers come out of two lists, and a struct of them would be made at each axis for this one call.
-fn down_along(extent: u64, stride: i64) -> u64
-    requires { (0 < extent) × ((extent - 1) * nat_abs stride < 2 ^ 63) }
-    ensures { result ≡ down_term extent stride }
-{
-    if stride < 0 {
-        return (extent - 1) * stride.unsigned_abs();
-    }
-    0
-}
+use layout::{Along, has_zero};
 
 // How far the offsets lie below the start.
 fn down_of<'a>(extents: &'a [u64], strides: &'a [i64]) -> u64
@@ -28,7 +16,11 @@ fn down_of<'a>(extents: &'a [u64], strides: &'a [i64]) -> u64
 {
     let mut sum: u64 = 0;
     for i in 0..extents.len() {
-        sum += down_along(extents[i], strides[i]);
+        let axis = Along {
+            extent: extents[i],
+            stride: strides[i],
+        };
+        sum += axis.below_at(0);
     }
     sum
 }

@@ -4,19 +4,19 @@ use mathlib.Core.Path.{◌≡◌, refl, sym, ap, ap₂, ◌∙◌}
 use mathlib.Core.Bool.{Bool, true, false, cond, ◌&&◌, ◌||◌, not}
 use mathlib.Core.List.{List, [], ◌∷◌}
 use Rattle.std.specs.Prelude.{None, Some}
-use Prim.Native.Nat.{ℕ, zero, suc, ◌+◌, ◌-◌, ◌<◌}
+use Prim.Native.Nat.{ℕ, zero, suc, ◌+◌, ◌<◌}
 use native.Mathlib.Omega.{arith}
 use lib.Dec.{ltb, eqb}
 use lib.IntN.{ℤ, pos, ◌-ℤ◌}
-use lib.ListN.{length, get_or, take, drop, length-drop, length-map}
-use lib.Seq.{get_or-take, take_all}
+use lib.ListN.{length, get_or, take, length-map}
+use lib.Seq.{get_or-take}
 use borrow.Author.Tests.{le-ltb, eqb-true, eq-eqb, ne_eqb, not-true}
 use Rattle.strided.specs.Base.{some_of, run}
 use Rattle.strided.specs.Layout.{NoZero, Within, within, has_zero, dot}
 use Rattle.strided.specs.Refusals.{row5, row6, row9, leaves}
 use Rattle.strided.specs.Walk.{cut_axes}
 use Rattle.strided.specs.Begin.{plan_extents, plan_row, plan_rows, begin_refused}
-use Rattle.strided.specs.Step.{blank, blank_z, insideb, on_startb, zerosb, starts_from, is_none, may_begin, tidy, plan_cut_axes}
+use Rattle.strided.specs.Step.{blank, insideb, on_startb, zerosb, starts_from, is_none, may_begin, tidy, plan_cut_axes}
 use Rattle.strided.specs.Memory.{walk_of}
 use Rattle.strided.specs.declared.Plan.{Plan}
 use Rattle.strided.specs.declared.Walk.{Walk}
@@ -25,7 +25,8 @@ use Rattle.laws.specs.Base.Lists.{length_run, get_d_run}
 use Rattle.laws.specs.Base.Tests.{and_both}
 use Rattle.laws.specs.Refusals.Zeros.{no_zero_of}
 use Rattle.laws.specs.Walk.Machine.{length_starts}
-use Rattle.layout.specs.Lent.{Whole, axes_long, row_long}
+use Rattle.layout.specs.Lent.{Whole}
+use Rattle.layout.proofs.Lending.{axes_long, row_long}
 use Rattle.states.specs.Starts.{leaves_at, some_leave, Begins}
 use Rattle.states.specs.Near.{Near}
 use Rattle.states.specs.Reaches.{standing, may_start, reaches}
@@ -84,17 +85,6 @@ module _ (p : Plan) (c : List ℕ) where
     unfolding standing
     stands_on g on = on ∙ sym (rw (h, sym (within_inside (plan_extents p) (take p.rank p.blocks) at) ∙ sym is ∙ g))
 
--- what lies behind the count, as the code cuts it out
-rest_all : {A : Type 0} (n : ℕ) (l : List A) → take (length l - n) (drop n l) ≡ drop n l
-rest_all n l = take_all (length l - n) (drop n l) (omega (arith, length-drop n l))
-
-module _ (c : List ℕ) (o : List ℤ) (n m : ℕ) {t : Bool} (is : t ≡ blank (take (length c - n) (drop n c))) where
-  pub tidy-not : t ≡ false → false ≡ (blank (drop n c) && blank_z (drop m o))
-  tidy-not h = sym (rw (sym (ap blank (rest_all n c)) ∙ sym is ∙ h))
-
-  pub tidy_last : t ≡ true → {d : Bool} → d ≡ blank_z (take (length o - m) (drop m o)) → d ≡ (blank (drop n c) && blank_z (drop m o))
-  tidy_last h e = e ∙ ap blank_z (rest_all m o) ∙ sym (rw (sym (ap blank (rest_all n c)) ∙ sym is ∙ h))
-
 module _ (ended : Bool) (p : Plan) (c : List ℕ) (o : List ℤ) (A : Whole p) (lc : length c ≡ 64) (lo : length o ≡ 8) where
   abbrev G : Walk
   G = walk_of ended c o
@@ -116,9 +106,6 @@ module _ (ended : Bool) (p : Plan) (c : List ℕ) (o : List ℤ) (A : Whole p) (
 
   long : length es ≡ p.rank
   long = axes_long A
-
-  pub blocks_long : length bs ≡ length es
-  blocks_long = sym (cut-length p.rank p.blocks (omega (arith, A.blocks_all, A.axes))) ∙ sym long
 
   pub counters_long : length cs ≡ length es
   counters_long = sym (cut-length p.rank c (omega (arith, lc, A.axes))) ∙ sym long

@@ -1,30 +1,18 @@
--- Laws of signed numbers as their locals have them: a number's sign, and whether an offset has room below and above.
+-- Whether an offset has room below and above.
 -- Assumes nothing.
 use mathlib.Core.Path.{◌≡◌, refl, sym, ap, ◌∙◌}
 use mathlib.Core.Bool.{Bool, true, false, cond, false≢true}
 use Prim.Native.Nat.{ℕ, zero, suc, ◌+◌, ◌-◌, ◌<◌, ◌^◌}
 use native.Mathlib.Omega.{arith}
 use lib.IntN.{ℤ, pos, negsuc, sub_ℕ, ◌+ℤ◌, ◌-ℤ◌, +ℤ_idr}
-use lib.Signed.{mag, lt_z, non_neg}
+use lib.Signed.{mag}
 use lib.Dec.{ltb}
 use borrow.Author.Tests.{ltb-true, lt-ltb}
 use mir.Syntax.{w64}
-use mir.Val.{SFits, to_z, of_z}
-use mir.Facts.{to_z-of_z}
+use mir.Val.{SFits}
 use Rattle.std.specs.Prelude.{Option, Some, None, is_some}
 use Rattle.std.specs.Option.{SomeIff}
 use Rattle.strided.specs.Layout.{in_i64}
-
--- ---- signs
-
-sign : (s : ℤ) (b : Bool) → lt_z s (pos 0) ≡ b → non_neg s ≡ cond b false true
-sign (pos n) true h = absurd (let z : ⊥ = omega (arith, ltb-true n 0 h) in z)
-sign (pos n) false h = refl
-sign (negsuc n) true h = refl
-sign (negsuc n) false h = absurd (false≢true (sym h))
-
-pub sign_read : (s : ℤ) → SFits w64 s → {b : Bool} → lt_z (to_z w64 (of_z w64 s)) (pos 0) ≡ b → non_neg s ≡ cond b false true
-sign_read s f {b} h = sign s b (ap (λ (z : ℤ). lt_z z (pos 0)) (sym (to_z-of_z f)) ∙ h)
 
 -- two tests that hold together
 both_ways : (x y : Bool) → (x ≡ true → y ≡ true) → (y ≡ true → x ≡ true) → x ≡ y

@@ -25,7 +25,8 @@ use Rattle.laws.specs.Refusals.Operands.{some_of_at}
 use Rattle.laws.specs.Refusals.Rows.{unless-passes}
 use Rattle.laws.specs.Refusals.Zeros.{no_zero_of}
 use Rattle.layout.specs.Laid.{far_at}
-use Rattle.layout.specs.Lent.{lent, lent_refuses, Whole}
+use Rattle.layout.specs.Lent.{lent, Whole}
+use Rattle.layout.proofs.Lending.{lent_refuses}
 use Rattle.states.specs.Starts.{leaves_at, some_leave, Standing, Begins}
 
 -- the part of an array that the code cuts off has the length that it was cut with

@@ -1,43 +1,21 @@
 -- Laws of row 9's loops: how far the offsets lie below the one at the counters, axis by axis, and what that says of a start.
 -- Assumes nothing.
 use mathlib.Core.Path.{◌≡◌, sym, ap, ◌∙◌, subst}
-use mathlib.Core.Bool.{Bool, true, false, cond, ◌&&◌, not}
+use mathlib.Core.Bool.{Bool, true, false, ◌&&◌, not}
 use mathlib.Core.List.{List}
 use Prim.Native.Nat.{ℕ, ◌+◌, ◌-◌, ◌*◌, ◌^◌, ◌≤◌, ◌<◌}
-use native.Mathlib.Nat.{mul-le-mul_right}
 use native.Mathlib.Numerals.{add-one}
 use native.Mathlib.Omega.{arith}
 use lib.IntN.{ℤ, pos, nat_abs, ◌+ℤ◌, ◌-ℤ◌}
 use lib.ListN.{length, get_or, drop, drop_of_length-le}
 use lib.Seq.{drop-cons}
-use lib.Signed.{lt_z}
-use mir.Syntax.{w64}
-use mir.Val.{SFits, to_z, of_z}
 use Rattle.strided.specs.Layout.{in_i64, dot, reach}
 use Rattle.laws.specs.Base.Layouts.{within-at, within-length}
 use Rattle.laws.specs.Refusals.Reaches.{term_reach}
 use Rattle.laws.specs.Walk.Row9.{below_term, below_of, below-reach, leaves_at_lem}
 use Rattle.strided.specs.Begin.{plan_extents, plan_row}
 use Rattle.strided.specs.declared.Plan.{Plan}
-use Rattle.states.specs.Starts.{leaves_at, Placed, StandsAt, Standing}
-use Rattle.states.proofs.Rooms.{sign_read}
-
--- ---- along one axis; n is the stride's size as the code has it
-
-module _ (e x : ℕ) (s : ℤ) (f : SFits w64 s) (h : x < e) (n : ℕ) (is : n ≡ nat_abs s) where
-  pub back_le : (e - 1 - x) * n ≤ (e - 1) * nat_abs s
-  back_le = subst (λ (m : ℕ). (e - 1 - x) * m ≤ (e - 1) * nat_abs s) (sym is) (mul-le-mul_right (nat_abs s) (let g : e - 1 - x ≤ e - 1 = omega arith in g))
-
-  pub ahead_le : x * n ≤ (e - 1) * nat_abs s
-  ahead_le = subst (λ (m : ℕ). x * m ≤ (e - 1) * nat_abs s) (sym is) (mul-le-mul_right (nat_abs s) (let g : x ≤ e - 1 = omega arith in g))
-
-  pub back_is : lt_z (to_z w64 (of_z w64 s)) (pos 0) ≡ true → (e - 1 - x) * n ≡ below_term e x s
-  unfolding below_term
-  back_is t = ap (λ (m : ℕ). (e - 1 - x) * m) is ∙ sym (ap (λ (b : Bool). cond b (x * nat_abs s) ((e - 1 - x) * nat_abs s)) (sign_read s f t))
-
-  pub ahead_is : lt_z (to_z w64 (of_z w64 s)) (pos 0) ≡ false → x * n ≡ below_term e x s
-  unfolding below_term
-  ahead_is t = ap (λ (m : ℕ). x * m) is ∙ sym (ap (λ (b : Bool). cond b (x * nat_abs s) ((e - 1 - x) * nat_abs s)) (sign_read s f t))
+use Rattle.states.specs.Starts.{leaves_at, Placed, Standing}
 
 -- ---- the sum over the axes
 
@@ -107,7 +85,7 @@ module _ (es : List ℕ) (ts : List ℤ) (c : List ℕ) (p : Placed es ts c) whe
 
 -- ---- one operand, whose strides are as many as the extents
 
-module _ (p : Plan) (c : List ℕ) (os : List ℤ) (k : ℕ) (h : StandsAt p c os k) (l : length (plan_row p k) ≡ length (plan_extents p)) where
+module _ (p : Plan) (c : List ℕ) (os : List ℤ) (k : ℕ) (h : Standing p c os) (there : k < p.operands) (l : length (plan_row p k) ≡ length (plan_extents p)) where
   abbrev es : List ℕ
   es = plan_extents p
 
@@ -115,18 +93,12 @@ module _ (p : Plan) (c : List ℕ) (os : List ℤ) (k : ℕ) (h : StandsAt p c o
   ts = plan_row p k
 
   pub placed : Placed es ts c
-  placed = record { long = l; within = h.within; near = h.near }
+  placed = record { long = l; within = h.within; near = h.near k there }
 
   module _ (u : ℕ) (u_is : u ≡ below_of es ts c) where
-    pub low_fits : u < 2 ^ 63
-    low_fits = omega (arith, u_is, under_fits es ts c placed)
-
     module _ (r : ℕ) (reach_is : r ≡ reach es ts) where
       pub low_le : u ≤ r
       low_le = omega (arith, u_is, reach_is, below-reach es ts c h.within)
-
-      pub high_fits : r - u < 2 ^ 63
-      high_fits = omega (arith, reach_is, h.near)
 
       module _ (o : ℤ) (o_is : o ≡ get_or os k (pos 0)) where
         test : leaves_at p c os k ≡ not (in_i64 (o -ℤ pos u) && in_i64 (o +ℤ pos (r - u)))
@@ -140,6 +112,3 @@ module _ (p : Plan) (c : List ℕ) (os : List ℤ) (k : ℕ) (h : StandsAt p c o
 
         pub high_test : {b : Bool} → b ≡ in_i64 (o -ℤ pos u) → b ≡ true → {d : Bool} → d ≡ in_i64 (o +ℤ pos (r - u)) → not d ≡ leaves_at p c os k
         high_test e g f = ap not f ∙ sym (test ∙ rw (sym e ∙ g))
-
-pub stands_at : (p : Plan) (c : List ℕ) (os : List ℤ) (k : ℕ) → Standing p c os → k < p.operands → StandsAt p c os k
-stands_at p c os k s h = record { here = h; offsets = omega (arith, s.offsets); within = s.within; near = s.near k h }

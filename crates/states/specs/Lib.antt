@@ -2,3 +2,4 @@
 pub mod Starts
 pub mod Near
 pub mod Reaches
+pub mod Lent

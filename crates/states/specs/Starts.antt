@@ -24,14 +24,7 @@ pub record Placed (es : List ℕ) (ts : List ℤ) (c : List ℕ) : Type 0 where
   pub within : Within es c
   pub near : reach es ts ≤ max_i
 
--- operand k of a plan
-pub record StandsAt (p : Plan) (c : List ℕ) (os : List ℤ) (k : ℕ) : Type 0 where
-  pub here : k < p.operands
-  pub offsets : k < length os
-  pub within : Within (plan_extents p) c
-  pub near : reach (plan_extents p) (plan_row p k) ≤ max_i
-
--- all operands
+-- all operands of a plan
 pub record Standing (p : Plan) (c : List ℕ) (os : List ℤ) : Type 0 where
   pub offsets : p.operands ≤ length os
   pub within : Within (plan_extents p) c

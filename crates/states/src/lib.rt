@@ -10,10 +10,12 @@ ghost use Rattle.strided.specs.Begin.{plan_extents, begin_refused, begun_at};
 use layout::{LentPlan, has_zero, total_over};
 use strided::{Plan, Refusal, Walk};
 
+pub mod lent;
 mod near;
 pub mod starts;
 pub mod state;
 
+pub use lent::LentWalk;
 use starts::starts_leave;
 pub use state::reaches;
 

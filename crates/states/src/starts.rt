@@ -1,13 +1,13 @@
 // Row 9, "some offset from the start leaves 64-bit signed", told from the offsets at any counters: how far the offsets lie below and above
 // those is within the reach, so nothing overflows on the way.
-ghost use Rattle.std.specs.Prelude.{◌≡◌, ◌-◌, ◌*◌, ◌^◌, ◌<◌, pos, nat_abs, ◌+ℤ◌, ◌-ℤ◌};
+ghost use Rattle.std.specs.Prelude.{◌≡◌, ◌<◌, pos, ◌+ℤ◌, ◌-ℤ◌};
 ghost use Rattle.strided.specs.Base.{some_of};
 ghost use Rattle.strided.specs.Layout.{in_i64, reach};
-ghost use Rattle.laws.specs.Walk.Row9.{below_term, below_of};
-ghost use Rattle.states.specs.Starts.{leaves_at, some_leave, Placed, StandsAt, Standing, Begins};
+ghost use Rattle.laws.specs.Walk.Row9.{below_of};
+ghost use Rattle.states.specs.Starts.{leaves_at, some_leave, Placed, Standing, Begins};
 
 use super::no_block;
-use layout::LentPlan;
+use layout::{Along, LentPlan};
 
 // Whether `below` places lie between the least i64 and `o`.
 fn room_below(o: i64, below: u64) -> bool
@@ -21,26 +21,6 @@ fn room_above(o: i64, above: u64) -> bool
     ensures { result ≡ in_i64 (o +ℤ pos above) }
 {
     o.checked_add_unsigned(above).is_some()
-}
-
-// The part of an axis's way that lies below the counter.
-fn below_along(extent: u64, at: u64, stride: i64) -> u64
-    requires { (at < extent) × ((extent - 1) * nat_abs stride < 2 ^ 63) }
-    ensures { result ≡ below_term extent at stride }
-{
-    let size = stride.unsigned_abs();
-    if stride < 0 {
-        return (extent - 1 - at) * size;
-    }
-    at * size
-}
-
-// An axis's way.
-fn way_along(extent: u64, stride: i64) -> u64
-    requires { (0 < extent) × ((extent - 1) * nat_abs stride < 2 ^ 63) }
-    ensures { result ≡ (extent - 1) * nat_abs stride }
-{
-    (extent - 1) * stride.unsigned_abs()
 }
 
 // How far apart an operand's offsets lie, and how far below the one at the counters.
@@ -59,8 +39,12 @@ fn span_of<'a, 'b>(extents: &'a [u64], strides: &'a [i64], counters: &'b [u64]) 
     let mut reach: u64 = 0;
     let mut below: u64 = 0;
     for i in 0..extents.len() {
-        let way = way_along(extents[i], strides[i]);
-        let term = below_along(extents[i], counters[i], strides[i]);
+        let axis = Along {
+            extent: extents[i],
+            stride: strides[i],
+        };
+        let way = axis.way();
+        let term = axis.below_at(counters[i]);
         reach += way;
         below += term;
     }
@@ -69,7 +53,8 @@ fn span_of<'a, 'b>(extents: &'a [u64], strides: &'a [i64], counters: &'b [u64]) 
 
 // Whether some offset of operand k leaves 64-bit signed, told from its offset at the counters.
 fn leaves_at<'a>(plan: &LentPlan, counters: &'a [u64], offsets: &'a [i64], k: usize) -> bool
-    requires { StandsAt plan.now counters.now offsets.now k }
+    requires standing { Standing plan.now counters.now offsets.now }
+    requires there { k < plan.now.operands }
     ensures { result ≡ leaves_at plan.now counters.now offsets.now k }
 {
     let span = span_of(plan.axes(), plan.row(k), counters);

@@ -1,26 +1,12 @@
 // Row 10, "step on a state no begun walk reaches", as a test of the state's arrays.
-ghost use Rattle.std.specs.Prelude.{◌≡◌, length, take, drop, ◌&&◌};
-ghost use Rattle.strided.specs.Layout.{within};
+ghost use Rattle.std.specs.Prelude.{◌≡◌, take, drop, ◌&&◌};
 ghost use Rattle.strided.specs.Step.{plan_cut_axes, blank, blank_z, on_startb};
-ghost use Rattle.strided.specs.Memory.{walk_of};
 ghost use Rattle.states.specs.Reaches.{standing, may_start, reaches};
 
+use super::lent::LentWalk;
 use super::near::all_near;
 use super::starts::starts_leave;
-use layout::{LentPlan, all_zero, total_over};
-
-// Whether each counter is below its extent.
-fn all_within<'a>(extents: &'a [u64], counters: &'a [u64]) -> bool
-    requires { length counters.now ≡ length extents.now }
-    ensures { result ≡ within extents.now counters.now }
-{
-    for i in 0..extents.len() {
-        if extents[i] <= counters[i] {
-            return false;
-        }
-    }
-    true
-}
+use layout::{LentPlan, all_zero, total_over, within};
 
 // Whether the counter of axis 0 is the start of a tile.
 fn on_start(plan: &LentPlan, c: &[u64; 64]) -> bool
@@ -36,7 +22,7 @@ fn stands(ended: bool, plan: &LentPlan, c: &[u64; 64]) -> bool
     if ended {
         return all_zero(&c[..plan.rank]);
     }
-    all_within(plan.axes(), &c[..plan.rank]) && on_start(plan, c)
+    within(plan.axes(), &c[..plan.rank]) && on_start(plan, c)
 }
 
 // Whether rows 5 and 6 let a walk begin.
@@ -54,11 +40,13 @@ fn tidy<'a>(plan: &LentPlan, c: &'a [u64; 64], o: &'a [i64; 8]) -> bool
 }
 
 // Whether a begun walk of the plan reaches the state. Where nothing is large rows 6 and 9 are not asked.
-pub fn reaches<'a>(ended: bool, plan: &LentPlan, c: &'a [u64; 64], o: &'a [i64; 8]) -> bool
-    ensures { result ≡ reaches plan.now (walk_of ended c.now o.now) }
+pub fn reaches(plan: &LentPlan, walk: &LentWalk) -> bool
+    ensures { result ≡ reaches plan.now walk.now }
 {
+    let c = walk.counters;
+    let o = walk.offsets;
     let counters = &c[..plan.rank];
-    if !tidy(plan, c, o) || !stands(ended, plan, c) {
+    if !tidy(plan, c, o) || !stands(walk.ended, plan, c) {
         return false;
     }
     if all_near(plan, o) {

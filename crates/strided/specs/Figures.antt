@@ -195,6 +195,8 @@ figures =
     (2 ∷ 2 ∷ 1 ∷ 1 ∷ 2 ∷ 1 ∷ 9 ∷ 9 ∷ []) (whole (0 ∷ 10 ∷ 2 ∷ 12 ∷ 20 ∷ 22 ∷ 9 ∷ 9 ∷ []))
     ∷ calls_are (the_plan fixed_four (2 ∷ 3 ∷ []) (8 ∷ 8 ∷ []) (whole (1 ∷ 2 ∷ 3 ∷ 1 ∷ [])) Pointwise) (whole (0 ∷ 0 ∷ [])) (2 ∷ 2 ∷ []) (2 ∷ 1 ∷ [])
     (2 ∷ 2 ∷ 2 ∷ 9 ∷ []) (whole (0 ∷ 0 ∷ 2 ∷ 1 ∷ 4 ∷ 2 ∷ 9 ∷ 9 ∷ []))
+    -- the plan of that example, which planning answers
+    ∷ plan_is (2 ∷ 3 ∷ []) (8 ∷ 8 ∷ []) (whole (1 ∷ 2 ∷ 3 ∷ 1 ∷ [])) Pointwise (2 ∷ 3 ∷ []) (2 ∷ 3 ∷ []) (whole (1 ∷ 2 ∷ []))
     -- 43 to 45: row 8 with other records: each of the four is read; in a cache that holds it all nothing is cut
     ∷ plan_on (machine_of 32 4096 4096 6) (64 ∷ 64 ∷ []) (8 ∷ 8 ∷ []) (whole (1 ∷ 64 ∷ 512 ∷ 1 ∷ [])) (PointwiseInto 0) (64 ∷ 64 ∷ []) (6 ∷ 16 ∷ []) (whole (1 ∷ 64 ∷ []))
     ∷ plan_on (machine_of 32 16384 32 1) (64 ∷ 64 ∷ []) (8 ∷ 8 ∷ []) (whole (1 ∷ 64 ∷ 64 ∷ 1 ∷ [])) (PointwiseInto 0) (64 ∷ 64 ∷ []) (1 ∷ 32 ∷ []) (whole (1 ∷ 64 ∷ []))

@@ -51,15 +51,14 @@ abbrev pub refused_by : List Row → Option Refusal
 refused_by [] = None
 refused_by (r ∷ rs) = cond r.applies (Some r.refusal) (refused_by rs)
 
--- what an entry answers that refuses so, and else hands out this value
-abbrev pub served_unless : {A : Type 0} → Option Refusal → A → Result A Refusal
-served_unless None value = Ok value
-served_unless (Some r) value = Err r
-
--- the same of an entry that may refuse what no row speaks of
+-- what an entry answers that refuses so, and else answers this, with which it may refuse what no row speaks of
 abbrev pub answers_unless : {A : Type 0} → Option Refusal → Result A Refusal → Result A Refusal
 answers_unless None answer = answer
 answers_unless (Some r) answer = Err r
+
+-- the same of an entry that else hands out this value
+abbrev pub served_unless : {A : Type 0} → Option Refusal → A → Result A Refusal
+served_unless o value = answers_unless o (Ok value)
 
 -- of an entry that hands out nothing
 abbrev pub answered : Option Refusal → Result (Unit {0}) Refusal

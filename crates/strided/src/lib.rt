@@ -26,7 +26,7 @@ pub struct Machine {
 }
 
 // The rows of the refusal table with their numbers, 1 to 24 but for 7, which is given no longer. specs/Refusals has the rows.
-#[derive(Clone, Copy)]
+#[derive(Clone, Copy, Debug, PartialEq, Eq)]
 pub enum Refusal {
     Rank = 1,
     Operands = 2,
@@ -104,7 +104,7 @@ pub struct Several {
 }
 
 // The repeat mark of an operand: no two indices share an offset, two do, or it is not decided.
-#[derive(Clone, Copy)]
+#[derive(Clone, Copy, Debug, PartialEq, Eq)]
 pub enum Mark {
     No,
     Yes,

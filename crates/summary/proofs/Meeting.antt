@@ -1,11 +1,10 @@
 -- Cells ahead of a summary, met one by one and run by run. Assumes nothing.
-use Rattle.std.specs.Prelude.{◌≡◌, refl, Bool, true, ◌&&◌, List, [], ◌∷◌, ◌++◌, map, ℕ, zero, suc, ◌+◌, ◌-◌, ◌^◌, ◌≤◌, ◌<◌, T, ℤ, pos, negsuc, nat_abs, ◌+ℤ◌, ◌*ℤ◌, Float, length}
+use Rattle.std.specs.Prelude.{◌≡◌, refl, Bool, true, ◌&&◌, List, [], ◌∷◌, ◌++◌, map, ℕ, zero, suc, ◌+◌, ◌-◌, ◌^◌, ◌≤◌, ◌<◌, ℤ, pos, negsuc, ◌+ℤ◌, ◌*ℤ◌, Float, length}
 use Rattle.std.proofs.Common.{sym, ap, ◌∙◌, subst, arith, length-append, SFits, ltb-true}
 use Rattle.std.proofs.lemmas.Bool.{false≢true}
 use Rattle.std.proofs.lemmas.List.{map-append, length-map}
 use Rattle.std.proofs.Math.Nat.{sub-zero}
 use Rattle.std.proofs.Math.IntN.{+ℤ_assoc, +ℤ_comm, +ℤ_idr, zero-*ℤ, suc_ℤ-*ℤ}
-use Rattle.std.specs.Int.Signed.{non_neg}
 use Rattle.std.specs.Int.{w64}
 use Rattle.laws.specs.Base.Lists.{All}
 use Rattle.laws.specs.Base.Tests.{and_both}
@@ -19,14 +18,6 @@ use Rattle.summary.specs.Parts.{between, grown}
 use Rattle.summary.proofs.Quiet.{quiet_none, quiet_next}
 
 -- ---- an offset in the slice
-
-pub in_non_neg : (n : ℕ) (o : ℤ) → in_cells n o ≡ true → T (non_neg o)
-in_non_neg n (pos k) h = tt
-in_non_neg n (negsuc k) h = absurd (false≢true h)
-
-pub in_below : (n : ℕ) (o : ℤ) → in_cells n o ≡ true → nat_abs o < n
-in_below n (pos k) h = ltb-true k n h
-in_below n (negsuc k) h = absurd (false≢true h)
 
 pub in_fits : (n : ℕ) (o : ℤ) → n < 2 ^ 63 → in_cells n o ≡ true → SFits w64 o
 in_fits n (pos k) l h = record { sfits = let b = ltb-true k n h in omega (arith, b, l) }

@@ -1,7 +1,7 @@
 -- A layout of one operand that planning does not refuse: its walk begins exactly if row 9 passes, and where row 22 passes too every cell that is
 -- met lies in the slice. And the rows, as the code tells them.
 -- Assumes nothing.
-use Rattle.std.specs.Prelude.{◌≡◌, refl, Bool, true, false, cond, not, eqb, List, [], ◌∷◌, ℕ, ◌^◌, ◌≤◌, ◌<◌, ℤ, pos, negsuc, ◌+ℤ◌, Float, length, get_or, take, drop, Option, None, Some, Ok, Err, Result}
+use Rattle.std.specs.Prelude.{◌≡◌, refl, Bool, true, false, cond, List, [], ◌∷◌, ℕ, ◌^◌, ◌≤◌, ◌<◌, ℤ, pos, negsuc, ◌+ℤ◌, Float, length, get_or, take, drop, Option, None, Some, Ok, Err, Result}
 use Rattle.std.proofs.Common.{sym, ◌∙◌, subst, true≢false, mul-one, zero-mul, arith, take_all, ltb-true, lt-ltb}
 use Rattle.std.proofs.Math.Path.{ap}
 use Rattle.std.proofs.lemmas.Bool.{false≢true}
@@ -10,9 +10,8 @@ use Rattle.strided.specs.Refusals.{refused_by, planning_rows, planning_refused, 
 use Rattle.strided.specs.Fuse.{plan_axes}
 use Rattle.strided.specs.Index.{original_index}
 use Rattle.strided.specs.Plan.{plan_from}
-use Rattle.strided.specs.Begin.{plan_extents, plan_row, begin_rows, begin_refused, begun_at}
+use Rattle.strided.specs.Begin.{plan_extents, plan_row, begin_refused, begun_at}
 use Rattle.strided.specs.Memory.{plan_of}
-use Rattle.strided.specs.Text.{zero_starts}
 use Rattle.strided.specs.declared.Machine.{Machine}
 use Rattle.strided.specs.declared.Refusal.{Refusal}
 use Rattle.strided.specs.declared.Refusal.TheVariants.{Offsets, Slice}
@@ -21,18 +20,16 @@ use Rattle.strided.specs.declared.Walk.{Walk}
 use Rattle.laws.specs.Base.Layouts.{table_row, within-total, total_nozero}
 use Rattle.laws.specs.Base.Lists.{All, all_map}
 use Rattle.laws.specs.Fuse.Maps.{plan_nozero, orig_in, same-dot}
-use Rattle.laws.specs.Plan.Begins.{begins_to, begins_from}
+use Rattle.laws.specs.Plan.Begins.{begins_to, begins_from, begins_offsets}
 use Rattle.laws.specs.Plan.Bounds.{plan_few}
-use Rattle.laws.specs.Plan.Places.{plan_extents_lem, plan_blocks_lem, plan_strides}
 use Rattle.laws.specs.Refusals.Accepted.{Accepted, accepted}
 use Rattle.laws.specs.Refusals.Record.{planning_layout}
-use Rattle.laws.specs.Base.Refusals.{NoneApplies, none_applies}
 use Rattle.laws.specs.Refusals.Rows.{rows_refuse, rows_pass, served_none, refused_some}
-use Rattle.laws.specs.Text.Begins.{planned_operands, planned_begins}
 use Rattle.laws.specs.Text.Totals.{planned-extents}
 use Rattle.laws.specs.Walk.Row9.{row9-leaves}
-use Rattle.advance.specs.Sized.{Sized}
+use Rattle.advance.specs.Sized.{whole_sized}
 use Rattle.kernel.specs.Made.{Made}
+use Rattle.kernel.proofs.Plans.{planned_whole}
 use Rattle.span.specs.Span.{Spans, in_cells, outside}
 use Rattle.span.specs.Exact.{all-cells}
 use Rattle.summary.specs.declared.cell.Summary.{Summary}
@@ -122,41 +119,13 @@ module _ (mc : Machine) (es : List ℕ) (ss : List ℤ) where
             subst (λ (j : ℕ). in_i64 (get_or (z ∷ []) j (pos 0) +ℤ dot o.index (stride_row ss (length es) j)) ≡ false) k o.outside in
             absurd (true≢false (sym (in_64 n (z +ℤ dot o.index ss) l t) ∙ ap (λ (ts : List ℤ). in_i64 (z +ℤ dot o.index ts)) (sym one-row) ∙ f))
 
-    pub plan_sized : Sized (summary_plan mc es ss)
-    plan_sized =
-        let axs = plan_axes es 1 ss ordering in
-        record { extents-all = plan_extents_lem mc es cell_sizes axs ordering; blocks_all = plan_blocks_lem mc es cell_sizes axs ordering; strides_all = plan_strides mc es cell_sizes axs ordering }
-
     -- so all may be met
     pub summable : (z : ℤ) (cells : List Float) → begin_refused (summary_plan mc es ss) (z ∷ []) ≡ None → outside es ss z (length cells) ≡ false → Summable (summary_plan mc es ss) z cells
-    summable z cells b q = record { sized = plan_sized; begins = b; inside = visits_inside z (length cells) q }
+    summable z cells b q = record { sized = whole_sized (planned_whole mc es cell_sizes ss ordering h); begins = b; inside = visits_inside z (length cells) q }
 
     -- the plan as it is made
     pub made_plan : (rank : ℕ) (E B : List ℕ) (S : List ℤ) → Made mc es cell_sizes ss ordering rank E B S → plan_of rank 1 E B S ≡ summary_plan mc es ss
     made_plan rank E B S m = m.is
-
-    rank_few : P.rank ≤ 64
-    unfolding plan_from
-    rank_few = plan_few es cell_sizes ss ordering a
-
-    -- so that it may be lent
-    pub made_few : {rank : ℕ} {E B : List ℕ} {S : List ℤ} → Made mc es cell_sizes ss ordering rank E B S → rank ≤ 64
-    made_few {rank} {E} {B} {S} m = subst (λ (p : Plan). p.rank ≤ 64) (sym (made_plan rank E B S m)) rank_few
-
-    -- of the rows of a beginning only 9 can apply
-    begin_is : (z : ℤ) → begin_refused (summary_plan mc es ss) (z ∷ []) ≡ cond (row9 (plan_extents P) P.operands (plan_row P) (z ∷ [])).applies (Some Offsets) None
-    unfolding begin_refused NoneApplies
-    begin_is z =
-        let n : NoneApplies (begin_rows P (zero_starts P)) = none_applies (begin_rows P (zero_starts P)) (planned_begins mc es cell_sizes ss ordering h) in
-        let one : not (eqb 1 P.operands) ≡ false = ap (λ (m : ℕ). not (eqb 1 m)) (planned_operands mc es cell_sizes ss ordering h) in
-        rw (n.0, n.1.0, n.1.1.0, n.1.1.1.0, one)
-
-    only_offsets : (z : ℤ) (r : Refusal) → begin_refused (summary_plan mc es ss) (z ∷ []) ≡ Some r → r ≡ Offsets
-    only_offsets z r q = go (row9 (plan_extents P) P.operands (plan_row P) (z ∷ [])).applies (sym (begin_is z) ∙ q)
-      where
-        go : (b : Bool) → cond b (Some Offsets) None ≡ Some r → r ≡ Offsets
-        go true e = cc e
-        go false e = cc e
 
     -- a walk that begins, and one that does not
     module _ {rank : ℕ} {E B : List ℕ} {S : List ℤ} (m : Made mc es cell_sizes ss ordering rank E B S) (z : ℤ) {b : Result Walk Refusal} (is : b ≡ begun_at (plan_of rank 1 E B S) (z ∷ [])) where
@@ -169,7 +138,7 @@ module _ (mc : Machine) (es : List ℕ) (ss : List ℤ) where
 
       pub begun-refused : {r : Refusal} → b ≡ Err r → (r ≡ Offsets) × ((row9 es 1 (stride_row ss (length es)) (z ∷ [])).applies ≡ true)
       unfolding begun_at
-      begun-refused {r} q = (only_offsets z r some, go (row9 es 1 (stride_row ss (length es)) (z ∷ [])).applies refl)
+      begun-refused {r} q = (begins_offsets mc es cell_sizes ss ordering h (z ∷ []) refl r some, go (row9 es 1 (stride_row ss (length es)) (z ∷ [])).applies refl)
         where
           some : begin_refused (summary_plan mc es ss) (z ∷ []) ≡ Some r
           some = refused_some (begin_refused P (z ∷ [])) _ (sym of_plan ∙ q)

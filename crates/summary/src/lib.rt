@@ -8,7 +8,7 @@ ghost use Rattle.summary.specs.Visits.{cell_sizes, ordering};
 ghost use Rattle.summary.specs.Rows.{summarized};
 
 use kernel::{Aim, plan_into};
-use layout::{LentPlan, check_planning};
+use layout::{Layout, LentPlan, check_planning};
 use span::cell_outside;
 use states::begin_on;
 use strided::{Machine, Purpose, Refusal};
@@ -25,15 +25,15 @@ pub const CELL_SIZE: u64 = 8;
 
 // A layout that planning does not refuse: rows 9 and 22, and the summary. Where every cell lies in the slice no offset leaves 64 bits, so row 9
 // is asked only where one does not. It is told by the plan, since its offsets are the layout's.
-fn summarize_served<'a>(
-    extents: &'a [u64],
-    strides: &'a [i64],
+fn summarize_served(
+    layout: Layout,
     machine: Machine,
     start: i64,
     cells: &[f64],
 ) -> Result<Summary, Refusal>
-    requires { planning_refused machine extents.now cell_sizes strides.now ordering ≡ None }
-    ensures { result ≡ summarized machine extents.now strides.now start cells.now }
+    requires one { layout.operands ≡ 1 }
+    requires passed { planning_refused machine layout.extents.now cell_sizes layout.strides.now ordering ≡ None }
+    ensures { result ≡ summarized machine layout.entry.extents.now layout.entry.strides.now start cells.now }
 {
     let sizes = [CELL_SIZE];
     let mut es = [0u64; 64];
@@ -43,15 +43,7 @@ fn summarize_served<'a>(
         purpose: Purpose::Fold(0),
         machine,
     };
-    let rank = plan_into(
-        aim,
-        extents,
-        &sizes,
-        strides,
-        &mut es,
-        &mut blocks,
-        &mut table,
-    );
+    let rank = plan_into(aim, layout, &sizes, &mut es, &mut blocks, &mut table);
     let plan = LentPlan {
         rank,
         operands: 1,
@@ -59,7 +51,7 @@ fn summarize_served<'a>(
         blocks: &blocks,
         strides: &table,
     };
-    if cell_outside(extents, strides, start, cells.len() as u64) {
+    if cell_outside(layout.extents, layout.strides, start, cells.len() as u64) {
         begin_on(&plan, &[start])?;
         return Err(Refusal::Slice);
     }
@@ -77,6 +69,6 @@ pub fn summarize<'a>(
     ensures { result ≡ summarized machine extents.now strides.now start cells.now }
 {
     let sizes = [CELL_SIZE];
-    check_planning(extents, &sizes, strides, Purpose::Fold(0), machine)?;
-    summarize_served(extents, strides, machine, start, cells)
+    let layout = check_planning(extents, &sizes, strides, Purpose::Fold(0), machine)?;
+    summarize_served(layout, machine, start, cells)
 }

@@ -6,13 +6,12 @@ ghost use Rattle.summary.specs.Ahead.{met, Summable};
 
 use super::cell::{Summary, nothing_met};
 use super::run::{Rows, with_blocks};
-use advance::{State, widths_into};
 use layout::LentPlan;
 use states::no_block;
-use walker::{ALL, moves_of, take_stretch, way_of};
+use walker::{ALL, Course};
 
 // THE SUMMARY of the cells that a plan's walk meets from `start` on. With a zero extent there is no block, and how far a stretch would move
-// need not fit. `number` is that of the block ahead; at the counters 0 every tile starts at 0.
+// need not fit. `number` is that of the block ahead.
 pub fn summary_on(plan: &LentPlan, start: i64, cells: &[f64]) -> Summary
     requires { Summable plan.now start cells.now }
     ensures { result ≡ met cells.now nothing_met (visits_of plan.now start) }
@@ -20,25 +19,19 @@ pub fn summary_on(plan: &LentPlan, start: i64, cells: &[f64]) -> Summary
     if no_block(plan) {
         return nothing_met();
     }
-    let mut w = [0u64; 64];
-    widths_into(plan, &mut w);
-    let y = way_of(plan, &w);
-    let d = moves_of(y, plan);
+    let course = Course::of(plan);
+    let d = course.moves();
     let by = d[0];
     let stride = plan.strides[0];
     let mut offsets = [0i64; 8];
     offsets[0] = start;
-    let mut at = State {
-        tile_starts: [0u64; 64],
-        counters: [0u64; 64],
-        offsets,
-    };
+    let mut at = course.state_at([0u64; 64], offsets);
     let mut first = [0i64; 8];
     let mut more = true;
     let mut number: u64 = 0;
     let mut sum = nothing_met();
     while more {
-        let x = take_stretch(y, ALL, plan, &w, &mut at, &mut first);
+        let x = course.take_stretch(ALL, &mut at, &mut first);
         let rows = Rows {
             first: first[0],
             by,

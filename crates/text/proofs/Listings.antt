@@ -15,8 +15,7 @@ use Rattle.strided.specs.Base.{first}
 use Rattle.strided.specs.Layout.{total}
 use Rattle.strided.specs.Refusals.{refused_by, row1, row2, layout_refused, planning_refused}
 use Rattle.strided.specs.Machine.{fixed_four}
-use Rattle.strided.specs.Fuse.{plan_axes}
-use Rattle.strided.specs.Plan.{the_plan, plan_from}
+use Rattle.strided.specs.Plan.{the_plan}
 use Rattle.strided.specs.Begin.{begin_refused}
 use Rattle.strided.specs.Text.{Parsed, InForm, sizes_of, strides_of, printed, printed_of, row13, row14, refusing, listing_or, text_refused, listed, zero_starts}
 use Rattle.strided.specs.Memory.{plan_of}
@@ -25,14 +24,12 @@ use Rattle.strided.specs.declared.Plan.{Plan}
 use Rattle.strided.specs.declared.Refusal.{Refusal}
 use Rattle.strided.specs.declared.Refusal.TheVariants.{Rank, Operands, TextTotal}
 use Rattle.laws.specs.Base.Tests.{or_none}
-use Rattle.laws.specs.Plan.Bounds.{plan_few}
-use Rattle.laws.specs.Plan.Places.{plan_extents_lem, plan_blocks_lem, plan_strides}
-use Rattle.laws.specs.Refusals.Accepted.{accepted}
 use Rattle.laws.specs.Refusals.Record.{planning_fixed}
 use Rattle.laws.specs.Text.Begins.{planned_begins}
 use Rattle.laws.specs.Text.Planning.{as_planning}
-use Rattle.advance.specs.Sized.{Sized}
+use Rattle.advance.specs.Sized.{whole_sized}
 use Rattle.kernel.specs.Made.{Made}
+use Rattle.kernel.proofs.Plans.{made_whole}
 use Rattle.layout.specs.Lent.{Whole}
 use Rattle.reading.specs.Lines.{Arrays}
 use Rattle.reading.specs.Texts.{Says}
@@ -47,30 +44,15 @@ module _ (es sizes : List ℕ) (ss : List ℤ) (u : Purpose) (h : layout_refused
   passed : planning_refused fixed_four es sizes ss u ≡ None
   passed = planning_fixed es sizes ss u ∙ h
 
-  -- the plan made is one that is written
+  -- the plan made may be lent, and is one that is written
+  pub made_lent : (rank : ℕ) (E B : List ℕ) (S : List ℤ) → Made fixed_four es sizes ss u rank E B S → Whole (plan_of rank (length sizes) E B S)
+  made_lent rank E B S m = made_whole fixed_four es sizes ss u passed m
+
   pub made_printable : (rank : ℕ) (E B : List ℕ) (S : List ℤ) → Made fixed_four es sizes ss u rank E B S → Printable (plan_of rank (length sizes) E B S)
   made_printable rank E B S m =
-      let axs = plan_axes es (length sizes) ss u in
       record {
-        sized =
-            subst Sized (sym m.is)
-            (record { extents-all = plan_extents_lem fixed_four es sizes axs u; blocks_all = plan_blocks_lem fixed_four es sizes axs u; strides_all = plan_strides fixed_four es sizes axs u });
+        sized = whole_sized (made_lent rank E B S m);
         begins = subst (λ (p : Plan). begin_refused p (zero_starts p) ≡ None) (sym m.is) (planned_begins fixed_four es sizes ss u passed);
-      }
-
-  -- its rank and its operands are within their limits
-  pub made_whole : (rank : ℕ) (E B : List ℕ) (S : List ℤ) → Made fixed_four es sizes ss u rank E B S → Whole (plan_of rank (length sizes) E B S)
-  unfolding plan_from
-  made_whole rank E B S m =
-      let a = accepted es sizes ss u h in
-      let z = (made_printable rank E B S m).sized in
-      record {
-        axes = subst (λ (p : Plan). p.rank ≤ 64) (sym m.is) (plan_few es sizes ss u a);
-        one = a.one;
-        few = a.few;
-        extents-all = z.extents-all;
-        blocks_all = z.blocks_all;
-        strides_all = z.strides_all;
       }
 
 -- ---- a layout

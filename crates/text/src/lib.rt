@@ -27,7 +27,7 @@ fn list_layout<'a>(
     ensures { record { answer = result; room = room.new }
         ≡ listed_layout extents.now sizes.now strides.now purpose room.old }
 {
-    check_layout(extents, sizes, strides, purpose)?;
+    let layout = check_layout(extents, sizes, strides, purpose)?;
     if !total_at_most(extents, MAX_TOTAL) {
         return Err(Refusal::TextTotal);
     }
@@ -41,15 +41,7 @@ fn list_layout<'a>(
         live: L1Sets::LIVE,
     };
     let aim = Aim { purpose, machine };
-    let rank = plan_into(
-        aim,
-        extents,
-        sizes,
-        strides,
-        &mut es,
-        &mut blocks,
-        &mut table,
-    );
+    let rank = plan_into(aim, layout, sizes, &mut es, &mut blocks, &mut table);
     let plan = LentPlan {
         rank,
         operands: sizes.len(),
@@ -96,8 +88,6 @@ pub fn walklist(text: &[u8], room: &mut [u8]) -> Result<usize, Refusal>
     let mut extents = [0u64; 64];
     let mut sizes = [0u64; 8];
     let mut strides = [0i64; 512];
-    match read_text(text, &mut extents, &mut sizes, &mut strides) {
-        Ok(said) => list_numbers(said, &extents, &sizes, &strides, room),
-        Err(_) => Err(Refusal::Form),
-    }
+    let said = read_text(text, &mut extents, &mut sizes, &mut strides).map_err(|_| Refusal::Form)?;
+    list_numbers(said, &extents, &sizes, &strides, room)
 }

@@ -4,16 +4,13 @@ use mathlib.Core.Path.{◌≡◌, refl, sym, ap, ◌∙◌, subst}
 use mathlib.Core.Bool.{Bool, true, false, cond}
 use mathlib.Core.List.{List, [], ◌∷◌}
 use Rattle.std.specs.Prelude.{None, Some, Ok, Err, Result, Option}
-use Prim.Native.Nat.{ℕ, ◌^◌, ◌<◌}
+use Prim.Native.Nat.{ℕ}
 use native.Mathlib.Omega.{arith}
-use lib.Dec.{ltb}
 use lib.IntN.{ℤ}
-use lib.ListN.{length, get_or, take, replicate}
-use borrow.Author.Tests.{ltb-false}
-use Rattle.strided.specs.Layout.{total, max_u}
+use lib.ListN.{length, take}
 use Rattle.strided.specs.Refusals.{refused_by, served_unless, row1, row2, layout_refused}
 use Rattle.strided.specs.Index.{told_original}
-use Rattle.strided.specs.Begin.{plan_extents, begin_rows, begin_refused}
+use Rattle.strided.specs.Begin.{begin_refused}
 use Rattle.strided.specs.Step.{plan_cut_axes, step_rows, stepped, left, handed_block}
 use Rattle.strided.specs.Memory.{index_at, index_memory, StepMemory, step_memory}
 use Rattle.strided.specs.declared.Purpose.{Purpose}
@@ -27,20 +24,23 @@ use Rattle.strided.specs.declared.Stepped.{Stepped}
 use Rattle.laws.specs.Base.Arrays.{take_counted}
 use Rattle.laws.specs.Base.Refusals.{NoneApplies, none_applies}
 use Rattle.laws.specs.Refusals.Rows.{refused_some}
-use Rattle.laws.specs.Refusals.Zeros.{row5-total}
+use Rattle.laws.specs.Text.Totals.{begun_total}
 use Rattle.laws.specs.Walk.States.{Inside, OnStart}
 use Rattle.laws.specs.Walk.Reach.{reach}
 use Rattle.laws.specs.Walk.Row10.{row10_exact}
 use Rattle.laws.specs.Walk.Steps.{none_of, wide, counters-many}
 use Rattle.advance.specs.Sized as plans
+use Rattle.layout.specs.declared.slices.Layout.{Layout}
+use Rattle.layout.specs.Checked.{Laid}
+use Rattle.layout.proofs.Checks.{laid_with}
 use Rattle.finding.specs.Memory.{Leaves}
 use Rattle.finding.specs.Mapped.{found_original}
 use Rattle.finding.proofs.Answers.{original_passed}
-use Rattle.walk.specs.Lent.{Taken, Handed, over_step}
+use Rattle.walk.specs.Lent.{Taken, SteppedInto, over_step}
 use Rattle.walk.proofs.Stepping.{zs, r, runs, ended_step, here, block_here, counters-here}
 use Rattle.views.specs.declared.Visited.{Visited}
 use Rattle.views.specs.Number.{block_number}
-use Rattle.views.specs.Visits.{visit_rows, visit_refused, ended_visit, shown, found_visit, visit_by, seen_by, seen, visited}
+use Rattle.views.specs.Visits.{visit_rows, visit_refused, ended_visit, found_visit, visit_by, seen_by, seen, visited}
 use Rattle.views.specs.Memory.{VisitMemory, visit_at, VisitLeaves}
 use Rattle.views.specs.Tally.{Countable}
 use Rattle.views.proofs.Seeing.{seen_block, leaves_block}
@@ -73,11 +73,15 @@ module _ (es sizes : List ℕ) (ss : List ℤ) (u : Purpose) (rank operands : �
   unfolding layout_refused visit_refused
   visit_rest a b c d = rw (a, b, c, d)
 
-  pub visit_layout : visit_refused es sizes ss u rank operands ≡ None → layout_refused es sizes ss u ≡ None
+  visit_layout : visit_refused es sizes ss u rank operands ≡ None → layout_refused es sizes ss u ≡ None
   unfolding visit_refused NoneApplies
   visit_layout h =
       let n : NoneApplies (visit_rows es sizes ss u rank operands) = none_applies (visit_rows es sizes ss u rank operands) h in
       visit_rest n.0 n.1.0 n.1.1.0 n.1.1.1.0 ∙ h
+
+  -- and so the check's layout is one that index finding takes
+  pub visit_laid : {l : Layout} → Laid (visit_refused es sizes ss u rank operands) es sizes ss l → Laid (layout_refused es sizes ss u) es sizes ss l
+  visit_laid c = laid_with c (visit_layout c.served)
 
   pub visit_plan : visit_refused es sizes ss u rank operands ≡ None → refused_by (row1 rank ∷ row2 operands ∷ []) ≡ None
   unfolding visit_refused NoneApplies
@@ -109,13 +113,6 @@ lend_refused es sizes ss u p {s} h =
 -- ---- a state that is taken, and runs
 
 module _ (p : Plan) (w : Walk) (k : Taken p w) (h : w.ended ≡ false) where
-  total_fits : total (plan_extents p) < 2 ^ 64
-  unfolding begin_refused NoneApplies
-  total_fits =
-      let a : NoneApplies (begin_rows p (zs p w k)) = none_applies (begin_rows p (zs p w k)) (none_of (begin_refused p (zs p w k)) (r p w k).may) in
-      let f : ltb max_u (total (plan_extents p)) ≡ false = sym (row5-total (plan_extents p)) ∙ a.1.1.0 in
-      omega (arith, ltb-false max_u (total (plan_extents p)) f)
-
   -- its counters are those of a block
   pub countable : Countable p w.counters
   countable =
@@ -131,7 +128,7 @@ module _ (p : Plan) (w : Walk) (k : Taken p w) (h : w.ended ≡ false) where
         counters-all = k.counters-all;
         inside = subst (Inside (plan_cut_axes p)) (sym e) i.0;
         starts = subst (OnStart (plan_cut_axes p)) (sym e) i.1;
-        fits = total_fits;
+        fits = begun_total p (zs p w k) (none_of (begin_refused p (zs p w k)) (r p w k).may);
       }
 
 -- ---- a step that hands out a block was made on a state that is taken
@@ -171,19 +168,6 @@ module _ (p : Plan) (w : Walk) (z : plans.Sized p) (hc : length w.counters ≡ 6
 -- ---- the record of a block, out of what index finding told; `tell` is what it tells of counters
 
 module _ (tell : List ℕ → Result Told Refusal) (p : Plan) where
-  -- by value, into zeros
-  module _ (b : Block) (w : Walk) {c x : List ℕ} where
-    pub value-refused : {s : Refusal} → Leaves (tell (take p.rank b.counters)) (0 ∷ []) (replicate 64 0) c x (Err s) → Err s ≡ visit_by tell p (Some b) w
-    value-refused l = sym (ap (found_visit p b w) (refused_is (tell (take p.rank b.counters)) l).0)
-
-    pub value_block : Leaves (tell (take p.rank b.counters)) (0 ∷ []) (replicate 64 0) c x (Ok tt) → {n : ℕ}
-        → n ≡ block_number (plan_cut_axes p) (take p.rank b.counters)
-        → shown (record { number = n; block = b; first = record { count = get_or c 0 0; index = x } }) w ≡ visit_by tell p (Some b) w
-    value_block l {n} e =
-        let q = given (tell (take p.rank b.counters)) l in
-        (λ i. shown (record { number = e i; block = b; first = record { count = get_or (q.memory i).count 0 0; index = (q.memory i).index } }) w)
-        ∙ sym (ap (found_visit p b w) q.is)
-
   -- in lent memory
   module _ (w : Walk) (k : Taken p w) (h : w.ended ≡ false) where
     abbrev told : Result Told Refusal
@@ -202,7 +186,7 @@ module _ (tell : List ℕ → Result Told Refusal) (p : Plan) where
           rw (seen_here, q.0) (record { answer = refl; memory = ap (visit_at m n) q.1 })
 
       pub visit_block : Leaves told c x c' x' (Ok tt) → {n : ℕ} → n ≡ block_number (plan_cut_axes p) (take p.rank w.counters)
-          → {old new : StepMemory} {N : List ℕ} → Handed (stepped p w) old new (Ok true)
+          → {old new : StepMemory} {N : List ℕ} → SteppedInto (stepped p w) old new (Ok true)
           → VisitLeaves (seen_by tell p (stepped p w)) (visit_at old N (index_at c x)) (visit_at new (n ∷ []) (index_at c' x')) (Ok true)
       visit_block l {n} e {old} {new} s =
           let q = given told l in
@@ -224,18 +208,18 @@ module _ (es sizes : List ℕ) (ss : List ℤ) (u : Purpose) (p : Plan) (w : Wal
   unfolding visited
   value-first h = rw h
 
-  module _ (h : visit_refused es sizes ss u p.rank p.operands ≡ None) where
+  module _ {l : Layout} (c : Laid (visit_refused es sizes ss u p.rank p.operands) es sizes ss l) where
     -- what index finding tells of a layout that is not refused
     abbrev found : List ℕ → Result Told Refusal
-    found = found_original es (length sizes) ss u
+    found = found_original l.extents.now l.operands l.strides.now u
 
     finds : found ≡ told_original es sizes ss u
-    finds = λ i y. original_passed es sizes ss u y (visit_layout es sizes ss u p.rank p.operands h) i
+    finds = λ i y. original_passed es sizes ss u (visit_laid es sizes ss u p.rank p.operands c) y i
 
     -- the step decides
     visited_is : {s : Result Stepped Refusal} → stepped p w ≡ s → seen es sizes ss u p s ≡ visited es sizes ss u p w
     unfolding visited
-    visited_is e = rw h (ap (seen es sizes ss u p) (sym e))
+    visited_is e = rw c.served (ap (seen es sizes ss u p) (sym e))
 
     pub value-state : {a : Refusal} → stepped p w ≡ Err a → Err a ≡ visited es sizes ss u p w
     value-state e = visited_is e
@@ -244,7 +228,7 @@ module _ (es sizes : List ℕ) (ss : List ℤ) (u : Purpose) (p : Plan) (w : Wal
       pub value_ended : s.block ≡ None → ended_visit s.walk ≡ visited es sizes ss u p w
       value_ended q = sym (ap (λ (o : Option Block). visit_by (told_original es sizes ss u) p o s.walk) q) ∙ visited_is e
 
-      pub value_seen : {b : Block} → s.block ≡ Some b → visit_by (found_original es (length sizes) ss u) p (Some b) s.walk ≡ visited es sizes ss u p w
+      pub value_seen : {b : Block} → s.block ≡ Some b → visit_by (found_original l.extents.now l.operands l.strides.now u) p (Some b) s.walk ≡ visited es sizes ss u p w
       value_seen {b} q =
           ap (λ (tell : List ℕ → Result Told Refusal). visit_by tell p (Some b) s.walk) finds
           ∙ sym (ap (λ (o : Option Block). visit_by (told_original es sizes ss u) p o s.walk) q)
@@ -258,7 +242,7 @@ module _ (es sizes : List ℕ) (ss : List ℤ) (u : Purpose) (p : Plan) (w : Wal
     entry_ended {old} e = subst (λ (v : Result Visited Refusal). VisitLeaves v old old (Ok false)) (visited_is (sym e)) (record { answer = refl; memory = refl })
 
     pub entry_block : {s : Result Stepped Refusal} → s ≡ stepped p w → {old new : VisitMemory} {a : Result Bool Refusal}
-        → VisitLeaves (seen_by (found_original es (length sizes) ss u) p s) old new a
+        → VisitLeaves (seen_by (found_original l.extents.now l.operands l.strides.now u) p s) old new a
         → VisitLeaves (visited es sizes ss u p w) old new a
     entry_block {s} e {old} {new} {a} l =
         subst (λ (v : Result Visited Refusal). VisitLeaves v old new a)

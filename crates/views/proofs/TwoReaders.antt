@@ -2,7 +2,7 @@
 -- the engineer's offsets less the starts.
 -- Assumes nothing.
 use Rattle.std.proofs.Math.Path.{◌≡◌, refl, sym, ap, subst}
-use Rattle.std.proofs.Common.{ap₂, ◌∙◌, arith, length-take, ltb-false}
+use Rattle.std.proofs.Common.{ap₂, ◌∙◌, arith}
 use mathlib.Core.List.{List, [], ◌∷◌, map}
 use Prim.Native.Nat.{ℕ, zero, suc, ◌+◌, ◌≤◌, ◌<◌, min}
 use Rattle.std.specs.Prelude.{ℤ, pos, ◌+ℤ◌, ◌-ℤ◌, ◌*ℤ◌, length, get_or, take, Option, None, Some, Result, Ok, Err}
@@ -14,7 +14,7 @@ use Rattle.strided.specs.Index.{told_original, told}
 use Rattle.strided.specs.Walk.{block, block_at, blocks_of, counters, next, cell_at}
 use Rattle.strided.specs.Fuse.{plan_axes}
 use Rattle.strided.specs.Plan.{planned}
-use Rattle.strided.specs.Begin.{begin_rows, begin_refused, begun_at, started}
+use Rattle.strided.specs.Begin.{begin_refused, begun_at, started}
 use Rattle.strided.specs.Step.{plan_cut_axes, packed, handed_out, step_rows, stepped, left, handed_block}
 use Rattle.strided.specs.Demand3.{replaced, steps_from, Hands, Place, Meets, Demand3}
 use Rattle.strided.specs.declared.Machine.{Machine}
@@ -38,7 +38,7 @@ use Rattle.laws.specs.Demand3.Whole.{demand3_any}
 use Rattle.laws.specs.Base.Trace.{after-suc}
 use Rattle.laws.specs.Walk.States.{begin, state_after}
 use Rattle.laws.specs.Walk.Reach.{state-nth}
-use Rattle.laws.specs.Walk.Steps.{Ready, ready, wide, at, made, raw, raw-walk, step-at, begun-walk, walk_is, counters-many}
+use Rattle.laws.specs.Walk.Steps.{Ready, ready_sized, wide, at, made, raw, raw-walk, step-at, begun-walk, walk_is, counters-many}
 use Rattle.views.specs.Number.{block_number}
 use Rattle.views.specs.Places.{number-after_steps}
 use Rattle.views.specs.Views.{engineer_of, student_of}
@@ -88,11 +88,8 @@ module _ (es sizes : List ℕ) (ss : List ℤ) (u : Purpose) (p : Plan) where
 -- ---- a plan as values have it, whose beginning is taken
 
 served_ready : (p : Plan) (zs : List ℤ) → length p.extents ≡ 64 → {w : Walk} → begun_at p zs ≡ Ok w → Ready p zs
-unfolding begun_at begin_refused NoneApplies
-served_ready p zs l h =
-    let n : begin_refused p zs ≡ None = served_none (begin_refused p zs) _ h in
-    let f : p.rank ≤ 64 = ltb-false 64 p.rank (none_applies (begin_rows p zs) n).0 in
-    ready p zs (omega (arith, length-take p.rank p.extents)) n
+unfolding begun_at
+served_ready p zs l h = ready_sized p zs l (served_none (begin_refused p zs) _ h)
 
 -- the state handed out is where the walk begins
 begun_is : (p : Plan) (zs : List ℤ) {w : Walk} → begun_at p zs ≡ Ok w → w ≡ started p zs

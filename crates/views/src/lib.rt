@@ -3,9 +3,10 @@
 
 ghost use Rattle.std.specs.Prelude.{◌≡◌, ◌∷◌, ◌^◌, ◌<◌, Some};
 ghost use Rattle.strided.specs.Layout.{total};
-ghost use Rattle.strided.specs.Refusals.{refused_by, answered, served_unless, row1};
+ghost use Rattle.strided.specs.Refusals.{refused_by, served_unless, row1};
 ghost use Rattle.strided.specs.Step.{step_rows};
 ghost use Rattle.strided.specs.Memory.{plan_of};
+ghost use Rattle.layout.specs.Checked.{Checked};
 ghost use Rattle.finding.specs.Mapped.{found_original};
 ghost use Rattle.views.specs.Visits.{visit_refused, visit_by, visited};
 ghost use Rattle.views.specs.Tally.{Countable};
@@ -64,16 +65,17 @@ pub fn lend<'a>(
     LentPlan::of(rank, operands, extents, blocks, strides)
 }
 
-// What a visit is refused for before the state is looked at: rows 1 and 2 of the layout and of the plan, then 3 to 6 of the layout.
-pub fn check_visit(
-    extents: &[u64],
-    sizes: &[u64],
-    strides: &[i64],
+// The layout, or what a visit is refused for before the state is looked at: rows 1 and 2 of the layout and of the plan, then 3 to 6 of the
+// layout.
+pub fn check_visit<'a>(
+    extents: &'a [u64],
+    sizes: &'a [u64],
+    strides: &'a [i64],
     purpose: Purpose,
     rank: usize,
     operands: usize,
-) -> Result<(), Refusal>
-    ensures { result ≡ answered (visit_refused extents.now sizes.now strides.now purpose rank operands) }
+) -> Result<Layout<'a>, Refusal>
+    ensures { Checked (visit_refused extents.now sizes.now strides.now purpose rank operands) extents.now sizes.now strides.now result }
 {
     if rank_over(extents.len()) || rank_over(rank) {
         return Err(Refusal::Rank);
@@ -133,12 +135,7 @@ pub fn visit_on(
 ) -> Result<Visited, Refusal>
     ensures { result ≡ visited extents.now sizes.now strides.now purpose plan.now walk }
 {
-    check_visit(extents, sizes, strides, purpose, plan.rank, plan.operands)?;
-    let layout = Layout {
-        extents,
-        strides,
-        operands: sizes.len(),
-    };
+    let layout = check_visit(extents, sizes, strides, purpose, plan.rank, plan.operands)?;
     let stepped = step_on(plan, walk)?;
     match stepped.block {
         None => Ok(Visited {

@@ -14,8 +14,8 @@ use crate::number::number_of;
 use finding::original_of_into;
 use layout::{Layout, LentPlan};
 use strided::{Purpose, Refusal};
-use walk::answer_of;
 use walk::memory::block_into;
+use walk::{LentWalk, answer_of};
 
 // Kept, in found_into and visit_into: what a visit moves and what it hands out, array by array, as C lends them one by one.
 
@@ -87,14 +87,13 @@ pub fn visit_into(
         let new = visit_at s' number.new (index_at count.new index.new) in
         VisitLeaves (visited extents.now sizes.now strides.now purpose plan.now (walk_in w)) old new result }
 {
-    check_visit(extents, sizes, strides, purpose, plan.rank, plan.operands)?;
-    let layout = Layout {
-        extents,
-        strides,
-        operands: sizes.len(),
+    let layout = check_visit(extents, sizes, strides, purpose, plan.rank, plan.operands)?;
+    let walk = LentWalk {
+        ended: ended[0] != 0,
+        counters: &*counters,
+        offsets: &*offsets,
     };
-    let over = ended[0] != 0;
-    if answer_of(plan, over, counters, offsets)? {
+    if answer_of(plan, &walk)? {
         return found_into(
             layout,
             purpose,

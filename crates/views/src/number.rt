@@ -4,9 +4,9 @@ ghost use Rattle.strided.specs.Step.{plan_cut_axes};
 ghost use Rattle.views.specs.Number.{block_number};
 ghost use Rattle.views.specs.Tally.{tallied, numbered, Room, First, Countable};
 
-use advance::width_on;
+use advance::{tile_start, width_on};
+use finding::radix::quotient;
 use layout::LentPlan;
-use walk::onward::start_at;
 
 // Of the axes from some axis on: how many indices the tiles before have, how many this tile has, and the place among these.
 #[derive(Clone, Copy)]
@@ -21,7 +21,7 @@ fn tally_axis(extent: u64, width: u64, at: u64, tally: Tally) -> Tally
     requires { Room extent width at tally }
     ensures { result ≡ tallied extent width at tally }
 {
-    let start = start_at(width, at);
+    let start = tile_start(width, at);
     let len = width.min(extent - start);
     let before = extent * tally.before + start * tally.size;
     let size = len * tally.size;
@@ -46,21 +46,13 @@ fn tiles_under(extent: u64, width: u64, indices: u64) -> u64
     tiles * indices
 }
 
-// The number of the tile that a counter lies in.
-fn tile_at(width: u64, at: u64) -> u64
-    requires { 0 < width }
-    ensures { result ≡ at / width }
-{
-    if at < width { 0 } else { at / width }
-}
-
 // Axis 0 counts by whole tiles.
 fn number_first(extent: u64, width: u64, at: u64, tally: Tally) -> u64
     requires { First extent width at tally }
     ensures { result ≡ numbered extent width at tally }
 {
     let before = tiles_under(extent, width, tally.before);
-    before + tile_at(width, at) * tally.size + tally.place
+    before + quotient(at, width) * tally.size + tally.place
 }
 
 // How many blocks of the plan come before the one at the counters `c`.

@@ -8,12 +8,12 @@ use Prim.Native.Nat.{ℕ, ◌+◌, ◌≤◌, ◌<◌}
 use native.Mathlib.Omega.{arith}
 use lib.Dec.{ltb, eqb}
 use lib.IntN.{ℤ, pos}
-use lib.ListN.{length, get_or, length-take}
-use borrow.Author.Tests.{ltb-false, eqb-false, le-ltb, ne_eqb}
+use lib.ListN.{length, get_or}
+use borrow.Author.Tests.{eqb-false, le-ltb, ne_eqb}
 use Rattle.strided.specs.Base.{padded}
 use Rattle.strided.specs.Refusals.{refused_by, answers_unless}
 use Rattle.strided.specs.Walk.{length_at, run_strides}
-use Rattle.strided.specs.Begin.{plan_extents, plan_rows, begin_refused, begun_at, started}
+use Rattle.strided.specs.Begin.{plan_rows, begin_refused, begun_at, started}
 use Rattle.strided.specs.Step.{plan_cut_axes, unpacked, packed, reachable, may_begin, tidy, step, step_running, over, refused, handed_out, handed_block, step_rows, stepped, walk_after}
 use Rattle.strided.specs.Bulk.{next_blocks}
 use Rattle.strided.specs.Memory.{walk_of}
@@ -30,12 +30,13 @@ use Rattle.laws.specs.Refusals.Rows.{served_none, served_is}
 use Rattle.laws.specs.Walk.States.{state_after, begin}
 use Rattle.laws.specs.Walk.Row10.{row10_exact}
 use Rattle.laws.specs.Walk.Bulk.{walk_more, blocks_none}
-use Rattle.laws.specs.Walk.Steps.{Ready, ready, none_of, at, raw, made, begun-walk, step-at, walk-state}
+use Rattle.laws.specs.Walk.Steps.{Ready, ready_sized, none_of, at, raw, made, begun-walk, step-at, walk-state}
 use Rattle.advance.specs.Axis.{widths, start_of, starts_to}
 use Rattle.advance.specs.Carry.{state_of, Roomy, Tiled, AdvancedTo}
 use Rattle.advance.specs.declared.State as kept
 use Rattle.advance.specs.Blocks.{length_of, firsts_of}
-use Rattle.layout.specs.Lent.{lent, lent_refuses, Whole}
+use Rattle.layout.specs.Lent.{lent, Whole}
+use Rattle.layout.proofs.Lending.{lent_refuses}
 use Rattle.advance.proofs.Plans.{C, O, length_is, firsts_are, first_start}
 use Rattle.advance.specs.Sized as plans
 use Rattle.advance.proofs.Reached.{widths_pos, tiled, roomy, advanced}
@@ -119,16 +120,9 @@ module _ (p : Plan) (w : Walk) (k : Taken p w) where
   sized : plans.Sized p
   sized = record { extents-all = k.extents-all; blocks_all = k.blocks_all; strides_all = k.strides_all }
 
-  long : length (plan_extents p) ≡ p.rank
-  unfolding NoneApplies
-  long =
-      let f : p.rank ≤ 64 = ltb-false 64 p.rank (none_applies (step_rows p) k.rows).0 in
-      let e = k.extents-all in
-      omega (arith, length-take p.rank p.extents)
-
   pub r : Ready p zs
   unfolding begun_at
-  r = ready p zs long (served_none (begin_refused p zs) _ k.reached.begins)
+  r = ready_sized p zs k.extents-all (served_none (begin_refused p zs) _ k.reached.begins)
 
   abbrev state : Option (List ℕ)
   state = state_after (plan_cut_axes p) k.reached.steps
@@ -277,6 +271,3 @@ answers_at p w a h = subst (Answers p w) h a
 
 pub running : (w : Walk) → w.ended ≡ false → w ≡ walk_of false w.counters w.offsets
 running w h = λ i. record { ended = h i; counters = w.counters; offsets = w.offsets }
-
-pub taken_parts : (p : Plan) (w : Walk) → w.ended ≡ false → Taken p w → Taken p (walk_of false w.counters w.offsets)
-taken_parts p w h k = subst (Taken p) (running w h) k

@@ -2,13 +2,11 @@
 use mathlib.Core.Path.{◌≡◌, refl, sym, ap, ◌∙◌, subst}
 use mathlib.Core.Bool.{Bool, true, false, cond}
 use mathlib.Core.List.{List}
-use Prim.Native.Nat.{ℕ, ◌-◌, ◌≤◌, ◌<◌}
-use Rattle.std.specs.Prelude.{min}
-use Rattle.std.proofs.Math.Nat.{min-eq_left, min-eq_right}
+use Prim.Native.Nat.{ℕ, zero, suc, ◌≤◌, ◌<◌}
 use native.Mathlib.Omega.{arith}
 use lib.Dec.{ltb, leb, eqb}
 use lib.ListN.{length, get_or, replicate, length-replicate}
-use borrow.Author.Tests.{ltb-true, ltb-false, lt-leb, ne_eqb}
+use borrow.Author.Tests.{ltb-true, lt-leb, eq-eqb, ne_eqb}
 use Rattle.strided.specs.Walk.{effective}
 use lib.IntN.{ℤ}
 use Rattle.strided.specs.declared.Plan.{Plan}
@@ -16,8 +14,7 @@ use Rattle.advance.specs.Axis.{width_of, width_at, widths, tile_at, starts_to, g
 use Rattle.advance.specs.declared.Goal.{Goal}
 use Rattle.advance.specs.declared.State.{State}
 use Rattle.advance.specs.Carry.{Carried, state_of, Roomy, Tiled, Single, MovedTo}
-use Rattle.advance.specs.Blocks.{length_of}
-use Rattle.advance.proofs.Axis.{length_cut, length-left}
+use Rattle.advance.specs.Blocks.{length_by, length_of}
 use Rattle.advance.specs.Filled.{filled_length, filled_at}
 use Rattle.advance.proofs.Turns.{Before}
 use Rattle.walk.specs.Onward.{inner_of}
@@ -77,13 +74,11 @@ moved_any m = record { answer = m.answer; counters = m.counters; roomy = m.roomy
 pub begun_any : {inside : Bool} {first last : ℕ} {p : Plan} {w t u c : List ℕ} {o : List ℤ} → Roomy p (state_of t c o) → Tiled p w (state_of u c o) → Before inside first last p w (state_of t c o) first (state_of u c o)
 begun_any r d = record { roomy = roomy_any r; tiled = d; starts = λ k h. refl; others = λ k h. refl; same = refl }
 
--- the length of a block: the least of the size in force and what is left of axis 0
-pub length_least : (p : Plan) (w c : List ℕ) → (p.rank ≡ 0 → ⊥) → {n : ℕ} → n ≡ get_or w 0 0 → min n (get_or p.extents 0 0 - get_or c 0 0) ≡ length_of p w c
-length_least p w c some q = ap (λ (m : ℕ). min m left) q ∙ go (ltb (get_or w 0 0) left) refl
+-- the length of a block, told with the size in force on axis 0
+pub length_read : (p : Plan) → p.rank ≤ 64 → (c : List ℕ) → {x n : ℕ} → x ≡ width_at p 0 → n ≡ length_by p x (get_or c 0 0) → n ≡ length_of p (widths p) c
+unfolding length_by
+length_read p few c {x} q e = e ∙ go p.rank refl
   where
-    left : ℕ
-    left = get_or p.extents 0 0 - get_or c 0 0
-
-    go : (t : Bool) → ltb (get_or w 0 0) left ≡ t → min (get_or w 0 0) left ≡ length_of p w c
-    go true h = let l : get_or w 0 0 < left = ltb-true _ _ h in min-eq_left (omega (arith, l)) ∙ length_cut p w c some l
-    go false h = let l : left ≤ get_or w 0 0 = ltb-false _ _ h in min-eq_right l ∙ length-left p w c some l
+    go : (r : ℕ) → p.rank ≡ r → length_by p x (get_or c 0 0) ≡ length_of p (widths p) c
+    go zero z = rw (eq-eqb p.rank 0 z)
+    go (suc r) z = ap (λ (n : ℕ). length_by p n (get_or c 0 0)) (width_read p few 0 (omega (arith, z)) q)

@@ -30,6 +30,6 @@ Answers p w (Ok false) = over_step w ≡ stepped p w
 Answers p w (Err r) = Err r ≡ stepped p w
 
 -- a step in lent memory says whether it hands out a block, and leaves what the step leaves
-pub record Handed (s : Result Stepped Refusal) (old new : StepMemory) (answer : Result Bool Refusal) : Type 0 where
+pub record SteppedInto (s : Result Stepped Refusal) (old new : StepMemory) (answer : Result Bool Refusal) : Type 0 where
   pub said : answer ≡ some_block s
   pub memory : new ≡ step_leaves s old

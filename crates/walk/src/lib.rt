@@ -6,11 +6,11 @@ ghost use Rattle.strided.specs.Step.{stepped, left};
 ghost use Rattle.strided.specs.Memory.{walk_of};
 ghost use Rattle.walk.specs.Lent.{Taken, Answers};
 
-use advance::firsts;
+use advance::{firsts, length_by, width_on};
 use layout::LentPlan;
-use onward::{advance_on, length_on};
-pub use states::begin;
+use onward::advance_on;
 use states::reaches;
+pub use states::{LentWalk, begin};
 use strided::{Block, Plan, Refusal, Stepped, Walk};
 
 pub mod memory;
@@ -23,7 +23,7 @@ fn block_at(plan: &LentPlan, counters: [u64; 64], offsets: [i64; 8]) -> Stepped
 {
     let mut c = counters;
     let mut o = offsets;
-    let length = length_on(plan, &c);
+    let length = length_by(plan, width_on(plan, 0), c[0]);
     let strides = firsts(plan);
     let more = advance_on(plan, &mut c, &mut o);
     Stepped {
@@ -42,18 +42,14 @@ fn block_at(plan: &LentPlan, counters: [u64; 64], offsets: [i64; 8]) -> Stepped
 }
 
 // Whether a step at the state hands out a block, and not the end: row 10, whatever the values.
-pub fn answer_of<'a>(
-    plan: &LentPlan,
-    ended: bool,
-    c: &'a [u64; 64],
-    o: &'a [i64; 8],
-) -> Result<bool, Refusal>
-    ensures { Answers plan.now (walk_of ended c.now o.now) result }
+pub fn answer_of(plan: &LentPlan, walk: &LentWalk) -> Result<bool, Refusal>
+    ensures { Answers plan.now walk.now result }
 {
-    // A look at a field, by which the proof has what is known of a plan that is lent.
+    // A look at a field each, by which the proof has what is known of a plan and of a walk that are lent.
     let _ = &plan.rank;
-    if reaches(ended, plan, c, o) {
-        return Ok(!ended);
+    let _ = &walk.ended;
+    if reaches(plan, walk) {
+        return Ok(!walk.ended);
     }
     Err(Refusal::State)
 }
@@ -62,10 +58,8 @@ pub fn answer_of<'a>(
 pub fn step_on(plan: &LentPlan, walk: Walk) -> Result<Stepped, Refusal>
     ensures { result ≡ stepped plan.now walk }
 {
-    let c = walk.counters;
-    let o = walk.offsets;
-    if answer_of(plan, walk.ended, &c, &o)? {
-        return Ok(block_at(plan, c, o));
+    if answer_of(plan, &LentWalk::of(&walk))? {
+        return Ok(block_at(plan, walk.counters, walk.offsets));
     }
     Ok(Stepped { block: None, walk })
 }

@@ -2,12 +2,13 @@
 ghost use Rattle.std.specs.Prelude.{◌≡◌, true, false, Ok};
 ghost use Rattle.strided.specs.Step.{stepped};
 ghost use Rattle.strided.specs.Memory.{plan_of, walk_of, flag as flagOf, walk_at, walk_in, step_at};
-ghost use Rattle.walk.specs.Lent.{Taken, Handed};
+ghost use Rattle.walk.specs.Lent.{Taken, SteppedInto};
 
 use crate::answer_of;
-use crate::onward::{advance_on, length_on};
-use advance::firsts;
+use crate::onward::advance_on;
+use advance::{firsts, length_by, width_on};
 use layout::LentPlan;
+use states::LentWalk;
 use strided::{Plan, Refusal};
 
 // 1 for yes, 0 for no.
@@ -55,9 +56,9 @@ pub fn block_into(
         let w' = walk_at ended.new counters.new offsets.new in
         let old = step_at w block_counters.old length.old block_offsets.old block_strides.old in
         let new = step_at w' block_counters.new length.new block_offsets.new block_strides.new in
-        Handed (stepped plan.now (walk_of false counters.old offsets.old)) old new (Ok true) }
+        SteppedInto (stepped plan.now (walk_of false counters.old offsets.old)) old new (Ok true) }
 {
-    let bl = length_on(plan, counters);
+    let bl = length_by(plan, width_on(plan, 0), counters[0]);
     let bs = firsts(plan);
     *block_counters = *counters;
     *length = [bl];
@@ -82,10 +83,14 @@ pub fn step_into(
         let w' = walk_at ended.new counters.new offsets.new in
         let old = step_at w block_counters.old length.old block_offsets.old block_strides.old in
         let new = step_at w' block_counters.new length.new block_offsets.new block_strides.new in
-        Handed (stepped plan.now (walk_in w)) old new result }
+        SteppedInto (stepped plan.now (walk_in w)) old new result }
 {
-    let over = ended[0] != 0;
-    let some = answer_of(plan, over, counters, offsets)?;
+    let walk = LentWalk {
+        ended: ended[0] != 0,
+        counters: &*counters,
+        offsets: &*offsets,
+    };
+    let some = answer_of(plan, &walk)?;
     if some {
         block_into(
             plan,

@@ -1,31 +1,15 @@
 // A single step to the next block, on lent arrays. It keeps no block sizes and no tile starts beside the plan, as a walk of many blocks does
 // (crate advance): they are worked out for the axes that it looks at, mostly one or two.
-ghost use Rattle.std.specs.Prelude.{◌≡◌, ◌<◌, ◌≤◌, get_or};
-ghost use Rattle.advance.specs.Axis.{widths, start_of};
+ghost use Rattle.std.specs.Prelude.{◌≡◌, ◌≤◌};
 ghost use Rattle.advance.specs.Carry.{Roomy};
-ghost use Rattle.advance.specs.Blocks.{length_of};
 ghost use Rattle.walk.specs.Onward.{lone, inner_of, CarriesOn, AdvancesOn};
 
-use advance::{goal_of, shift, width_on};
+use advance::{goal_of, shift, tile_start, width_on};
 use layout::LentPlan;
 
-// Where the tile starts that a counter is in. Blocks of 1 and the first tile need no division.
-pub fn start_at(width: u64, at: u64) -> u64
-    requires { 0 < width }
-    ensures { result ≡ start_of width at }
-{
-    if width == 1 {
-        return at;
-    }
-    if at < width {
-        return 0;
-    }
-    at / width * width
-}
-
 // A carry along the axes from `first` to `last`, inside a tile or from tile to tile. Says whether an axis went ahead.
-// Kept: `inside`, as in advance's carry; and counters and offsets one by one, here and in advance_on, as C lends them: there are no tile starts
-// that would make them a state.
+// Kept: `inside` and no closure that tells the goal, as in advance's carry; and counters and offsets one by one, here and in advance_on, as C
+// lends them: there are no tile starts that would make them a state.
 fn carry_on(
     inside: bool,
     first: usize,
@@ -41,7 +25,7 @@ fn carry_on(
     for i in first..last {
         let at = c[i];
         let width = width_on(plan, i);
-        let goal = goal_of(inside, plan.extents[i], width, start_at(width, at), at);
+        let goal = goal_of(inside, plan.extents[i], width, tile_start(width, at), at);
         shift(plan, i, at, goal.to, &mut *o);
         c[i] = goal.to;
         if goal.more {
@@ -69,17 +53,4 @@ pub fn advance_on(plan: &LentPlan, c: &mut [u64; 64], o: &mut [i64; 8]) -> bool
     let rank = plan.rank;
     let inner = inner_of(rank);
     carry_on(true, 1, inner, plan, &mut *c, &mut *o) || carry_on(false, 0, rank, plan, c, o)
-}
-
-// The length of the block at the counters.
-pub fn length_on(plan: &LentPlan, c: &[u64; 64]) -> u64
-    requires { 0 < plan.now.rank → get_or c.now 0 0 < get_or plan.now.extents 0 0 }
-    ensures { result ≡ length_of plan.now (widths plan.now) c.now }
-{
-    if plan.rank == 0 {
-        return 1;
-    }
-    let size = width_on(plan, 0);
-    let left = plan.extents[0] - c[0];
-    size.min(left)
 }

@@ -3,7 +3,7 @@
 use mathlib.Core.Path.{◌≡◌, refl, sym, ap, ◌∙◌, subst}
 use mathlib.Core.Bool.{Bool, true, false, cond}
 use Prim.Native.Nat.{ℕ, suc, ◌+◌, ◌-◌, ◌*◌, ◌/◌, ◌≤◌, ◌<◌, min, max}
-use native.Mathlib.Nat.{div-add-mod', mod-lt, div-mul-le_self, div-eq_of_lt, suc-mul, le-div_iff_mul-le}
+use native.Mathlib.Nat.{div-add-mod', mod-lt, div-mul-le_self, suc-mul, le-div_iff_mul-le}
 use native.Mathlib.Omega.{arith}
 use lib.Dec.{ltb}
 use borrow.Author.Tests.{lt-ltb, le-ltb, ltb-true, eq-eqb, ne_eqb}
@@ -134,13 +134,8 @@ module _ (y : Way) (extent w s at : ℕ) (k : 0 < y.by → (0 < w) × (at < exte
         least : (a b : ℕ) → b ≤ a → min a b ≡ b
         least a b l = omega arith
 
-    pub told-one : y.inside ≡ false → extent - at < w → 1 ≡ left_in y extent w at
-    told-one i g = sym (left_tile y extent w at h i ∙ ap (max 1) (div-eq_of_lt g))
-
-    pub told-tiles : y.inside ≡ false → w ≤ extent - at → (extent - at) / w ≡ left_in y extent w at
-    told-tiles i g =
-        let x : 1 ≤ (extent - at) / w = (le-div_iff_mul-le (k h).0).1 (omega (arith, g)) in
-        sym (left_tile y extent w at h i ∙ most ((extent - at) / w) x)
+    pub told_tiles : y.inside ≡ false → {n : ℕ} → n ≡ max ((extent - at) / w) 1 → n ≡ left_in y extent w at
+    told_tiles i {n} e = e ∙ turned ((extent - at) / w) ∙ sym (left_tile y extent w at h i)
       where
-        most : (a : ℕ) → 1 ≤ a → max 1 a ≡ a
-        most a l = omega arith
+        turned : (a : ℕ) → max a 1 ≡ max 1 a
+        turned a = omega arith

@@ -12,10 +12,10 @@ use lib.ListN.{length, get_or, set}
 use lib.Seq.{get_or-set_same, get_or-set_other, set-set, set-get_or}
 use borrow.Author.Tests.{le-ltb, ltb-false, ne_eqb}
 use Rattle.advance.specs.Axis.{start_of, ahead, back, inside_goal, tile_goal, goal_of}
-use Rattle.advance.specs.Blocks.{length_of}
+use Rattle.advance.specs.Blocks.{length_by, length_of}
 use Rattle.advance.specs.Filled.{by_lt, filled_above}
 use Rattle.advance.specs.Moves.{shifted, moved_at}
-use Rattle.advance.specs.Carry.{Carried, carry_of, next_of, state_of, Roomy, Tiled, AdvancedTo}
+use Rattle.advance.specs.Carry.{Carried, carry_of, next_of, state_of, Roomy, Tiled, MovedTo, AdvancedTo}
 use Rattle.advance.proofs.Axis.{start_one, start_whole, start_on, start_tiles}
 use Rattle.advance.proofs.Dot.{roomy_shifts, roomy_moved, start_stays}
 use Rattle.advance.proofs.Turns.{tiled_set, passed, passed_single}
@@ -31,6 +31,31 @@ whole-goal : (extent w at : ℕ) → extent ≤ w → at < extent → at ≡ 0 �
 unfolding goal_of tile_goal
 whole-goal extent w at h l z =
     rw (start_whole w at (omega (arith, h, l)), le-ltb w (extent - 0) (omega (arith, h))) (ap back (sym z))
+
+-- ---- one move and another
+
+module _ {X Y : Carried} {P : Plan} {w : List ℕ} {at at₁ at₂ : State} {b more : Bool} where
+  -- one behind the other
+  pub then_moved : MovedTo X P w at b at₁ → MovedTo Y P w at₁ more at₂ → MovedTo Y P w at more at₂
+  then_moved m n = record {
+    answer = n.answer;
+    counters = n.counters;
+    roomy = n.roomy;
+    tiled = n.tiled;
+    starts = λ k p. n.starts k p ∙ m.starts k p;
+    others = λ k p. n.others k p ∙ m.others k p;
+  }
+
+  -- both from the same state: the second as it goes from where the first led
+  pub moved-from : MovedTo X P w at b at₁ → MovedTo Y P w at more at₂ → {Z : Carried} → Z ≡ Y → MovedTo Z P w at₁ more at₂
+  moved-from m n e = record {
+    answer = n.answer ∙ ap (λ (x : Carried). x.more) (sym e);
+    counters = n.counters ∙ ap (λ (x : Carried). x.counters) (sym e);
+    roomy = n.roomy;
+    tiled = n.tiled;
+    starts = λ k p. n.starts k p ∙ sym (m.starts k p);
+    others = λ k p. n.others k p ∙ sym (m.others k p);
+  }
 
 module _ (inside : Bool) (e w : List ℕ) where
   -- the first axis that moves goes ahead
@@ -52,15 +77,23 @@ full_length w left h = go (ltb w left) refl
     go true e = refl
     go false e = omega (arith, ltb-false w left e, h)
 
-module _ {y : Way} {P : Plan} {w : List ℕ} {at : State} (m : Strides y P w at) where
+-- a state on a course
+pub record Striding (y : Way) (p : Plan) (w : List ℕ) (at : State) : Type 0 where
+  pub leads : Leads y p w
+  pub strides : Strides p w at
+
+pub striding : {y : Way} {p : Plan} {w : List ℕ} {at : State} → Leads y p w → Strides p w at → Striding y p w at
+striding l k = record { leads = l; strides = k }
+
+module _ {y : Way} {P : Plan} {w : List ℕ} {at : State} (m : Striding y P w at) where
   abbrev l : Leads y P w
   l = m.leads
 
   abbrev r : Roomy P at
-  r = m.roomy
+  r = m.strides.roomy
 
   abbrev q : Tiled P w at
-  q = m.tiled
+  q = m.strides.tiled
 
   abbrev a : ℕ
   a = y.axis
@@ -81,21 +114,40 @@ module _ {y : Way} {P : Plan} {w : List ℕ} {at : State} (m : Strides y P w at)
   pub some_left : 0 < left_of y P w at.counters
   some_left = left_some y E Z A (λ h. ((left_asks h).0, (left_asks h).1))
 
-  pub long : y.axis < length at.counters
+  long : y.axis < length at.counters
   long = let x = r.counted in let z = l.small in omega (arith, x, z)
 
   -- from tile to tile: the axis stands where a tile starts
   pub stands : 0 < y.by → y.inside ≡ false → A ≡ start_of Z A
   stands h i =
       by_lt 0 a (λ p. sym (ap (λ (v : ℕ). start_of v A) (l.tile_still i h a p (l.there h)) ∙ start_one A))
-      (λ p. subst (λ (n : ℕ). get_or at.counters n 0 ≡ start_of (get_or w n 0) (get_or at.counters n 0)) (let z : 0 ≡ a = omega arith in z) (m.start (let z = l.there h in omega (arith, z))))
+      (λ p. subst (λ (n : ℕ). get_or at.counters n 0 ≡ start_of (get_or w n 0) (get_or at.counters n 0)) (let z : 0 ≡ a = omega arith in z) (m.strides.start (let z = l.there h in omega (arith, z))))
 
   module _ (h : 0 < y.by) where
     wide : 0 < Z
     wide = (left_asks h).0
 
-    pub inside_by : y.inside ≡ true → (j : ℕ) → j * y.by ≡ j
+    -- THE MOVE of the axis to v, in the tile that starts at s
+    pub axis-moved : (v s : ℕ) → v < E → s ≡ start_of Z v
+        → MovedTo (record { more = true; counters = set at.counters y.axis v }) P w at true (state_of (set at.tile_starts y.axis s) (set at.counters y.axis v) (shifted P y.axis A v at.offsets))
+    axis-moved v s b f = record {
+      answer = refl;
+      counters = refl;
+      roomy = roomy_moved P at r a v (l.there h) b (set at.tile_starts y.axis s);
+      tiled = tiled_set P w at r.counted r.axes q a v s (shifted P y.axis A v at.offsets) (l.there h) f;
+      starts = start_stays P at r a v (l.there h) b;
+      others = λ k p. filled_above at.offsets (moved_at a A v P.strides at.offsets) (pos 0) P.operands k p;
+    }
+
+    inside_by : y.inside ≡ true → (j : ℕ) → j * y.by ≡ j
     inside_by i j = ap (λ (x : ℕ). j * x) (l.inner_by i h) ∙ mul-one j
+
+    -- where the axis stands j blocks on
+    pub inside-at : (j : ℕ) → y.inside ≡ true → get_or (onward y at.counters j) y.axis 0 ≡ A + j
+    inside-at j i = get_or-set_same at.counters a (A + j * y.by) 0 long ∙ ap (λ (x : ℕ). A + x) (inside_by i j)
+
+    pub tile-at : (j : ℕ) → y.inside ≡ false → get_or (onward y at.counters j) y.axis 0 ≡ A + j * Z
+    tile-at j i = get_or-set_same at.counters a (A + j * y.by) 0 long ∙ ap (λ (v : ℕ). A + j * v) (l.tile_by i h)
 
     pub below : (j : ℕ) → j < left_of y P w at.counters → A + j * y.by < E
     below j g = go y.inside refl
@@ -121,23 +173,23 @@ module _ {y : Way} {P : Plan} {w : List ℕ} {at : State} (m : Strides y P w at)
             ap (λ (n : ℕ). A + n) x ∙ sym (ap (λ (n : ℕ). start_of Z (A + n)) x ∙ start_tiles Z A j wide (stands h i))
 
     goal-at : (j : ℕ) → suc j < left_of y P w at.counters → (b : Bool) → y.inside ≡ b
-        → goal_of b E Z (A + j * y.by) ≡ ahead (A + suc j * y.by) (cond b (start_of Z A) (A + suc j * y.by))
+        → goal_of b E Z (get_or (onward y at.counters j) y.axis 0) ≡ ahead (A + suc j * y.by) (cond b (start_of Z A) (A + suc j * y.by))
     unfolding goal_of
     goal-at j g true i =
         let z = left_inside y E Z A h i in
-        ap (λ (x : ℕ). inside_goal E Z (A + x)) (inside_by i j) ∙ inside_next E Z A j wide (subst (λ (n : ℕ). suc j < n) z g)
+        ap (inside_goal E Z) (inside-at j i) ∙ inside_next E Z A j wide (subst (λ (n : ℕ). suc j < n) z g)
         ∙ ap (λ (x : ℕ). ahead (A + x) (start_of Z A)) (sym (inside_by i (suc j)))
     goal-at j g false i =
         let z = left_tile y E Z A h i in
         let x = l.tile_by i h in
-        ap (λ (v : ℕ). tile_goal E Z (A + j * v)) x ∙ tile_next E Z A j wide (stands h i) (subst (λ (n : ℕ). suc j < n) z g)
+        ap (tile_goal E Z) (tile-at j i) ∙ tile_next E Z A j wide (stands h i) (subst (λ (n : ℕ). suc j < n) z g)
         ∙ ap (λ (v : ℕ). ahead (A + suc j * v) (A + suc j * v)) (sym x)
 
     other : (j i : ℕ) → (i ≡ a → ⊥) → get_or (onward y at.counters j) i 0 ≡ get_or at.counters i 0
     other j i n = get_or-set_other at.counters a i (A + j * y.by) 0 n
 
     -- inside a tile no axis before moves
-    pub still-axes : (j : ℕ) → y.inside ≡ true → carry_of true P.extents w (P.rank - 1) 1 (onward y at.counters j) ≡ carry_of true P.extents w (P.rank - y.axis) y.axis (onward y at.counters j)
+    still-axes : (j : ℕ) → y.inside ≡ true → carry_of true P.extents w (P.rank - 1) 1 (onward y at.counters j) ≡ carry_of true P.extents w (P.rank - y.axis) y.axis (onward y at.counters j)
     still-axes j i =
         let k = l.there h in
         let f = l.inner_axis i h in
@@ -147,6 +199,12 @@ module _ {y : Way} {P : Plan} {w : List ℕ} {at : State} (m : Strides y P w at)
         ∙ passed_single P.extents w (a - 1) (P.rank - a) 1 (onward y at.counters j) (λ n p u. l.inner-still i n p (let b : n < a = omega (arith, u, z) in b))
         ∙ ap (λ (n : ℕ). carry_of true P.extents w (P.rank - a) n (onward y at.counters j)) z
 
+    -- so that the axis goes, and those behind it
+    pub next_inside : (j : ℕ) → y.inside ≡ true → {X : Carried} → carry_of true P.extents w (P.rank - y.axis) y.axis (onward y at.counters j) ≡ X
+        → next_of P.rank P.extents w (onward y at.counters j) ≡ cond X.more X (carry_of false P.extents w (P.rank - 0) 0 X.counters)
+    unfolding next_of
+    next_inside j i f = ap (λ (b : Carried). cond b.more b (carry_of false P.extents w (P.rank - 0) 0 b.counters)) (still-axes j i ∙ f)
+
     at_zero : y.inside ≡ false → (n : ℕ) → n < a → get_or at.counters n 0 ≡ 0
     at_zero i n u =
         let k = l.there h in
@@ -154,7 +212,7 @@ module _ {y : Way} {P : Plan} {w : List ℕ} {at : State} (m : Strides y P w at)
         let b = r.within n (let z : n < P.rank = omega (arith, k, u) in z) in
         by_lt 0 n (λ p. let x = l.tile_still i h n p (let z : n < P.rank = omega (arith, k, u) in z) in omega (arith, f, b, x))
         (λ p. let z : 0 ≡ n = omega arith in
-        subst (λ (m : ℕ). get_or at.counters m 0 ≡ start_of (get_or w m 0) (get_or at.counters m 0)) z (m.start (let x : 0 < P.rank = omega (arith, k) in x)) ∙ start_whole (get_or w n 0) (get_or at.counters n 0) (omega (arith, f, b)))
+        subst (λ (m : ℕ). get_or at.counters m 0 ≡ start_of (get_or w m 0) (get_or at.counters m 0)) z (m.strides.start (let x : 0 < P.rank = omega (arith, k) in x)) ∙ start_whole (get_or w n 0) (get_or at.counters n 0) (omega (arith, f, b)))
 
     -- from tile to tile nothing moves inside the tile, and each axis before has one tile
     pub whole-axes : (j : ℕ) → y.inside ≡ false → next_of P.rank P.extents w (onward y at.counters j) ≡ carry_of false P.extents w (P.rank - y.axis) y.axis (onward y at.counters j)
@@ -191,36 +249,21 @@ module _ {y : Way} {P : Plan} {w : List ℕ} {at : State} (m : Strides y P w at)
 
       carried : (b : Bool) → y.inside ≡ b → carry_of b P.extents w (P.rank - a) a d ≡ goal
       carried b i =
-          let f : goal_of b E Z (get_or d a 0) ≡ ahead v (cond b (start_of Z A) v) = ap (goal_of b E Z) (get_or-set_same at.counters a (A + j * y.by) 0 long) ∙ goal-at j g b i in
           let k = l.there h in
-          goes b P.extents w (P.rank - a) a d v (cond b (start_of Z A) v) (omega (arith, k)) f
+          goes b P.extents w (P.rank - a) a d v (cond b (start_of Z A) v) (omega (arith, k)) (goal-at j g b i)
           ∙ ap (λ (x : List ℕ). record { more = true; counters = x }) (set-set at.counters a (A + j * y.by) v)
-
-      on_inside : y.inside ≡ true → next_of P.rank P.extents w d ≡ goal
-      unfolding next_of
-      on_inside i = ap (λ (b : Carried). cond b.more b (carry_of false P.extents w (P.rank - 0) 0 b.counters)) (still-axes j i ∙ carried true i)
-
-      on_tile : y.inside ≡ false → next_of P.rank P.extents w d ≡ goal
-      on_tile i = whole-axes j i ∙ carried false i
 
       next_on : next_of P.rank P.extents w d ≡ goal
       next_on = go y.inside refl
         where
           go : (b : Bool) → y.inside ≡ b → next_of P.rank P.extents w d ≡ goal
-          go true i = on_inside i
-          go false i = on_tile i
+          go true i = next_inside j i (carried true i)
+          go false i = whole-axes j i ∙ carried false i
 
     -- the move there
     pub moved_on_lem : (j : ℕ) → j < left_of y P w at.counters
         → OnTo y j P w at (state_of (set at.tile_starts y.axis (cond y.inside (start_of Z A) (A + j * y.by))) (onward y at.counters j) (shifted P y.axis A (A + j * y.by) at.offsets))
-    moved_on_lem j g = record {
-      answer = refl;
-      counters = refl;
-      roomy = roomy_moved P at r a (A + j * y.by) (l.there h) (below j g) (set at.tile_starts y.axis (cond y.inside (start_of Z A) (A + j * y.by)));
-      tiled = tiled_set P w at r.counted r.axes q a (A + j * y.by) (cond y.inside (start_of Z A) (A + j * y.by)) (shifted P y.axis A (A + j * y.by) at.offsets) (l.there h) (start_at_lem j g);
-      starts = start_stays P at r a (A + j * y.by) (l.there h) (below j g);
-      others = λ k p. filled_above at.offsets (moved_at a A (A + j * y.by) P.strides at.offsets) (pos 0) P.operands k p;
-    }
+    moved_on_lem j g = axis-moved (A + j * y.by) (cond y.inside (start_of Z A) (A + j * y.by)) (below j g) (start_at_lem j g)
 
   -- no move
   pub unmoved_on : OnTo y 0 P w at at
@@ -232,7 +275,6 @@ module _ {y : Way} {P : Plan} {w : List ℕ} {at : State} (m : Strides y P w at)
   -- what `go_steps` asks
   pub may_go : (j : ℕ) → j < left_of y P w at.counters → E < 2 ^ 64 → MayGo y j P at
   may_go j g f = record {
-    small = l.small;
     fits = λ p. let b = below (way_for j p g) j g in omega (arith, b, f);
     moves = λ p. let h = way_for j p g in roomy_shifts P at r a (A + j * y.by) (l.there h) (below h j g);
   }
@@ -259,15 +301,7 @@ module _ {y : Way} {P : Plan} {w : List ℕ} {at : State} (m : Strides y P w at)
   -- ONE BLOCK ON is one step of the walk
   pub on_step : (j : ℕ) → suc j < left_of y P w at.counters → {at₁ at₂ : State} → OnTo y j P w at at₁ → OnTo y (suc j) P w at at₂ → AdvancedTo P w at₁ true at₂
   on_step j g {at₁} m n =
-      let z : next_of P.rank P.extents w at₁.counters ≡ record { more = true; counters = onward y at.counters (suc j) } = ap (next_of P.rank P.extents w) m.counters ∙ next_on (way_for (suc j) (omega arith) g) j g in
-      record {
-        answer = ap (λ (b : Carried). b.more) (sym z);
-        counters = n.counters ∙ ap (λ (b : Carried). b.counters) (sym z);
-        roomy = n.roomy;
-        tiled = n.tiled;
-        starts = λ k p. n.starts k p ∙ sym (m.starts k p);
-        others = λ k p. n.others k p ∙ sym (m.others k p);
-      }
+      moved-from m n (ap (next_of P.rank P.extents w) m.counters ∙ next_on (way_for (suc j) (omega arith) g) j g)
 
   -- there is such a move for each block of the stretch
   pub record There (j : ℕ) : Type 0 where
@@ -283,7 +317,7 @@ module _ {y : Way} {P : Plan} {w : List ℕ} {at : State} (m : Strides y P w at)
 
   -- every block has the same length
   pub on_length : (j : ℕ) → j < left_of y P w at.counters → length_of P w (onward y at.counters j) ≡ length_of P w at.counters
-  unfolding length_of
+  unfolding length_by
   on_length zero g = ap (length_of P w) (on_none y at.counters)
   on_length (suc j) g =
       let h = way_for (suc j) (omega arith) g in
@@ -349,7 +383,7 @@ module _ {y : Way} {P : Plan} {w : List ℕ} {at : State} (m : Strides y P w at)
 
   -- what `stretch_here` asks
   pub may_tell : MayTell y P w at
-  may_tell = record { small = l.small; first = λ p. r.within 0 p; there = left_asks }
+  may_tell = record { first = λ p. r.within 0 p; there = left_asks }
 
 -- a stretch that was looked at, and that the walk went past, was handed out
 pub strode_of : {y : Way} {limit : ℕ} {P : Plan} {w : List ℕ} {at : State} {left len count : ℕ} → left ≡ left_of y P w at.counters → len ≡ length_of P w at.counters → count ≡ min limit left

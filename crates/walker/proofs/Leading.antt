@@ -22,7 +22,6 @@ use Rattle.walker.specs.Way.{Leads}
 pub moves_fit : {y : Way} {p : Plan} {w : List ℕ} {at : State} → Roomy p at → Leads y p w → Shifts p y.axis 0 y.by (replicate 8 (pos 0))
 unfolding after_move
 moves_fit {y} {p} {w} r l = record {
-  few = r.few;
   inside = l.small;
   offered = length-replicate {A = ℤ} 8 (pos 0);
   each = λ k h.

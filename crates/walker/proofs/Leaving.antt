@@ -7,22 +7,21 @@ use Prim.Native.Nat.{ℕ, zero, suc, ◌+◌, ◌-◌, ◌*◌, ◌≤◌, ◌<�
 use native.Mathlib.Nat.{div-mul-le_self}
 use native.Mathlib.Numerals.{add-one}
 use native.Mathlib.Omega.{arith}
-use lib.IntN.{ℤ, pos}
+use lib.IntN.{ℤ}
 use lib.ListN.{get_or, set}
-use lib.Seq.{get_or-set_same, set-set, set-get_or}
+use lib.Seq.{set-set, set-get_or}
 use Rattle.advance.specs.Axis.{start_of, back, inside_goal, tile_goal, goal_of}
-use Rattle.advance.specs.Filled.{filled_above}
-use Rattle.advance.specs.Moves.{Shifts, shifted, moved_at}
+use Rattle.advance.specs.Moves.{Shifts, shifted}
 use Rattle.advance.specs.Carry.{Carried, carry_of, next_of, state_of, Roomy, Tiled, MovedTo, CarriedTo, WentAhead}
 use Rattle.advance.proofs.Axis.{start_start, start_zero, start_tiles}
-use Rattle.advance.proofs.Dot.{roomy_shifts, roomy_moved, start_stays, unmoved_plan}
-use Rattle.advance.proofs.Turns.{tiled_set, inner_only}
+use Rattle.advance.proofs.Dot.{roomy_shifts, unmoved_plan}
+use Rattle.advance.proofs.Turns.{inner_only}
 use Rattle.strided.specs.declared.Plan.{Plan}
 use Rattle.advance.specs.declared.State.{State}
 use Rattle.walker.specs.declared.Way.{Way}
-use Rattle.walker.specs.Way.{Leads, left_of, onward, Strides, LeftFrom, AtEnd, Hopped}
+use Rattle.walker.specs.Way.{Leads, left_of, onward, LeftFrom, AtEnd, Hopped}
 use Rattle.walker.proofs.Ahead.{last_inside, last_tile, left_inside}
-use Rattle.walker.proofs.Going.{still-axes, whole-axes, left_asks, some_left, inside_by, stands, long, There, moved-there, passed_all}
+use Rattle.walker.proofs.Going.{Striding, then_moved, moved-from, axis-moved, inside-at, tile-at, next_inside, whole-axes, left_asks, some_left, stands, There, moved-there, passed_all}
 
 -- where the axis goes when its blocks are done: to the start of the tile, or of the first one
 abbrev home_of : Way → ℕ → ℕ → ℕ
@@ -37,15 +36,15 @@ turn_back b e w (suc m) i d v p a =
     let x : suc m - 1 ≡ m = omega arith in
     rw a (ap₂ (λ (n j : ℕ). carry_of b e w n j (set d i v)) (sym x) (sym (add-one i)))
 
-module _ {y : Way} {P : Plan} {w : List ℕ} {at : State} (m : Strides y P w at) (h : 0 < y.by) where
+module _ {y : Way} {P : Plan} {w : List ℕ} {at : State} (m : Striding y P w at) (h : 0 < y.by) where
   abbrev l : Leads y P w
   l = m.leads
 
   abbrev r : Roomy P at
-  r = m.roomy
+  r = m.strides.roomy
 
   abbrev q : Tiled P w at
-  q = m.tiled
+  q = m.strides.tiled
 
   abbrev a : ℕ
   a = y.axis
@@ -90,11 +89,8 @@ module _ {y : Way} {P : Plan} {w : List ℕ} {at : State} (m : Strides y P w at)
   abbrev at* : State
   at* = state_of (set at.tile_starts y.axis home) (set at.counters y.axis home) (shifted P y.axis A home at.offsets)
 
-  home_roomy : Roomy P at*
-  home_roomy = roomy_moved P at r a home (l.there h) home_below (set at.tile_starts y.axis home)
-
-  home_tiled : Tiled P w at*
-  home_tiled = tiled_set P w at r.counted r.axes q a home home (shifted P y.axis A home at.offsets) (l.there h) home_start
+  home-moved : MovedTo (record { more = true; counters = set at.counters y.axis home }) P w at true at*
+  home-moved = axis-moved m h home home home_below home_start
 
   module _ (g : AtEnd y E Z A) where
     goal_last : (b : Bool) → y.inside ≡ b → goal_of b E Z (get_or d a 0) ≡ back (cond b (start_of Z A) 0)
@@ -103,13 +99,11 @@ module _ {y : Way} {P : Plan} {w : List ℕ} {at : State} (m : Strides y P w at)
         let k = left_inside y E Z A h i in
         let p = some_left m in
         let f : n + 1 ≡ min (Z - (A - start_of Z A)) (E - A) = (let z : n + 1 ≡ left_of y P w at.counters = omega (arith, p) in z) ∙ k in
-        ap (inside_goal E Z) (get_or-set_same at.counters a (A + n * y.by) 0 (long m) ∙ ap (λ (x : ℕ). A + x) (inside_by m h i n))
-        ∙ last_inside E Z A n (left_asks m h).0 (left_asks m h).1 f
+        ap (inside_goal E Z) (inside-at m h n i) ∙ last_inside E Z A n (left_asks m h).0 (left_asks m h).1 f
     goal_last false i =
         let x : n * y.by ≡ n * Z = ap (λ (v : ℕ). n * v) (l.tile_by i h) in
         let z = start_tiles Z A n (left_asks m h).0 (stands m h i) in
-        ap (tile_goal E Z) (get_or-set_same at.counters a (A + n * y.by) 0 (long m) ∙ ap (λ (v : ℕ). A + v) x)
-        ∙ last_tile E Z (A + n * Z) (sym z) (subst (λ (v : ℕ). E - (A + v) ≤ Z) x (g i))
+        ap (tile_goal E Z) (tile-at m h n i) ∙ last_tile E Z (A + n * Z) (sym z) (subst (λ (v : ℕ). E - (A + v) ≤ Z) x (g i))
 
     back-home : (b : Bool) → y.inside ≡ b → carry_of b P.extents w (P.rank - a) a d ≡ carry_of b P.extents w (P.rank - (a + 1)) (a + 1) (set at.counters a (cond b (start_of Z A) 0))
     back-home b i =
@@ -117,15 +111,6 @@ module _ {y : Way} {P : Plan} {w : List ℕ} {at : State} (m : Strides y P w at)
         let x : P.rank - a - 1 ≡ P.rank - (a + 1) = omega arith in
         turn_back b P.extents w (P.rank - a) a d (cond b (start_of Z A) 0) (omega (arith, k)) (goal_last b i)
         ∙ ap₂ (λ (m : ℕ) (f : List ℕ). carry_of b P.extents w m (a + 1) f) x (set-set at.counters a (A + n * y.by) (cond b (start_of Z A) 0))
-
-    -- the block behind the last
-    next_inside : y.inside ≡ true → {X : Carried} → carry_of true P.extents w (P.rank - (a + 1)) (a + 1) (set at.counters a (start_of Z A)) ≡ X
-        → next_of P.rank P.extents w d ≡ cond X.more X (carry_of false P.extents w (P.rank - 0) 0 X.counters)
-    unfolding next_of
-    next_inside i {X} f = ap (λ (b : Carried). cond b.more b (carry_of false P.extents w (P.rank - 0) 0 b.counters)) (still-axes m h n i ∙ back-home true i ∙ f)
-
-    next_tile_lem : y.inside ≡ false → next_of P.rank P.extents w d ≡ carry_of false P.extents w (P.rank - (a + 1)) (a + 1) (set at.counters a 0)
-    next_tile_lem i = whole-axes m h n i ∙ back-home false i
 
     -- the moves that lead there from home lead there from the last block
     there : There m n
@@ -141,14 +126,7 @@ module _ {y : Way} {P : Plan} {w : List ℕ} {at : State} (m : Strides y P w at)
     left-from f m = record {
       there = there.stands;
       last = there.moved;
-      then = record {
-        answer = m.answer ∙ ap (λ (b : Carried). b.more) (sym (next-there f));
-        counters = m.counters ∙ ap (λ (b : Carried). b.counters) (sym (next-there f));
-        roomy = m.roomy;
-        tiled = m.tiled;
-        starts = λ k p. m.starts k p ∙ start_stays P at r a home (l.there h) home_below k p ∙ sym (there.moved.starts k p);
-        others = λ k p. m.others k p ∙ filled_above at.offsets (moved_at a A home P.strides at.offsets) (pos 0) P.operands k p ∙ sym (there.moved.others k p);
-      };
+      then = moved-from there.moved (then_moved home-moved m) (next-there f);
     }
 
     -- an axis behind went ahead inside the tile; or none did, and the tiles carry on
@@ -171,27 +149,19 @@ module _ {y : Way} {P : Plan} {w : List ℕ} {at : State} (m : Strides y P w at)
           ∙ ap (λ (v : ℕ). carry_of true P.extents w v (a + 1) at*.counters) z)
 
       next_is : {b : Bool} → m₁ ≡ b → next_of P.rank P.extents w d ≡ cond b X (carry_of false P.extents w (P.rank - 0) 0 X.counters)
-      next_is g = next_inside i all ∙ ap (λ (b : Bool). cond b X (carry_of false P.extents w (P.rank - 0) 0 X.counters)) (sym f.answer ∙ g)
+      next_is g = next_inside m h n i (back-home true i ∙ all) ∙ ap (λ (b : Bool). cond b X (carry_of false P.extents w (P.rank - 0) 0 X.counters)) (sym f.answer ∙ g)
 
       leaves_inside : m₁ ≡ true → LeftFrom y n P w at true at₁
       leaves_inside g = left-from (next_is g) (subst (λ (b : Bool). MovedTo X P w at* b at₁) g f)
 
       leaves_tile : m₁ ≡ false → {m₂ : Bool} {at₂ : State} → CarriedTo false 0 P.rank P w at₁ m₂ at₂ → LeftFrom y n P w at m₂ at₂
       leaves_tile g v =
-          left-from (next_is g ∙ ap (carry_of false P.extents w (P.rank - 0) 0) (sym f.counters))
-          (record {
-            answer = v.answer;
-            counters = v.counters;
-            roomy = v.roomy;
-            tiled = v.tiled;
-            starts = λ k p. v.starts k p ∙ f.starts k p;
-            others = λ k p. v.others k p ∙ f.others k p;
-          })
+          left-from (next_is g ∙ ap (carry_of false P.extents w (P.rank - 0) 0) (sym f.counters)) (then_moved f v)
 
     -- the tiles of the axes behind carry on
     leaves-whole : y.inside ≡ false → {more : Bool} {at' : State} → CarriedTo false (y.axis + 1) P.rank P w at* more at' → LeftFrom y n P w at more at'
-    leaves-whole i m =
-        left-from (next_tile_lem i ∙ ap (λ (v : ℕ). carry_of false P.extents w (P.rank - (a + 1)) (a + 1) (set at.counters a v)) (sym (ap (λ (b : Bool). cond b (start_of Z A) 0) i))) m
+    leaves-whole i f =
+        left-from (whole-axes m h n i ∙ back-home false i ∙ ap (λ (v : ℕ). carry_of false P.extents w (P.rank - (a + 1)) (a + 1) (set at.counters a v)) (sym (ap (λ (b : Bool). cond b (start_of Z A) 0) i))) f
 
   -- as the code has it: x is home, and so on
   module _ {x : ℕ} (x-is : x ≡ home) where
@@ -207,10 +177,10 @@ module _ {y : Way} {P : Plan} {w : List ℕ} {at : State} (m : Strides y P w at)
       home-here = λ i. state_of (sym (u-is ∙ ap (set at.tile_starts y.axis) x-is) i) (set at.counters y.axis (sym x-is i)) (sym (f-is ∙ ap (λ (v : ℕ). shifted P y.axis A v at.offsets) x-is) i)
 
       pub roomy_there : Roomy P here
-      roomy_there = subst (Roomy P) home-here home_roomy
+      roomy_there = subst (Roomy P) home-here home-moved.roomy
 
       pub tiled_there : Tiled P w here
-      tiled_there = subst (Tiled P w) home-here home_tiled
+      tiled_there = subst (Tiled P w) home-here home-moved.tiled
 
       module _ (g : AtEnd y E Z A) where
         module _ (i : y.inside ≡ true) {m₁ : Bool} {at₁ : State} (k : CarriedTo true (y.axis + 1) y.inner P w here m₁ at₁) where
@@ -240,14 +210,12 @@ module _ {y : Way} {P : Plan} {w : List ℕ} {at : State} (m : Strides y P w at)
   pub left-ahead : y.inside ≡ true → get_or at.counters y.axis 0 ≡ get_or at.tile_starts y.axis 0 → y.axis + 1 < y.inner
       → {b : Bool} {at' : State} → WentAhead (y.axis + 1) P w at b at' → b ≡ true → LeftFrom y n P w at true at'
   left-ahead i z g {b} {at'} f h =
-      let few = m.roomy.few in
-      let eight = m.roomy.offered in
       let same : set at.counters y.axis (get_or at.tile_starts y.axis 0) ≡ at.counters = ap (set at.counters y.axis) (sym z) ∙ set-get_or at.counters y.axis 0 in
       let k : CarriedTo true (y.axis + 1) y.inner P w (state_of at.tile_starts (set at.counters y.axis (get_or at.tile_starts y.axis 0)) at.offsets) true at' =
       subst (λ (v : List ℕ). CarriedTo true (y.axis + 1) y.inner P w (state_of at.tile_starts v at.offsets) true at') (sym same) (f.ahead h y.inner g l.single.most) in
-      left_inside_at (home_tile i) start_same (unmoved_plan P y.axis A (get_or at.tile_starts y.axis 0) at.offsets (omega (arith, few, eight)) z) (λ v. absurd (false≢true (sym v ∙ i))) i k refl
+      left_inside_at (home_tile i) start_same (unmoved_plan P y.axis A (get_or at.tile_starts y.axis 0) at.offsets z) (λ v. absurd (false≢true (sym v ∙ i))) i k refl
 
 -- what `hop` leaves, by the way it went
-pub hopped : {y : Way} {limit : ℕ} {P : Plan} {w : List ℕ} {at : State} (m : Strides y P w at) {left : ℕ} → left ≡ left_of y P w at.counters → 0 < y.by → y.inside ≡ true → left ≤ limit
+pub hopped : {y : Way} {limit : ℕ} {P : Plan} {w : List ℕ} {at : State} (m : Striding y P w at) {left : ℕ} → left ≡ left_of y P w at.counters → 0 < y.by → y.inside ≡ true → left ≤ limit
     → get_or at.counters y.axis 0 ≡ get_or at.tile_starts y.axis 0 → y.axis + 1 < y.inner → {b : Bool} {at' : State} → WentAhead (y.axis + 1) P w at b at' → Hopped y limit P w at b at'
 hopped {limit = limit} m a h i g z k f = record { past = λ b. passed_all m a limit g (left-ahead m h i z k f b); kept = f.kept }

@@ -41,8 +41,8 @@ use Rattle.walk.proofs.Stepping.{running, taken_after, roomy_here, start_here, h
 use Rattle.walker.specs.declared.Way.{Way}
 use Rattle.walker.specs.declared.Next.{Next}
 use Rattle.walker.specs.Stretch.{moved_on, block_in, told, length_handed, stretch_at}
-use Rattle.walker.specs.Way.{Leads, left_of, moves_of, OnTo, Strides, Strode}
-use Rattle.walker.proofs.Going.{below, some_left, moved_on_lem, unmoved_on, way_for, on_none, on_step, on_length, moved-there}
+use Rattle.walker.specs.Way.{Leads, left_of, moves_of, OnTo, Strode}
+use Rattle.walker.proofs.Going.{Striding, below, some_left, moved_on_lem, unmoved_on, way_for, on_none, on_step, on_length, moved-there}
 use Rattle.walker.proofs.Rows.{moved_list}
 
 -- ---- offsets
@@ -59,16 +59,16 @@ moves_at_once o s from by j =
 pub moves_long : (y : Way) (P : Plan) → length (moves_of y P) ≡ 8
 moves_long y P = filled_length (replicate 8 (pos 0)) (moved_at y.axis 0 y.by P.strides (replicate 8 (pos 0))) P.operands ∙ length-replicate {A = ℤ} 8 (pos 0)
 
-module _ {y : Way} {P : Plan} {w : List ℕ} {at : State} (m : Strides y P w at) where
+module _ {y : Way} {P : Plan} {w : List ℕ} {at : State} (m : Striding y P w at) where
   abbrev D : List ℤ
   D = moves_of y P
 
   abbrev few : P.operands ≤ 8
-  few = m.roomy.few
+  few = m.strides.roomy.few
 
   -- a move tells its offsets
   same_offsets : (j : ℕ) {at₁ at₂ : State} → OnTo y j P w at at₁ → OnTo y j P w at at₂ → at₁.offsets ≡ at₂.offsets
-  same_offsets j a b = moved_offsets m.roomy a ∙ sym (moved_offsets m.roomy b)
+  same_offsets j a b = moved_offsets m.strides.roomy a ∙ sym (moved_offsets m.strides.roomy b)
 
   move_is : (k : ℕ) → k < P.operands → get_or D k (pos 0) ≡ after_move (pos 0) (get_or P.strides (k * 64 + y.axis) (pos 0)) 0 y.by
   move_is k h =
@@ -88,7 +88,7 @@ module _ {y : Way} {P : Plan} {w : List ℕ} {at : State} (m : Strides y P w at)
       let small : j * y.by * nat_abs v < 2 ^ 63 =
       by_lt 0 j
       (λ p. let way = way_for m j p g in
-      lt_of_le_of_lt (mul-le-mul_right (nat_abs v) (let f = below m way j g in let z : j * y.by ≤ get_or P.extents y.axis 0 - 1 = omega (arith, f) in z)) (m.roomy.span k y.axis h (m.leads.there way)))
+      lt_of_le_of_lt (mul-le-mul_right (nat_abs v) (let f = below m way j g in let z : j * y.by ≤ get_or P.extents y.axis 0 - 1 = omega (arith, f) in z)) (m.strides.roomy.span k y.axis h (m.leads.there way)))
       (λ p. subst (λ (n : ℕ). n * y.by * nat_abs v < 2 ^ 63) (let z : 0 ≡ j = omega (arith, p) in z) (subst (λ (n : ℕ). n < 2 ^ 63) (sym (ap (λ (n : ℕ). n * nat_abs v) (zero-mul y.by) ∙ zero-mul (nat_abs v))) (omega arith))) in
       subst (SFits w64) (sym b) (record { sfits = lt_of_le_of_lt (signed.mag_mul (j * y.by) v) small })
 
@@ -99,7 +99,7 @@ module _ {y : Way} {P : Plan} {w : List ℕ} {at : State} (m : Strides y P w at)
         goes : 0 < j → get_or at₁.offsets k (pos 0) ≡ get_or at.offsets k (pos 0) +ℤ pos j *ℤ get_or D k (pos 0)
         goes p =
             let f = few in
-            let x = m.roomy.offered in
+            let x = m.strides.roomy.offered in
             let u : at₁.offsets ≡ shifted P y.axis (get_or at.counters y.axis 0) (get_or at.counters y.axis 0 + j * y.by) at.offsets = same_offsets j n (moved_on_lem m (way_for m j p g) j g) in
             ap (λ (z : List ℤ). get_or z k (pos 0)) u
             ∙ filled_at at.offsets (moved_at y.axis (get_or at.counters y.axis 0) (get_or at.counters y.axis 0 + j * y.by) P.strides at.offsets) (pos 0) P.operands k h (omega (arith, x, f))
@@ -117,7 +117,7 @@ module _ {y : Way} {P : Plan} {w : List ℕ} {at : State} (m : Strides y P w at)
     on_offsets : take P.operands at₁.offsets ≡ moved_on j (take P.operands at.offsets) (take P.operands D)
     on_offsets =
         let f = few in
-        let x = m.roomy.offered in
+        let x = m.strides.roomy.offered in
         let x₁ = n.roomy.offered in
         let l = moves_long y P in
         let a : length (take P.operands at.offsets) ≡ P.operands = length-take-le P.operands at.offsets (omega (arith, x, f)) in
@@ -143,12 +143,10 @@ module _ {p : Plan} {y : Way} {w t : List ℕ} {u : Walk} (a : At p y w t u) whe
   abbrev from : State
   from = state_of t u.counters u.offsets
 
-  pub asks : Strides y p w from
+  pub asks : Striding y p w from
   asks = record {
     leads = a.leads;
-    roomy = roomy_here p u a.taken a.runs t;
-    tiled = a.tiles;
-    start = start_here p u a.taken a.runs w a.widths-are;
+    strides = record { roomy = roomy_here p u a.taken a.runs t; tiled = a.tiles; start = start_here p u a.taken a.runs w a.widths-are };
   }
 
   abbrev left : ℕ

@@ -4,7 +4,7 @@
 use mathlib.Core.Path.{◌≡◌, refl, sym, ap, ap₂, ◌∙◌, subst}
 use mathlib.Core.Bool.{Bool, true, false, not}
 use mathlib.Core.List.{List, [], ◌++◌, map, append-nil}
-use Prim.Native.Nat.{ℕ, ◌+◌, ◌≤◌, ◌<◌}
+use Prim.Native.Nat.{ℕ, ◌+◌, ◌-◌, ◌^◌, ◌≤◌, ◌<◌}
 use native.Mathlib.Omega.{arith}
 use lib.IntN.{ℤ, pos, ◌+ℤ◌, ◌*ℤ◌}
 use lib.ListN.{length, get_or, take, drop, replicate, length-append, length-map, length-take}
@@ -18,7 +18,8 @@ use Rattle.strided.specs.declared.Walk.{Walk}
 use Rattle.strided.specs.declared.Block.{Block}
 use Rattle.laws.specs.Walk.Bulk.{walk_more, blocks_more}
 use Rattle.laws.specs.Walk.Placed.{Placed, placed_of, placed_walk, placed_part, placed-next, placed-over}
-use Rattle.laws.specs.Walk.Steps.{Ready}
+use Rattle.laws.specs.Text.Totals.{begun_placed}
+use Rattle.laws.specs.Walk.Steps.{Ready, none_of}
 use Rattle.advance.specs.Axis.{widths, starts_to}
 use Rattle.advance.specs.declared.State.{State}
 use Rattle.advance.specs.Carry.{state_of, Tiled}
@@ -26,6 +27,7 @@ use Rattle.advance.specs.Moves.{Shifts}
 use Rattle.strided.specs.Memory.{walk_of}
 use Rattle.walk.specs.Lent.{Taken}
 use Rattle.walk.proofs.Stepping.{operands_few, tiled_here, roomy_here, ended_none}
+use Rattle.walker.specs.declared.Course.{Course}
 use Rattle.walker.specs.declared.Way.{Way}
 use Rattle.walker.specs.declared.Next.{Next}
 use Rattle.walker.specs.Stretch.{Stretch, block_in, laid, told, RowsFit, stretch_at}
@@ -33,7 +35,15 @@ use Rattle.walker.specs.Way.{Leads, left_of, moves_of, Strides, MayTell, Strode}
 use Rattle.walker.proofs.Going.{may_tell}
 use Rattle.walker.proofs.Leading.{moves_fit}
 use Rattle.walker.proofs.Stretching.{At, Stands, asks, some_here, fits_on, steps_fit, moves_long, strode_stands, strode_stretch}
-use Rattle.strided.specs.Begin.{started}
+use Rattle.strided.specs.Begin.{begin_refused, started}
+
+-- of a course that was made of the plan p
+module _ (x : Course) {p : Plan} (e : x.plan.now ≡ p) where
+  pub course_acts : x.widths ≡ widths p
+  course_acts = subst (λ (q : Plan). x.widths ≡ widths q) e x.acting
+
+  pub course_leads : Leads x.way p x.widths
+  course_leads = subst (λ (q : Plan). Leads x.way q x.widths) e x.leads
 
 -- n blocks of the walk from u on are done: where it stands
 pub record Walked (p : Plan) (u : Walk) (y : Way) (w : List ℕ) (n : ℕ) (more : Bool) (at : State) : Type 0 where
@@ -69,12 +79,12 @@ module _ {p : Plan} {u : Walk} {y : Way} {w : List ℕ} {n : ℕ} {at : State} (
   a = record { widths-are = k.widths-are; leads = k.leads; tiles = k.tiles; taken = k.taken; runs = refl }
 
   -- what `take_stretch` asks
-  pub walked_asks : Strides y p w at
-  walked_asks = asks a
+  pub walked_asks : Strides p w at
+  walked_asks = (asks a).strides
 
   -- what `stretch_here` asks
   pub walked_tells : MayTell y p w at
-  walked_tells = may_tell walked_asks
+  walked_tells = may_tell (asks a)
 
   -- the stretch has a block
   pub walked_left : 1 ≤ left_of y p w at.counters
@@ -159,3 +169,35 @@ module _ {p : Plan} {u : Walk} {y : Way} {w : List ℕ} {n : ℕ} {at : State} (
 
   pub walked_over : {zs : List ℤ} → Ready p zs → u ≡ (started p zs) → drop n (placed_walk p zs) ≡ []
   walked_over {zs} q b = placed-over p zs q n (ap (λ (v : Walk). (walk_after p n v).ended) (sym b) ∙ ap (λ (v : Walk). v.ended) (sym k.state))
+
+-- ---- a loop over the stretches of a walk from the starts zs
+
+pub record Walking (p : Plan) (zs : List ℤ) (y : Way) (w : List ℕ) (n : ℕ) (more : Bool) (at : State) : Type 0 where
+  pub ready : Ready p zs
+  pub first : Walk
+  pub begins : first ≡ started p zs
+  pub walked : Walked p first y w n more at
+
+-- while it runs, a stretch of it
+module _ {p : Plan} {zs : List ℤ} {y : Way} {w : List ℕ} {n : ℕ} {at : State} (k : Walking p zs y w n true at)
+    {limit : ℕ} {r : Next} {first : List ℤ} {at' : State} (x : Strode y limit p w at r first at') where
+  pub walking_next : Walking p zs y w (n + r.count) r.more at'
+  walking_next = record { ready = k.ready; first = k.first; begins = k.begins; walked = walked_next k.walked x }
+
+  -- its blocks are the plan's next
+  pub walking_part : {d : List ℤ} → d ≡ moves_of y p → drop n (placed_walk p zs) ≡ laid (told p.operands r first d) ++ drop (n + r.count) (placed_walk p zs)
+  walking_part e = walked_part k.walked x e k.ready k.begins
+
+  within : n + r.count ≤ length (placed_walk p zs)
+  within = walked_within (walked_next k.walked x) k.ready k.begins
+
+  -- so that their number fits, and fewer are left
+  pub walking_number : n + r.count < 2 ^ 64
+  walking_number = let a = within in let b = begun_placed p zs (none_of (begin_refused p zs) k.ready.may) in omega (arith, a, b)
+
+  pub walking_less : 1 ≤ limit → length (placed_walk p zs) - (n + r.count) < length (placed_walk p zs) - n
+  walking_less h = let a = within in let b = walked_some k.walked x h in omega (arith, a, b)
+
+-- at its end no block of the plan is left
+pub walking_over : {p : Plan} {zs : List ℤ} {y : Way} {w : List ℕ} {n : ℕ} {at : State} → Walking p zs y w n false at → drop n (placed_walk p zs) ≡ []
+walking_over k = walked_over k.walked k.ready k.begins

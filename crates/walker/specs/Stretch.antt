@@ -42,6 +42,7 @@ abbrev pub told : ℕ → Next → List ℤ → List ℤ → Stretch
 told operands r first d = record { offsets = take operands first; length = r.length; count = r.count; moves = take operands d }
 
 -- the offsets of n blocks, from those in `o` on, stay within 64 bits
+-- Kept: few, which a lent plan's invariant says too. The laws on rows (proofs/Rows, bulk/proofs/Laying) are on a number of operands, with no plan.
 pub record RowsFit (n operands : ℕ) (d o : List ℤ) : Type 0 where
   pub few : operands ≤ 8
   pub moves : length d ≡ 8

@@ -1,9 +1,9 @@
 -- The way that stretches go, along one axis, the quickest that moves alone; and what going it asks of the arrays and leaves.
 -- Assumes nothing.
-use Rattle.std.specs.Prelude.{◌≡◌, Bool, true, false, cond, List, ℕ, ◌+◌, ◌-◌, ◌*◌, ◌/◌, ◌^◌, ◌≤◌, ◌<◌, min, max, eqb, ℤ, pos, ◌+ℤ◌, length, get_or, set, replicate}
+use Rattle.std.specs.Prelude.{◌≡◌, Bool, true, false, cond, List, ℕ, ◌+◌, ◌-◌, ◌*◌, ◌/◌, ◌^◌, ◌≤◌, ◌<◌, min, max, eqb, ℤ, pos, ◌+ℤ◌, Option, Some, None, length, get_or, set, replicate}
 use Rattle.std.specs.Int.{w64}
 use Rattle.std.proofs.Common.{SFits}
-use Rattle.advance.specs.Axis.{start_of}
+use Rattle.advance.specs.Axis.{widths, start_of}
 use Rattle.advance.specs.Blocks.{length_of}
 use Rattle.advance.specs.Carry.{Roomy, Tiled, Single, MovedTo, AdvancedTo}
 use Rattle.advance.specs.Filled.{filled_to}
@@ -12,6 +12,15 @@ use Rattle.strided.specs.declared.Plan.{Plan}
 use Rattle.advance.specs.declared.State.{State}
 use Rattle.walker.specs.declared.Way.{Way}
 use Rattle.walker.specs.declared.Next.{Next}
+
+-- the first axis from 1 on whose blocks are not 1, if there is one
+abbrev pub FirstCut : Plan → List ℕ → Option ℕ → Type 0
+FirstCut p w (Some i) = (1 ≤ i) × (i < p.rank) × ((j : ℕ) → 1 ≤ j → j < i → get_or w j 0 ≡ 1)
+FirstCut p w None = (j : ℕ) → 1 ≤ j → j < p.rank → get_or w j 0 ≡ 1
+
+-- the block sizes are a plan's, as they act
+abbrev pub Acting : List ℕ → Plan → Type 0
+Acting w p = w ≡ widths p
 
 -- WHERE A WAY LEADS: `by` further on the axis is the next block, as long as the axis goes ahead. It is 0 if there is no such axis.
 -- Inside a tile: no axis before it moves there. From tile to tile: nothing moves inside a tile, and each axis before it has one tile.
@@ -55,7 +64,6 @@ OnTo y j p w at = MovedTo (record { more = true; counters = onward y at.counters
 
 -- what going on by so many blocks asks
 pub record MayGo (y : Way) (steps : ℕ) (p : Plan) (at : State) : Type 0 where
-  pub small : y.axis < 64
   pub fits : 0 < steps → get_or at.counters y.axis 0 + steps * y.by < 2 ^ 64
   pub moves : 0 < steps → Shifts p y.axis (get_or at.counters y.axis 0) (get_or at.counters y.axis 0 + steps * y.by) at.offsets
 
@@ -67,9 +75,8 @@ pub record Gone (y : Way) (steps : ℕ) (p : Plan) (at at' : State) : Type 0 whe
 
 -- ---- a stretch
 
--- what handing one out asks. Axis 0 stands where a tile starts
-pub record Strides (y : Way) (p : Plan) (w : List ℕ) (at : State) : Type 0 where
-  pub leads : Leads y p w
+-- what handing one out asks of the state. Axis 0 stands where a tile starts
+pub record Strides (p : Plan) (w : List ℕ) (at : State) : Type 0 where
   pub roomy : Roomy p at
   pub tiled : Tiled p w at
   pub start : 0 < p.rank → get_or at.counters 0 0 ≡ start_of (get_or w 0 0) (get_or at.counters 0 0)
@@ -85,7 +92,6 @@ Leaves y p w at = LeftFrom y (left_of y p w at.counters - 1) p w at
 
 -- what looking at a stretch asks
 pub record MayTell (y : Way) (p : Plan) (w : List ℕ) (at : State) : Type 0 where
-  pub small : y.axis < 64
   pub first : 0 < p.rank → get_or at.counters 0 0 < get_or p.extents 0 0
   pub there : 0 < y.by
       → (0 < get_or w y.axis 0) × (get_or at.counters y.axis 0 < get_or p.extents y.axis 0) × (get_or at.tile_starts y.axis 0 ≡ start_of (get_or w y.axis 0) (get_or at.counters y.axis 0))

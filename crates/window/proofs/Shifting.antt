@@ -11,42 +11,37 @@ use Rattle.strided.specs.Base.{padded, run}
 use Rattle.strided.specs.Layout.{has_zero, stride_row, max_i}
 use Rattle.laws.specs.Base.Filling.{rows_alike}
 use Rattle.laws.specs.Base.Stores.{blank-first}
-use Rattle.laws.specs.Refusals.Zeros.{no_zero_of}
+use Rattle.laws.specs.Refusals.Zeros.{no_zero_of, no_zero_test}
 use Rattle.window.specs.Window.{window_shifts}
-use Rattle.window.specs.Indices.{spread, spread-reach}
-use Rattle.window.specs.Layouts.{WindowTaken, parent_zero}
-use Rattle.window.specs.Counted.{Counted, sum_at}
+use Rattle.window.specs.Indices.{spread, spread-reach, parent_nozero}
+use Rattle.window.specs.Layouts.{WindowTaken}
+use Rattle.window.specs.declared.selection.Selection.{Selection}
+use Rattle.window.specs.Selected.{new_shifts, sum_at}
 
-module _ (fs ns : List ℕ) (ss : List ℤ) (operands : ℕ) where
+module _ (s : Selection) where
   -- operand k's shift, where b says whether a count is 0
   abbrev shift_by : Bool → ℕ → ℤ
-  shift_by b k = cond b (pos 0) (sum_at fs ss k)
+  shift_by b k = cond b (pos 0) (sum_at s k)
 
-  pub shifts_none : has_zero ns ≡ true → operands ≤ 8 → (D : List ℤ) → D ≡ replicate 8 (pos 0) → D ≡ padded 8 (pos 0) (window_shifts fs ns ss (length fs) operands)
-  unfolding window_shifts
-  shifts_none z h D e =
-      e ∙ blank-first (pos 0) 8 operands h ∙ ap (padded 8 (pos 0)) (sym (rows_alike (pos 0) 0 operands))
-      ∙ ap (λ (b : Bool). padded 8 (pos 0) (map (shift_by b) (run 0 operands))) (sym z)
+  abbrev shifts_by : Bool → List ℤ
+  shifts_by b = padded 8 (pos 0) (map (shift_by b) (run 0 s.layout.operands))
 
-  pub shifts_some : has_zero ns ≡ false → (D : List ℤ) → D ≡ padded 8 (pos 0) (map (sum_at fs ss) (run 0 operands))
-      → D ≡ padded 8 (pos 0) (window_shifts fs ns ss (length fs) operands)
+  pub shifts_none : has_zero s.picks.counts.now ≡ true → (D : List ℤ) → D ≡ replicate 8 (pos 0) → D ≡ padded 8 (pos 0) (new_shifts s)
   unfolding window_shifts
-  shifts_some z D e = e ∙ ap (λ (b : Bool). padded 8 (pos 0) (map (shift_by b) (run 0 operands))) (sym z)
+  shifts_none z D e =
+      e ∙ blank-first (pos 0) 8 s.layout.operands s.layout.fits.operands_few ∙ ap (padded 8 (pos 0)) (sym (rows_alike (pos 0) 0 s.layout.operands)) ∙ ap shifts_by (sym z)
+
+  pub shifts_some : has_zero s.picks.counts.now ≡ false → (D : List ℤ) → D ≡ padded 8 (pos 0) (map (sum_at s) (run 0 s.layout.operands)) → D ≡ padded 8 (pos 0) (new_shifts s)
+  unfolding window_shifts
+  shifts_some z D e = e ∙ ap shifts_by (sym z)
 
 -- ---- of a window that is not refused
 
-module _ (es sizes : List ℕ) (ss : List ℤ) (fs ns : List ℕ) (st : List ℤ) (w : WindowTaken es sizes ss fs ns st) where
-  pub taken_counted : Counted (length es) (length sizes) ns st ss
-  taken_counted = record { counts = w.counts; steps = w.steps; strides = w.strides }
-
+module _ (es : List ℕ) (operands : ℕ) (ss : List ℤ) (fs ns : List ℕ) (st : List ℤ) (w : WindowTaken es operands ss fs ns st) where
   pub taken_counts : length ns ≤ 64
   taken_counts = subst (λ (n : ℕ). n ≤ 64) (sym w.counts) w.axes
 
   -- no sum leaves 64 bits
-  pub taken_spread : has_zero ns ≡ false → (k : ℕ) → k < length sizes → spread fs (stride_row ss (length fs) k) ≤ max_i
+  pub taken_spread : has_zero ns ≡ false → (k : ℕ) → k < operands → spread fs (stride_row ss (length es) k) ≤ max_i
   taken_spread q k h =
-      subst (λ (n : ℕ). spread fs (stride_row ss n k) ≤ max_i) (sym w.firsts)
-      (le_trans (spread-reach w.lies (no_zero_of ns q) (stride_row ss (length es) k)) (w.near (parent_zero es sizes ss fs ns st w q) k h))
-
-  pub taken_shifts : (D : List ℤ) → D ≡ padded 8 (pos 0) (window_shifts fs ns ss (length fs) (length sizes)) → D ≡ padded 8 (pos 0) (window_shifts fs ns ss (length es) (length sizes))
-  taken_shifts D e = e ∙ ap (λ (n : ℕ). padded 8 (pos 0) (window_shifts fs ns ss n (length sizes))) w.firsts
+      le_trans (spread-reach w.lies (no_zero_of ns q) (stride_row ss (length es) k)) (w.near (no_zero_test es (parent_nozero w.lies (no_zero_of ns q))) k h)

@@ -1,10 +1,11 @@
 -- ALL AXES OF A WINDOW: its indices lie in the parent, no two name the same parent index, and offsets agree with the shift; it has no more
 -- cells and no more reach than the parent. Assumes nothing.
 use Rattle.std.specs.Prelude.{◌≡◌, refl, false, List, [], ◌∷◌, ℕ, zero, suc, ◌+◌, ◌*◌, ◌≤◌, ◌<◌, ℤ, pos, nat_abs, ◌+ℤ◌, ◌*ℤ◌, length, get_or}
-use Rattle.std.proofs.Common.{ap₂, ◌∙◌, mul-le-mul_left, mul-le-mul_right, le_trans, arith}
+use Rattle.std.proofs.Common.{ap, ap₂, ◌∙◌, mul-le-mul_left, mul-le-mul_right, le_trans, arith}
 use Rattle.strided.specs.Layout.{Within, NoZero, dot, total, reach}
 use Rattle.laws.specs.Base.Integers.{+ℤ-interchange}
 use Rattle.window.specs.Window.{along, parent_index, stepped_stride, stepped_row, axis_wrong_at}
+use Rattle.window.specs.Counted.{Counted}
 use Rattle.window.specs.Axes.{AxisLies, right_axis, axis_within, axis_once, axis_offset, axis_count, axis_reach, axis_first}
 
 -- the window lies in the extents, axis by axis
@@ -24,6 +25,13 @@ all_lie (e ∷ es) (f ∷ fs) [] st p q r h = absurd (omega arith)
 all_lie (e ∷ es) (f ∷ fs) (n ∷ ns) [] p q r h = absurd (omega arith)
 all_lie (e ∷ es) (f ∷ fs) (n ∷ ns) (s ∷ st) p q r h =
     one_more_lem (right_axis e f n s (h 0 (omega arith))) (all_lie es fs ns st (omega arith) (omega arith) (omega arith) (λ i l. h (suc i) (omega arith)))
+
+-- its lists have an entry for each axis
+pub lies_counted : {es fs ns : List ℕ} {st : List ℤ} → Lies es fs ns st → Counted (length es) fs ns st
+lies_counted no_axis_lem = record { firsts = refl; counts = refl; steps = refl }
+lies_counted (one_more_lem a r) =
+    let c = lies_counted r in
+    record { firsts = ap suc c.firsts; counts = ap suc c.counts; steps = ap suc c.steps }
 
 -- axis i of it
 pub lies_at : {es fs ns : List ℕ} {st : List ℤ} → Lies es fs ns st → (i : ℕ) → i < length es

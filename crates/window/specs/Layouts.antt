@@ -49,24 +49,24 @@ lists_right rank f n s h =
       eqb-true s rank (not-false (eqb s rank) q.1),
     )
 
-pub record WindowTaken (es sizes : List ℕ) (ss : List ℤ) (fs ns : List ℕ) (st : List ℤ) : Type 0 where
+pub record WindowTaken (es : List ℕ) (operands : ℕ) (ss : List ℤ) (fs ns : List ℕ) (st : List ℤ) : Type 0 where
   -- rows 1, 2, 3 and 6 of the parent
   pub axes : length es ≤ 64
-  pub few : length sizes ≤ 8
-  pub strides : length ss ≡ length es * length sizes
-  pub near : has_zero es ≡ false → (k : ℕ) → k < length sizes → reach es (stride_row ss (length es) k) ≤ max_i
+  pub few : operands ≤ 8
+  pub strides : length ss ≡ length es * operands
+  pub near : has_zero es ≡ false → (k : ℕ) → k < operands → reach es (stride_row ss (length es) k) ≤ max_i
   pub firsts : length fs ≡ length es
   pub counts : length ns ≡ length es
   pub steps : length st ≡ length es
   pub lies : Lies es fs ns st
   -- the new strides are 64-bit signed
-  pub held : some_of (stride_over (window_strides ns st ss (length es) (length sizes))) 0 (length (window_strides ns st ss (length es) (length sizes))) ≡ false
+  pub held : some_of (stride_over (window_strides ns st ss (length es) (operands))) 0 (length (window_strides ns st ss (length es) (operands))) ≡ false
 
 module _ (es sizes : List ℕ) (ss : List ℤ) (fs ns : List ℕ) (st : List ℤ) where
   abbrev far_at : ℕ → Bool
   far_at k = ltb max_i (reach es (stride_row ss (length es) k))
 
-  pub window_taken : window_refused es sizes ss fs ns st ≡ None → WindowTaken es sizes ss fs ns st
+  pub window_taken : window_refused es sizes ss fs ns st ≡ None → WindowTaken es (length sizes) ss fs ns st
   unfolding window_refused NoneApplies
   window_taken h =
       let a : NoneApplies (window_rows es sizes ss fs ns st) = none_applies (window_rows es sizes ss fs ns st) h in
@@ -93,7 +93,7 @@ module _ (es sizes : List ℕ) (ss : List ℤ) (fs ns : List ℕ) (st : List ℤ
   unfolding windowed
   served_window h = served_none (window_refused es sizes ss fs ns st) _ h
 
-  module _ (w : WindowTaken es sizes ss fs ns st) where
+  module _ (w : WindowTaken es (length sizes) ss fs ns st) where
     abbrev M : ℕ
     M = length sizes
 

@@ -16,6 +16,7 @@ pub mod Starts
 pub mod Whole
 pub mod Walks
 pub mod Counted
+pub mod Selected
 pub mod Places
 pub mod Nested
 pub mod Made

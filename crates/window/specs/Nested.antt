@@ -2,7 +2,7 @@
 -- its steps the products, its counts the inner counts. No hypothesis says that the products fit 64 bits: that is asked only of whoever calls
 -- the entry with them (a product can be too long where a count is 1, and there any step will do). Outer lists fs, ns, st; inner gs, ms, ut.
 -- Assumes nothing.
-use Rattle.std.specs.Prelude.{◌≡◌, refl, Bool, true, cond, List, [], ◌∷◌, ℕ, suc, ◌<◌, ℤ, pos, nat_abs, ◌+ℤ◌, ◌*ℤ◌, length, get_or, Option, None, Ok}
+use Rattle.std.specs.Prelude.{◌≡◌, refl, Bool, true, cond, List, [], ◌∷◌, ℕ, ◌<◌, ℤ, pos, nat_abs, ◌+ℤ◌, ◌*ℤ◌, length, get_or, Option, None, Ok}
 use Rattle.std.proofs.Common.{sym, ap₂, ◌∙◌, subst, mul-pos, arith}
 use Rattle.std.proofs.Math.Path.{ap}
 use Rattle.std.proofs.Math.Bool.{false}
@@ -19,7 +19,7 @@ use Rattle.laws.specs.Refusals.Rows.{none_refuses}
 use Rattle.laws.specs.Refusals.Zeros.{no_zero_test}
 use Rattle.window.specs.Window.{along, parent_index, window_strides, shift_of, window_shifts, on_axis, axis_wrong, axis_wrong_at, stride_over, lists_wrong, window_rows, window_refused, some_window, windowed}
 use Rattle.window.specs.Axes.{AxisLies, spans, index_on, outside_exact, index_there, axis_within}
-use Rattle.window.specs.Indices.{Lies, no_axis_lem, one_more_lem, lies_at, parent_within, parent_dot, parent_nozero}
+use Rattle.window.specs.Indices.{Lies, lies_counted, no_axis_lem, one_more_lem, lies_at, parent_within, parent_dot, parent_nozero}
 use Rattle.window.specs.Layouts.{WindowTaken, window_taken, served_window, window_row}
 use Rattle.window.specs.Places.{no_stride_over}
 use Rattle.window.specs.Starts.{shift_at, window_offset}
@@ -77,10 +77,6 @@ firsts-within : {ns gs ms : List ℕ} {ut : List ℤ} → Lies ns gs ms ut → N
 firsts-within no_axis_lem h = tt
 firsts-within (one_more_lem {e} {f} {n} {s} b q) h = ((spans e f n s b.inside h.0).first, firsts-within q h.1)
 
-lengths : {es fs ns : List ℕ} {st : List ℤ} → Lies es fs ns st → (length fs ≡ length es) × (length ns ≡ length es) × (length st ≡ length es)
-lengths no_axis_lem = (refl, refl, refl)
-lengths (one_more_lem a r) = let l = lengths r in (ap suc l.0, ap suc l.1, ap suc l.2)
-
 right_axis_back : (e f n : ℕ) (s : ℤ) → AxisLies e f n s → axis_wrong e f n s ≡ false
 right_axis_back e f n s a = rw (ne_eqb (nat_abs s) 0 (λ q. absurd (omega (arith, a.steps, q)))) a.inside
 
@@ -121,26 +117,24 @@ module _ (es sizes : List ℕ) (ss : List ℤ) (fs ns : List ℕ) (st : List ℤ
 
   module _ {o i : Windowed} (outer : windowed es sizes ss fs ns st ≡ Ok o) (inner : windowed ns sizes ws gs ms ut ≡ Ok i) (nz : NoZero ms)
       (fits : (j : ℕ) → j < length ss → in_i64 (get_or ss j (pos 0)) ≡ true) where
-    w : WindowTaken es sizes ss fs ns st
+    w : WindowTaken es (length sizes) ss fs ns st
     w = window_taken es sizes ss fs ns st (served_window es sizes ss fs ns st outer)
 
-    v : WindowTaken ns sizes ws gs ms ut
+    v : WindowTaken ns (length sizes) ws gs ms ut
     v = window_taken ns sizes ws gs ms ut (served_window ns sizes ws gs ms ut inner)
 
     lies : Lies es hs ms vt
     lies = nested_lies w.lies v.lies nz
 
     held : some_of (stride_over (window_strides ms vt ss rank M)) 0 (length (window_strides ms vt ss rank M)) ≡ false
-    held =
-        let l = lengths lies in
-        no_stride_over lies ss M (record { counts = l.1; steps = l.2; strides = w.strides }) (w.near (no_zero_test es (parent_nozero lies nz))) fits
+    held = no_stride_over lies ss M w.strides (w.near (no_zero_test es (parent_nozero lies nz))) fits
 
     not-refused : window_refused es sizes ss hs ms vt ≡ None
     unfolding window_refused NoneApplies
     not-refused =
         let a : NoneApplies (window_rows es sizes ss fs ns st) = none_applies (window_rows es sizes ss fs ns st) (served_window es sizes ss fs ns st outer) in
-        let l = lengths lies in
-        let lists : lists_wrong rank (length hs) (length ms) (length vt) ≡ false = rw (eq-eqb (length hs) rank l.0, eq-eqb (length ms) rank l.1, eq-eqb (length vt) rank l.2) in
+        let l = lies_counted lies in
+        let lists : lists_wrong rank (length hs) (length ms) (length vt) ≡ false = rw (eq-eqb (length hs) rank l.firsts, eq-eqb (length ms) rank l.counts, eq-eqb (length vt) rank l.steps) in
         let axes : some_of (axis_wrong_at es hs ms vt) 0 rank ≡ false =
         some_of_none (axis_wrong_at es hs ms vt) rank (λ i h. right_axis_back (get_or es i 0) (get_or hs i 0) (get_or ms i 0) (get_or vt i (pos 0)) (lies_at lies i h)) in
         none_refuses (window_rows es sizes ss hs ms vt) (a.0, (a.1.0, (a.1.1.0, (a.1.1.1.0, (a.1.1.1.1.0, (rw (lists, axes) held, tt))))))
@@ -149,7 +143,7 @@ module _ (es sizes : List ℕ) (ss : List ℤ) (fs ns : List ℕ) (st : List ℤ
     unfolding windowed
     served = ap (λ (r : Option Refusal). served_unless r (some_window es sizes ss hs ms vt)) not-refused
 
-    t : WindowTaken es sizes ss hs ms vt
+    t : WindowTaken es (length sizes) ss hs ms vt
     t = window_taken es sizes ss hs ms vt not-refused
 
     -- operand k's strides in the parent, and in the outer window

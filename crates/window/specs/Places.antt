@@ -6,11 +6,11 @@ use Rattle.std.proofs.Common.{◌∙◌, subst, le_trans, mul-le-mul_left, mod-l
 use mathlib.Core.List.{List, [], ◌∷◌}
 use Prim.Native.Nat.{ℕ, zero, suc, ◌+◌, ◌-◌, ◌*◌, ◌/◌, ◌%◌, ◌^◌, ◌≤◌, ◌<◌}
 use Rattle.std.proofs.Math.Nat.{mul_comm, mod-add-mod}
+use Rattle.std.proofs.lemmas.Bool.{not-false}
 use native.Mathlib.Omega.{arith}
 use Rattle.std.proofs.Math.IntN.{ℤ}
 use Rattle.std.proofs.Math.ListN.{get_or}
 use Rattle.std.specs.Int.Signed.{mag}
-use Rattle.std.proofs.lemmas.Bool.{not-false}
 use Rattle.strided.specs.Base.{over, run, some_of}
 use Rattle.strided.specs.Layout.{stride_row, reach, in_i64, max_i}
 use Rattle.laws.specs.Base.Integers.{mag_size}
@@ -19,7 +19,7 @@ use Rattle.laws.specs.Refusals.Operands.{some_of_at, some_of_none}
 use Rattle.laws.specs.Refusals.Reaches.{term_reach}
 use Rattle.window.specs.Window.{stepped_stride, stepped_row, window_strides, stride_over}
 use Rattle.window.specs.Axes.{AxisLies, axis_stride}
-use Rattle.window.specs.Indices.{Lies, lies_at}
+use Rattle.window.specs.Indices.{Lies, lies_counted, lies_at}
 use Rattle.window.specs.Counted.{Counted}
 use Rattle.layout.specs.Fitting.{Fitting}
 use Rattle.window.specs.Layouts.{length-stepped}
@@ -39,9 +39,9 @@ some_rank : (rank operands j : ℕ) → j < rank * operands → 0 < rank
 some_rank zero operands j h = absurd (omega (arith, zero-mul operands, h))
 some_rank (suc r) operands j h = omega arith
 
-module _ (ns : List ℕ) (st ss : List ℤ) (rank operands : ℕ) (c : Counted rank operands ns st ss) where
+module _ {fs : List ℕ} (ns : List ℕ) (st ss : List ℤ) (rank operands : ℕ) (c : Counted rank fs ns st) (all : length ss ≡ rank * operands) where
   rows : (j : ℕ) → j < operands → length (stride_row ss rank j) ≡ length ns
-  rows j h = length_strides ss rank operands j c.strides h ∙ sym c.counts
+  rows j h = length_strides ss rank operands j all h ∙ sym c.counts
 
   even : (j : ℕ) → 0 ≤ j → j < 0 + operands → length (stepped_row ns st (stride_row ss rank j)) ≡ rank
   even j a b = length-stepped ns st (stride_row ss rank j) (c.steps ∙ sym c.counts) (rows j (omega arith)) ∙ c.counts
@@ -50,17 +50,17 @@ module _ (ns : List ℕ) (st ss : List ℤ) (rank operands : ℕ) (c : Counted r
   pub window_length : length (window_strides ns st ss rank operands) ≡ length ss
   unfolding window_strides
   window_length =
-      length_over rank (λ k. stepped_row ns st (stride_row ss rank k)) operands 0 even ∙ mul_comm operands rank ∙ sym c.strides
+      length_over rank (λ k. stepped_row ns st (stride_row ss rank k)) operands 0 even ∙ mul_comm operands rank ∙ sym all
 
   module _ (j : ℕ) (h : j < length ss) where
     pub rank_some : 0 < rank
-    rank_some = some_rank rank operands j (subst (λ (n : ℕ). j < n) c.strides h)
+    rank_some = some_rank rank operands j (subst (λ (n : ℕ). j < n) all h)
 
     mod_below : j % rank < rank
     mod_below = mod-lt j rank_some
 
     operand_below : j / rank < operands
-    operand_below = (div-lt_iff_lt-mul rank_some).1 (omega (arith, h, c.strides, mul_comm operands rank))
+    operand_below = (div-lt_iff_lt-mul rank_some).1 (omega (arith, h, all, mul_comm operands rank))
 
     split : j / rank * rank + j % rank ≡ j
     split = div-add-mod' j rank
@@ -88,7 +88,7 @@ module _ (ns : List ℕ) (st ss : List ℤ) (rank operands : ℕ) (c : Counted r
       pub window_at_lem : get_or (window_strides ns st ss rank operands) j (pos 0) ≡ stepped_stride (get_or ns i 0) (get_or st i (pos 0)) (get_or ss j (pos 0))
       window_at_lem = rw q mod-at
 
-      -- the test at place j, as the code makes it
+      -- the test at place j
       pub over-at : {b : Bool} → b ≡ not (in_i64 (stepped_stride (get_or ns i 0) (get_or st i (pos 0)) (get_or ss j (pos 0))))
           → b ≡ stride_over (window_strides ns st ss rank operands) j
       over-at e = e ∙ sym (ap (λ (z : ℤ). not (in_i64 z)) window_at_lem)
@@ -123,10 +123,10 @@ stepped_fits e f n s t a h r = go (ltb n 2) refl
     go false q = lt-ltb (mag (stepped_stride n s t)) (2 ^ 63) (omega (arith, mag_size (stepped_stride n s t), long q))
 
 -- WHERE ROW 6 BOUNDS THE REACHES, as it does if no extent is 0, and the parent's strides are 64-bit signed, no stride of the window leaves 64 bits
-pub no_stride_over : {es fs ns : List ℕ} {st : List ℤ} → Lies es fs ns st → (ss : List ℤ) (operands : ℕ) → Counted (length es) operands ns st ss
+pub no_stride_over : {es fs ns : List ℕ} {st : List ℤ} → Lies es fs ns st → (ss : List ℤ) (operands : ℕ) → length ss ≡ length es * operands
     → ((k : ℕ) → k < operands → reach es (stride_row ss (length es) k) ≤ max_i) → ((j : ℕ) → j < length ss → in_i64 (get_or ss j (pos 0)) ≡ true)
     → some_of (stride_over (window_strides ns st ss (length es) operands)) 0 (length (window_strides ns st ss (length es) operands)) ≡ false
-no_stride_over {es} {fs} {ns} {st} r ss operands c near fits = some_of_none (stride_over ws) (length ws) each
+no_stride_over {es} {fs} {ns} {st} r ss operands all near fits = some_of_none (stride_over ws) (length ws) each
   where
     rank : ℕ
     rank = length es
@@ -134,17 +134,20 @@ no_stride_over {es} {fs} {ns} {st} r ss operands c near fits = some_of_none (str
     ws : List ℤ
     ws = window_strides ns st ss (length es) operands
 
+    c : Counted rank fs ns st
+    c = lies_counted r
+
     each : (j : ℕ) → j < length ws → stride_over ws j ≡ false
     each j h =
-        let l : j < length ss = subst (λ (n : ℕ). j < n) (window_length ns st ss rank operands c) h in
+        let l : j < length ss = subst (λ (n : ℕ). j < n) (window_length ns st ss rank operands c all) h in
         let i : ℕ = j % rank in
         let k : ℕ = j / rank in
-        let below : i < rank = axis_below ns st ss rank operands c j l i refl in
-        let there : k < operands = operand_below ns st ss rank operands c j l in
-        let long : length (stride_row ss rank k) ≡ rank = length_strides ss rank operands k c.strides there in
+        let below : i < rank = axis_below ns st ss rank operands c all j l i refl in
+        let there : k < operands = operand_below ns st ss rank operands c all j l in
+        let long : length (stride_row ss rank k) ≡ rank = length_strides ss rank operands k all there in
         let same : get_or (stride_row ss rank k) i (pos 0) ≡ get_or ss j (pos 0) = stride_at ss rank k i below ∙ ap (λ (n : ℕ). get_or ss n (pos 0)) (div-add-mod' j rank) in
         let term : (get_or es i 0 - 1) * nat_abs (get_or ss j (pos 0)) ≤ max_i =
         subst (λ (t : ℤ). (get_or es i 0 - 1) * nat_abs t ≤ max_i) same
         (le_trans (term_reach es (stride_row ss rank k) i below (subst (λ (n : ℕ). i < n) (sym long) below)) (near k there)) in
-        ap (λ (z : ℤ). not (in_i64 z)) (window_at_lem ns st ss rank operands c j l i refl)
+        ap (λ (z : ℤ). not (in_i64 z)) (window_at_lem ns st ss rank operands c all j l i refl)
         ∙ ap not (stepped_fits (get_or es i 0) (get_or fs i 0) (get_or ns i 0) (get_or st i (pos 0)) (get_or ss j (pos 0)) (lies_at r i below) (fits j l) term)

@@ -43,7 +43,7 @@ get_d_shifted (z ∷ zs) [] k h g = absurd (bad g)
 get_d_shifted (z ∷ zs) (d ∷ ds) zero h g = refl
 get_d_shifted (z ∷ zs) (d ∷ ds) (suc k) h g = get_d_shifted zs ds k (omega arith) (omega arith)
 
-module _ (es sizes : List ℕ) (ss : List ℤ) (fs ns : List ℕ) (st : List ℤ) (w : WindowTaken es sizes ss fs ns st) where
+module _ (es sizes : List ℕ) (ss : List ℤ) (fs ns : List ℕ) (st : List ℤ) (w : WindowTaken es (length sizes) ss fs ns st) where
   abbrev M : ℕ
   M = length sizes
 

@@ -7,8 +7,8 @@ use Rattle.strided.specs.Base.{nth}
 use Rattle.strided.specs.Layout.{Within, NoZero, dot, chosen, stride_row}
 use Rattle.strided.specs.Machine.{Allowed}
 use Rattle.strided.specs.Refusals.{missing, planning_refused}
-use Rattle.strided.specs.Plan.{planned, the_plan}
-use Rattle.strided.specs.Begin.{begin_refused, begun_at, started}
+use Rattle.strided.specs.Plan.{planned}
+use Rattle.strided.specs.Begin.{begin_refused, begun_at}
 use Rattle.strided.specs.Demand3.{replaced, steps_from, Ends, Meets, Demand3}
 use Rattle.strided.specs.declared.Machine.{Machine}
 use Rattle.strided.specs.declared.Purpose.{Purpose}
@@ -94,7 +94,7 @@ window_walk es sizes ss fs ns st v served nz mc u p hp bs zs b hb n =
     L : List (Result Stepped Refusal)
     L = steps_from P n b
 
-    w : WindowTaken es sizes ss fs ns st
+    w : WindowTaken es (length sizes) ss fs ns st
     w = window_taken es sizes ss fs ns st (served_window es sizes ss fs ns st served)
 
     d : Demand3 ns sizes ws u P L (shifted zs ds)
@@ -118,14 +118,13 @@ module _ (es sizes : List ℕ) (ss : List ℤ) (fs ns : List ℕ) (st : List ℤ
   pub walk-from_parent : (w : Windowed) → windowed es sizes ss fs ns st ≡ Ok w → NoZero ns
       → (mc : Machine) (u : Purpose) → (p : Plan) → planned mc es sizes ss u ≡ Ok p → (bs : List ℕ) (zs : List ℤ) → (b : Walk) → begun_at (replaced p bs) zs ≡ Ok b
       → (mc' : Machine) (v : Purpose) → Allowed mc' → missing (length sizes) (chosen v) ≡ false → (cs : List ℕ) (n : ℕ)
-      → WindowWalk es sizes ss fs ns st v (replaced (the_plan mc' ns sizes (window_strides ns st ss (length es) (length sizes)) v) cs)
-      (steps_from (replaced (the_plan mc' ns sizes (window_strides ns st ss (length es) (length sizes)) v) cs) n
-      (started (replaced (the_plan mc' ns sizes (window_strides ns st ss (length es) (length sizes)) v) cs)
-      (shifted zs (window_shifts fs ns ss (length es) (length sizes)))))
-      zs
+      → (p' : Plan) × (b' : Walk) × (planned mc' ns sizes (window_strides ns st ss (length es) (length sizes)) v ≡ Ok p')
+      × (begun_at (replaced p' cs) (shifted zs (window_shifts fs ns ss (length es) (length sizes))) ≡ Ok b')
+      × WindowWalk es sizes ss fs ns st v (replaced p' cs) (steps_from (replaced p' cs) n b') zs
   walk-from_parent o served nz mc u p hp bs zs b hb mc' v m c cs n =
-      let w : WindowTaken es sizes ss fs ns st = window_taken es sizes ss fs ns st (served_window es sizes ss fs ns st served) in
+      let w : WindowTaken es (length sizes) ss fs ns st = window_taken es sizes ss fs ns st (served_window es sizes ss fs ns st served) in
       let h : planning_refused mc es sizes ss u ≡ None = not-refused mc es sizes ss u hp in
       let g : planning_refused mc' ns sizes ws v ≡ None = window_planned es sizes ss fs ns st w u (planning_layout mc es sizes ss u h) mc' v m c in
-      window_walk es sizes ss fs ns st o served nz mc' v _ (planned_served mc' ns sizes ws v g) cs zs _
-      (window_begins es sizes ss fs ns st w mc u h bs mc' v g cs zs (subst (λ (q : Plan). begun_at (replaced q bs) zs ≡ Ok b) (planned_is mc es sizes ss u hp) hb)) n
+      let plans = planned_served mc' ns sizes ws v g in
+      let begins = window_begins es sizes ss fs ns st w mc u h bs mc' v g cs zs (subst (λ (q : Plan). begun_at (replaced q bs) zs ≡ Ok b) (planned_is mc es sizes ss u hp) hb) in
+      (_, _, plans, begins, window_walk es sizes ss fs ns st o served nz mc' v _ plans cs zs _ begins n)

@@ -45,7 +45,7 @@ abbrev pub handed_shifts : Windowed → List ℤ
 handed_shifts r = take r.operands r.shifts
 
 module _ (es sizes : List ℕ) (ss : List ℤ) (fs ns : List ℕ) (st : List ℤ) {r : Windowed} (h : windowed es sizes ss fs ns st ≡ Ok r) where
-  w : WindowTaken es sizes ss fs ns st
+  w : WindowTaken es (length sizes) ss fs ns st
   w = window_taken es sizes ss fs ns st (served_window es sizes ss fs ns st h)
 
   pub window_right : WindowRight es sizes ss fs ns st (window_strides ns st ss (length es) (length sizes)) (window_shifts fs ns ss (length es) (length sizes))

@@ -1,12 +1,11 @@
-// The strides of a window, and row 15 on them: place j of the flat slice belongs to axis j % rank.
-ghost use Rattle.std.specs.Prelude.{◌≡◌, true, false, not, ◌+◌, ◌%◌, ◌<◌, ltb, pos, ◌*ℤ◌, length, replicate};
+// The strides of a window, and row 15 on them: operand k's stride on axis i stands at place k * rank + i of the flat slice.
+ghost use Rattle.std.specs.Prelude.{◌≡◌, true, false, not, ltb, pos, ◌*ℤ◌, length, replicate};
 ghost use Rattle.strided.specs.Base.{padded, some_of};
 ghost use Rattle.strided.specs.Layout.{in_i64};
-ghost use Rattle.window.specs.Window.{stepped_stride, window_strides, stride_over};
-ghost use Rattle.window.specs.Counted.{Counted};
+ghost use Rattle.window.specs.Window.{stepped_stride, stride_over};
+ghost use Rattle.window.specs.Selected.{new_strides};
 
-use super::Picks;
-use layout::Layout;
+use super::selection::Selection;
 
 // Whether the stride is kept.
 fn kept(count: u64) -> bool
@@ -30,46 +29,36 @@ fn new_stride(count: u64, step: i64, stride: i64) -> i64
     if kept(count) { stride } else { step * stride }
 }
 
-// The axis of the next place: the one after i, or axis 0 of the next operand.
-fn axis_after(i: usize, rank: usize) -> usize
-    requires { i < rank }
-    ensures { result ≡ (i + 1) % rank }
-{
-    let next = i + 1;
-    if next == rank { 0 } else { next }
-}
-
 // Whether some stride of the window leaves 64 bits.
-pub fn some_stride_over(layout: Layout, picks: Picks) -> bool
-    requires { Counted (length layout.extents.now) layout.operands picks.counts.now picks.steps.now layout.strides.now }
-    ensures { let l = layout.entry in
-        let w = picks.entry in
-        let ws = window_strides w.counts.now w.steps.now l.strides.now (length l.extents.now) l.operands in
+pub fn some_stride_over(selection: Selection) -> bool
+    ensures { let ws = new_strides selection.entry in
         result ≡ some_of (stride_over ws) 0 (length ws) }
 {
-    let mut i: usize = 0;
-    for stride in layout.strides {
-        if stride_over(picks.counts[i], picks.steps[i], *stride) {
-            return true;
+    let layout = selection.layout;
+    let picks = selection.picks;
+    for k in 0..layout.operands {
+        for (i, stride) in layout.row(k).strides.iter().enumerate() {
+            if stride_over(picks.counts[i], picks.steps[i], *stride) {
+                return true;
+            }
         }
-        i = axis_after(i, layout.extents.len());
     }
     false
 }
 
 // The window's strides, written into an array of zeros.
-pub fn strides_into(layout: Layout, picks: Picks, table: &mut [i64; 512])
-    requires counted { Counted (length layout.extents.now) layout.operands picks.counts.now picks.steps.now layout.strides.now }
-    requires held { let ws = window_strides picks.counts.now picks.steps.now layout.strides.now (length layout.extents.now) layout.operands in
+pub fn strides_into(selection: Selection, table: &mut [i64; 512])
+    requires held { let ws = new_strides selection in
         some_of (stride_over ws) 0 (length ws) ≡ false }
     requires table_value { table.old ≡ replicate 512 (pos 0) }
-    ensures { let l = layout.entry in
-        let w = picks.entry in
-        table.new ≡ padded 512 (pos 0) (window_strides w.counts.now w.steps.now l.strides.now (length l.extents.now) l.operands) }
+    ensures { table.new ≡ padded 512 (pos 0) (new_strides selection.entry) }
 {
-    let mut i: usize = 0;
-    for j in 0..layout.strides.len() {
-        table[j] = new_stride(picks.counts[i], picks.steps[i], layout.strides[j]);
-        i = axis_after(i, layout.extents.len());
+    let layout = selection.layout;
+    let picks = selection.picks;
+    let rank = layout.extents.len();
+    for k in 0..layout.operands {
+        for (i, stride) in layout.row(k).strides.iter().enumerate() {
+            table[k * rank + i] = new_stride(picks.counts[i], picks.steps[i], *stride);
+        }
     }
 }

@@ -8,23 +8,20 @@ use Prim.Native.Nat.{ℕ, zero, suc, ◌+◌, ◌-◌, ◌*◌, ◌^◌, ◌≤�
 use native.Mathlib.Nat.{add-zero, zero-mul, suc-mul}
 use native.Mathlib.Omega.{arith}
 use lib.IntN.{ℤ, pos}
-use lib.ListN.{length, get_or, drop, replicate, length-append, length-map, length-drop, length-take}
-use borrow.Author.Tests.{ltb-false}
+use lib.ListN.{length, get_or, drop, replicate, length-append, length-map, length-drop}
 use Rattle.strided.specs.Base.{padded, run}
-use Rattle.strided.specs.Layout.{has_zero, total, max_u}
+use Rattle.strided.specs.Layout.{has_zero}
 use Rattle.strided.specs.Walk.{counters, Block, block_at}
-use Rattle.strided.specs.Begin.{plan_extents, begin_rows, begin_refused, started}
+use Rattle.strided.specs.Begin.{plan_extents, begin_refused, started}
 use Rattle.strided.specs.Step.{plan_cut_axes}
 use Rattle.strided.specs.Text.{block_line, block_lines, end_line, cells_of, plan_walk, zero_starts}
 use Rattle.strided.specs.declared.Plan.{Plan}
 use Rattle.strided.specs.declared.Walk.{Walk}
 use Rattle.laws.specs.Base.Lists.{map-drop, length_run}
-use Rattle.laws.specs.Base.Refusals.{NoneApplies, none_applies}
 use Rattle.laws.specs.Base.Sums.{sum, sum-append}
-use Rattle.laws.specs.Refusals.Zeros.{row5-total}
-use Rattle.laws.specs.Text.Totals.{walk-cells, walk_blocks}
+use Rattle.laws.specs.Text.Totals.{walk-cells, begun_total, begun_placed}
 use Rattle.laws.specs.Walk.Placed.{Placed, placed_from, placed_walk, placed-over}
-use Rattle.laws.specs.Walk.Steps.{Ready, ready}
+use Rattle.laws.specs.Walk.Steps.{Ready, ready_sized}
 use Rattle.advance.specs.Axis.{widths, starts_to}
 use Rattle.advance.specs.Carry.{state_of}
 use Rattle.advance.specs.declared.State.{State}
@@ -107,18 +104,11 @@ module _ (p : Plan) where
 
   -- the walk has at most 2^64 - 1 cells, and no more blocks
   module _ (may : begin_refused p (zero_starts p) ≡ None) where
-    total_fits : total (plan_extents p) < 2 ^ 64
-    unfolding begin_refused NoneApplies
-    total_fits =
-        let a : NoneApplies (begin_rows p (zero_starts p)) = none_applies (begin_rows p (zero_starts p)) may in
-        let b = ltb-false max_u (total (plan_extents p)) (sym (row5-total (plan_extents p)) ∙ a.1.1.0) in
-        omega arith
-
     cells_fit : cells W < 2 ^ 64
-    cells_fit = let a = walk-cells p in let b = cells_are (counters (plan_cut_axes p)) in let d = total_fits in omega (arith, a, b, d)
+    cells_fit = let a = walk-cells p in let b = cells_are (counters (plan_cut_axes p)) in let d = begun_total p (zero_starts p) may in omega (arith, a, b, d)
 
     blocks_fit : length W < 2 ^ 64
-    blocks_fit = let a = walk_blocks p in let b = many in let d = total_fits in omega (arith, a, b, d)
+    blocks_fit = begun_placed p (zero_starts p) may
 
 -- ---- the walk's beginning, which the precondition allows
 
@@ -132,31 +122,25 @@ first ended = walk_of ended (replicate 64 0) (replicate 8 (pos 0))
 
 module _ {p : Plan} (h : Printable p) where
   pub printable_ready : Ready p (zero_starts p)
-  unfolding begin_refused NoneApplies
-  printable_ready =
-      let a : NoneApplies (begin_rows p (zero_starts p)) = none_applies (begin_rows p (zero_starts p)) h.begins in
-      let axes : p.rank ≤ 64 = ltb-false 64 p.rank a.0 in
-      let l = length-take p.rank p.extents in
-      ready p (zero_starts p) (omega arith) h.begins
+  printable_ready = ready_sized p (zero_starts p) h.sized.extents-all h.begins
 
   begun : {ended : Bool} → ended ≡ has_zero (plan_extents p) → first ended ≡ started p (zero_starts p)
   begun e = (λ i. record { ended = e i; counters = replicate 64 0; offsets = sym (padded-zeros 8 p.operands) i })
 
   -- it has no block
-  pub no_lines : true ≡ has_zero (plan_extents p) → rest_from p 0 ≡ figures_line 0 0
-  no_lines e =
-      let o : W p ≡ [] = placed-over p (zero_starts p) printable_ready 0 (ap (λ (w : Walk). w.ended) (sym (begun e))) in
+  pub no_lines : {none : Bool} → none ≡ true → none ≡ has_zero (plan_extents p) → rest_from p 0 ≡ figures_line 0 0
+  no_lines t e =
+      let o : W p ≡ [] = placed-over p (zero_starts p) printable_ready 0 (ap (λ (w : Walk). w.ended) (sym (begun (sym t ∙ e)))) in
       rest_over p 0 0 o (omega arith) (sym (ap cells o))
 
-  -- it has one
-  module _ (e : false ≡ has_zero (plan_extents p)) where
-    pub first_taken : Taken p (walk_of false (replicate 64 0) (replicate 8 (pos 0)))
-    first_taken = rw (begun e) (begun_taken p (zero_starts p) printable_ready h.sized)
+  -- the block sizes in force are 1 or more
+  pub widths_some : {w : List ℕ} → w ≡ widths p → (i : ℕ) → i < p.rank → 0 < get_or w i 0
+  widths_some is i l = rw is (widths_pos p (zero_starts p) printable_ready h.sized i l)
 
-    module _ {w : List ℕ} (is : w ≡ widths p) where
-      -- the block sizes in force are 1 or more
-      pub widths_some : (i : ℕ) → i < p.rank → 0 < get_or w i 0
-      widths_some i l = rw is (widths_pos p (zero_starts p) printable_ready h.sized i l)
+  -- it has one
+  module _ {none : Bool} (t : none ≡ false) (e : none ≡ has_zero (plan_extents p)) where
+    pub first_taken : Taken p (walk_of false (replicate 64 0) (replicate 8 (pos 0)))
+    first_taken = rw (begun (sym t ∙ e)) (begun_taken p (zero_starts p) printable_ready h.sized)
 
 -- ---- the walk before block n: `sum` is that of the lengths before it
 
@@ -166,19 +150,18 @@ pub record Walks (p : Plan) (y : Way) (w : List ℕ) (n sum : ℕ) (more : Bool)
   pub walked : Walked p (walk_of false (replicate 64 0) (replicate 8 (pos 0))) y w n more here
   pub counted : sum + cells (drop n (W p)) ≡ cells (W p)
 
--- the same, once the loop's test is known
-pub walks_while : {p : Plan} {y : Way} {w : List ℕ} {n sum : ℕ} {more b : Bool} {here : State} → Walks p y w n sum more here → more ≡ b → Walks p y w n sum b here
-walks_while k e = rw e at k
-
-pub walks_start : {p : Plan} (h : Printable p) (e : false ≡ has_zero (plan_extents p)) {w : List ℕ} → w ≡ widths p → {y : Way} → Leads y p w
+pub walks_start : {p : Plan} (h : Printable p) {none : Bool} → none ≡ false → none ≡ has_zero (plan_extents p) → {w : List ℕ} → w ≡ widths p → {y : Way} → Leads y p w
     → {here : State} → here ≡ state_of (starts_to w (replicate 64 0) p.rank) (replicate 64 0) (replicate 8 (pos 0)) → Walks p y w 0 0 true here
-walks_start {p} h e {w} is {y} l f =
-    subst (λ (x : State). Walks p y w 0 0 true x) (sym f) (record { printable = h; some = e; walked = walked_none is l (first_taken h e) refl; counted = omega arith })
+walks_start {p} h t e {w} is {y} l f =
+    subst (λ (x : State). Walks p y w 0 0 true x) (sym f) (record { printable = h; some = sym t ∙ e; walked = walked_none is l (first_taken h t e) refl; counted = omega arith })
 
--- while it runs
-module _ {p : Plan} {y : Way} {w : List ℕ} {n sum : ℕ} {here : State} (k : Walks p y w n sum true here) where
-  pub walks_asks : Strides y p w here
-  walks_asks = walked_asks k.walked
+-- while it runs, by the loop's test
+module _ {p : Plan} {y : Way} {w : List ℕ} {n sum : ℕ} {more : Bool} {here : State} (k : Walks p y w n sum more here) (t : more ≡ true) where
+  runs : Walked p (walk_of false (replicate 64 0) (replicate 8 (pos 0))) y w n true here
+  runs = rw t at k.walked
+
+  pub walks_asks : Strides p w here
+  walks_asks = walked_asks runs
 
   -- a stretch of it
   module _ {limit : ℕ} {r : Next} {first : List ℤ} {there : State} (x : Strode y limit p w here r first there)
@@ -187,10 +170,10 @@ module _ {p : Plan} {y : Way} {w : List ℕ} {n sum : ℕ} {here : State} (k : W
     S = told p.operands r first d
 
     pub walks_fit : RowsFit r.count p.operands d first
-    walks_fit = walked_fit k.walked x d-is
+    walks_fit = walked_fit runs x d-is
 
     left : drop n (W p) ≡ laid S ++ drop (n + r.count) (W p)
-    left = walked_part k.walked x d-is (printable_ready k.printable) (begun k.printable k.some)
+    left = walked_part runs x d-is (printable_ready k.printable) (begun k.printable k.some)
 
     -- its lines come next
     walks_lines : rest_from p n ≡ lines_from n (laid S) ++ rest_from p (n + r.count)
@@ -227,7 +210,7 @@ module _ {p : Plan} {y : Way} {w : List ℕ} {n sum : ℕ} {here : State} (k : W
       walks_put = doing_next (lines_from n (laid S)) (rest_from p (n + r.count)) walks_lines v
 
     within : n + r.count ≤ length (W p)
-    within = walked_within (walked_next k.walked x) (printable_ready k.printable) (begun k.printable k.some)
+    within = walked_within (walked_next runs x) (printable_ready k.printable) (begun k.printable k.some)
 
     counted_next : sum + r.count * r.length + cells (drop (n + r.count) (W p)) ≡ cells (W p)
     counted_next =
@@ -238,7 +221,7 @@ module _ {p : Plan} {y : Way} {w : List ℕ} {n sum : ℕ} {here : State} (k : W
         omega (arith, a, b, e, g)
 
     pub walks_next : Walks p y w (n + r.count) (sum + r.count * r.length) r.more there
-    walks_next = record { printable = k.printable; some = k.some; walked = walked_next k.walked x; counted = counted_next }
+    walks_next = record { printable = k.printable; some = k.some; walked = walked_next runs x; counted = counted_next }
 
     -- what is counted fits, and there is less to come
     pub walks_number_fits : n + r.count < 2 ^ 64
@@ -248,17 +231,18 @@ module _ {p : Plan} {y : Way} {w : List ℕ} {n sum : ℕ} {here : State} (k : W
     walks_cells-fit = let a = counted_next in let b = cells_fit p k.printable.begins in omega (arith, a, b)
 
     pub walks_less : 1 ≤ limit → length (W p) - (n + r.count) < length (W p) - n
-    walks_less h = let a = within in let b = walked_some k.walked x h in omega (arith, a, b)
+    walks_less h = let a = within in let b = walked_some runs x h in omega (arith, a, b)
 
 -- at its end only the Z line is left
-pub walks_end : {p : Plan} {y : Way} {w : List ℕ} {n sum : ℕ} {here : State} → Walks p y w n sum false here → rest_from p n ≡ figures_line n sum
-walks_end {p} {n = n} {sum = sum} k =
+pub walks_end : {p : Plan} {y : Way} {w : List ℕ} {n sum : ℕ} {more : Bool} {here : State} → Walks p y w n sum more here → more ≡ false → rest_from p n ≡ figures_line n sum
+walks_end {p} {y} {w} {n = n} {sum = sum} {here = here} k t =
+    let over : Walked p (walk_of false (replicate 64 0) (replicate 8 (pos 0))) y w n false here = rw t at k.walked in
     let r = printable_ready k.printable in
     let b = begun k.printable k.some in
-    let e : drop n (W p) ≡ [] = walked_over k.walked r b in
+    let e : drop n (W p) ≡ [] = walked_over over r b in
     let d = k.counted in
     let z : sum ≡ cells (W p) = omega (arith, ap cells e, d) in
-    rest_over p n sum e (walked_within k.walked r b) z
+    rest_over p n sum e (walked_within over r b) z
 
 -- the Z line is the last
 module _ (p : Plan) (n sum : ℕ) (e : rest_from p n ≡ figures_line n sum) where

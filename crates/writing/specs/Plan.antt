@@ -12,6 +12,7 @@ use Rattle.advance.specs.Sized.{Sized}
 
 -- what is asked: a plan as a value has it, whose walk begins at the starts 0. So its axes and operands are within the limits, and every
 -- number of its walk fits. Planning hands out such plans (crate laws, Text/Begins)
+-- Kept: sized, which a lent plan's invariant says too. `walk_len` and `put_walk` read no field of the plan, and then a proof is not told it.
 pub record Printable (p : Plan) : Type 0 where
   pub sized : Sized p
   pub begins : begin_refused p (zero_starts p) ≡ None

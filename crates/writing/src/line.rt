@@ -10,7 +10,7 @@ ghost use Rattle.writing.specs.Line.{fields_of, figures_line, longest};
 use super::number::{Figure, put_byte};
 
 // How many bytes a field for each number takes.
-fn fields_len<T: Figure>(numbers: &[T]) -> usize
+pub fn fields_len<T: Figure>(numbers: &[T]) -> usize
     requires { length numbers.now ≤ 64 }
     ensures { (result ≡ length (over numbers.now (celled T.text))) × (result ≤ 21 * length numbers.now) }
 {
@@ -19,21 +19,6 @@ fn fields_len<T: Figure>(numbers: &[T]) -> usize
         k += 1 + n.text_len();
     }
     k
-}
-
-pub fn numbers_len(numbers: &[u64]) -> usize
-    requires { length numbers.now ≤ 64 }
-    ensures { (result ≡ length (over numbers.now field)) × (result ≤ 21 * length numbers.now) }
-{
-    fields_len(numbers)
-}
-
-// The same for signed numbers.
-pub fn signed_len(numbers: &[i64]) -> usize
-    requires { length numbers.now ≤ 64 }
-    ensures { (result ≡ length (over numbers.now signed_field)) × (result ≤ 21 * length numbers.now) }
-{
-    fields_len(numbers)
 }
 
 // A comma and a number.
@@ -62,7 +47,7 @@ fn line_len<'a>(numbers: &'a [u64], signed: &'a [i64]) -> usize
     requires { (length numbers.now ≤ 3) × (length signed.now ≤ 8) }
     ensures { (result ≡ 2 + length (fields_of numbers.now signed.now)) × (result ≤ longest) }
 {
-    2 + numbers_len(numbers) + signed_len(signed)
+    2 + fields_len(numbers) + fields_len(signed)
 }
 
 // Writes the line.

@@ -3,19 +3,17 @@
 ghost use Rattle.std.specs.Prelude.{◌≡◌, ℕ, ◌+◌, ◌*◌, ◌≤◌, ◌<◌, length, get_or, replicate, pos};
 ghost use Rattle.strided.specs.Base.{over, run};
 ghost use Rattle.strided.specs.Text.{printed_plan, filling};
-ghost use Rattle.advance.specs.Axis.{starts_to};
-ghost use Rattle.advance.specs.Carry.{state_of};
 ghost use Rattle.writing.specs.Put.{Wrote};
 ghost use Rattle.writing.specs.Line.{figures_line, longest};
 ghost use Rattle.writing.specs.Plan.{Printable, measured, axis_at, rest_from, listed_in};
 
 use super::line::{axis_len, end_len, put_axis, put_end, put_rank, rank_len};
 use super::stretch::{put_stretch, stretch_len};
-use advance::{State, column, tile_starts, widths};
+use advance::column;
 use layout::LentPlan;
 use states::no_block;
 use strided::Refusal;
-use walker::{ALL, moves_of, take_stretch, way_of};
+use walker::{ALL, Course};
 
 // The A line of an axis.
 fn axis_at_len(axis: usize, plan: &LentPlan) -> usize
@@ -84,19 +82,6 @@ fn end_within(blocks: u64, cells: u64, used: usize, limit: usize) -> Option<usiz
     Some(used + line)
 }
 
-// Where the walk from the starts 0 begins, where there is a block.
-fn first_state(plan: &LentPlan, w: &[u64; 64]) -> State
-    requires { (i : ℕ) → i < plan.now.rank → 0 < get_or w.now i 0 }
-    ensures { result ≡ state_of (starts_to w.now (replicate 64 0) plan.now.rank) (replicate 64 0) (replicate 8 (pos 0)) }
-{
-    let counters = [0u64; 64];
-    State {
-        tile_starts: tile_starts(plan, w, &counters),
-        counters,
-        offsets: [0i64; 8],
-    }
-}
-
 // The B and Z lines behind `used` bytes. The Z figures are what the loop has counted. With a zero extent there is no block, and how far a
 // stretch would move need not fit.
 fn walk_len(plan: &LentPlan, used: usize, limit: usize) -> Option<usize>
@@ -107,17 +92,16 @@ fn walk_len(plan: &LentPlan, used: usize, limit: usize) -> Option<usize>
     if no_block(plan) {
         return end_within(0, 0, used, limit);
     }
-    let w = widths(plan);
-    let y = way_of(plan, &w);
-    let d = moves_of(y, plan);
-    let mut at = first_state(plan, &w);
+    let course = Course::of(plan);
+    let d = course.moves();
+    let mut at = course.state_at([0u64; 64], [0i64; 8]);
     let mut first = [0i64; 8];
     let mut more = true;
     let mut total = used;
     let mut blocks: u64 = 0;
     let mut cells: u64 = 0;
     while more {
-        let x = take_stretch(y, ALL, plan, &w, &mut at, &mut first);
+        let x = course.take_stretch(ALL, &mut at, &mut first);
         total = stretch_len(plan, x, blocks, &d, first, total, limit)?;
         blocks += x.count;
         cells += x.count * x.length;
@@ -134,17 +118,16 @@ fn put_walk(out: &mut [u8], at: usize, plan: &LentPlan) -> usize
     if no_block(plan) {
         return put_end(out, at, 0, 0);
     }
-    let w = widths(plan);
-    let y = way_of(plan, &w);
-    let d = moves_of(y, plan);
-    let mut stands = first_state(plan, &w);
+    let course = Course::of(plan);
+    let d = course.moves();
+    let mut stands = course.state_at([0u64; 64], [0i64; 8]);
     let mut first = [0i64; 8];
     let mut more = true;
     let mut next = at;
     let mut number: u64 = 0;
     let mut cells: u64 = 0;
     while more {
-        let x = take_stretch(y, ALL, plan, &w, &mut stands, &mut first);
+        let x = course.take_stretch(ALL, &mut stands, &mut first);
         next = put_stretch(out, next, plan, x, number, &d, first);
         number += x.count;
         cells += x.count * x.length;
@@ -182,9 +165,7 @@ pub fn list(plan: &LentPlan, room: &mut [u8]) -> Result<usize, Refusal>
     requires { Printable plan.now }
     ensures { record { answer = result; room = room.new } ≡ listed_in plan.now room.old }
 {
-    let Some(n) = measure(plan, room.len()) else {
-        return Err(Refusal::Room);
-    };
+    let n = measure(plan, room.len()).ok_or(Refusal::Room)?;
     write(plan, room);
     Ok(n)
 }

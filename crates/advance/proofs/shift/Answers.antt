@@ -10,7 +10,7 @@ use mir.Facts.{to_z-of_z}
 use Rattle.advance.proofs.Signed.{moves_read, after_read}
 use Rattle.advance.proofs.Dot.{unmoved_plan}
 use Rattle.advance.specs.Filled.{filled_none, filled_more, filled_above}
-use Prim.Native.Nat.{ℕ, zero-le, ◌≤◌, ◌<◌, ◌+◌, ◌*◌}
+use Prim.Native.Nat.{zero-le, ◌≤◌, ◌<◌, ◌+◌, ◌*◌}
 use Rattle.strided.specs.declared.Plan.{Plan}
 use Rattle.advance.specs.Moves.{moved_at, after_move, Moves}
 use Rattle.advance.proofs.shift.Goals as goal
@@ -19,7 +19,7 @@ use mir.Syntax.{w64}
 pub returns-then-from-to : goal.returns-then-from-to
 returns-then-from-to c =
     let a = c.args in
-    unmoved_plan a.plan.now a.axis a.from a.to a.o.now (subst (λ (n : ℕ). a.plan.now.operands ≤ n) (sym c.requires.offered) c.requires.few) c.if-from-to.true
+    unmoved_plan a.plan.now a.axis a.from a.to a.o.now c.if-from-to.true
 
 pub loop-k-init : goal.loop-k-init
 loop-k-init c = (zero-le, filled_none _ _)

@@ -13,13 +13,12 @@ use Rattle.arrange.proofs.pick_into.Goals as goal
 
 pub loop-j-init : goal.loop-j-init
 loop-j-init c =
-    let p = c.requires.out in
-    (omega arith, sym (padded-take blank-ℕ 64 (length c.args.order.now) c.args.out.now p.0 p.1))
+    (omega arith, sym (padded-take blank-ℕ 64 (length c.args.order.now) c.args.out.now (omega arith) c.requires.out))
 
 pub loop-j-preserved : goal.loop-j-preserved
 loop-j-preserved c =
     -- what stood in the places that are counted
-    let stood : length (take (length c.args.order.now) c.args.out.now) ≡ length c.args.order.now = length-take-le (length c.args.order.now) c.args.out.now (omega (arith, c.requires.few, c.requires.out.0)) in
+    let stood : length (take (length c.args.order.now) c.args.out.now) ≡ length c.args.order.now = length-take-le (length c.args.order.now) c.args.out.now (omega (arith, c.requires.few)) in
     let p = c.requires.few in (
       omega (arith, c.loop-j-test),
       ap (λ (r : List ℕ). set r c.loop-j.j (get_or c.args.xs.now (get_or c.args.order.now c.loop-j.j 0) 0)) c.loop-j.invariant.1
@@ -28,6 +27,6 @@ loop-j-preserved c =
 
 pub returns : goal.returns
 returns c =
-    let stood : length (take (length c.args.order.now) c.args.out.now) ≡ length c.args.order.now = length-take-le (length c.args.order.now) c.args.out.now (omega (arith, c.requires.few, c.requires.out.0)) in
+    let stood : length (take (length c.args.order.now) c.args.out.now) ≡ length c.args.order.now = length-take-le (length c.args.order.now) c.args.out.now (omega (arith, c.requires.few)) in
     c.loop-j.invariant.1
     ∙ ap (padded 64 0) (picked-over c.args.order.now c.requires.few 0 c.args.xs.now (take (length c.args.order.now) c.args.out.now) c.loop-j.j stood c.loop-j-test.false)

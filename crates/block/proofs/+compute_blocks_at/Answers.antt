@@ -4,6 +4,7 @@ use native.Mathlib.Omega.{arith}
 use mathlib.Core.Path.{sym, subst, ◌∙◌}
 use Prim.Native.Nat.{ℕ, ◌<◌, ◌≤◌}
 use Rattle.strided.specs.Region.{region}
+use Rattle.strided.specs.Cut.{least_byte}
 use Rattle.laws.specs.Cut.Cases.{cut_empty, cut_fits, cut_keeps, cut_flat, cut_less}
 use Rattle.region.specs.Tail.{axes}
 use Rattle.block.proofs.+compute_blocks_at.Goals as goal
@@ -26,16 +27,18 @@ returns-then-keeps_first t c =
     ∙ sym (cut_keeps a.tail.machine.numbers a.tail.bytes.now a.tail.operands a.costs.now a.ranks.now a.tail.offset a.tail.rank a.blocks.now (omega arith) (omega arith)
     (sym c.keeps_first.ensures ∙ c.if-keeps_first.true))
 
-pub returns-then-tail-from : goal.returns-then-tail-from
-returns-then-tail-from t c =
+pub returns-then-tail-least_in : goal.returns-then-tail-least_in
+unfolding least_byte
+returns-then-tail-least_in t c =
     let a = c.args in
     c.set_ones.ensures
     ∙ sym (cut_flat a.tail.machine.numbers a.tail.bytes.now a.tail.operands a.costs.now a.ranks.now a.tail.offset a.tail.rank a.blocks.now (omega arith) (omega arith)
-    (sym c.keeps_first.ensures ∙ c.if-keeps_first.false) (subst (λ (x : ℕ). a.tail.machine.numbers.cache < x) (c.from.ensures ∙ c.least_byte.ensures) c.if-tail-from.true))
+    (sym c.keeps_first.ensures ∙ c.if-keeps_first.false) (subst (λ (x : ℕ). a.tail.machine.numbers.cache < x) c.least_in.ensures c.if-tail-least_in.true))
 
 pub returns : goal.returns
+unfolding least_byte
 returns t c =
     let a = c.args in
     c.shrink.ensures
     ∙ sym (cut_less a.tail.machine.numbers a.tail.bytes.now a.tail.operands a.costs.now a.ranks.now a.tail.offset a.tail.rank a.blocks.now (omega arith) (omega arith)
-    (sym c.keeps_first.ensures ∙ c.if-keeps_first.false) (subst (λ (x : ℕ). x ≤ a.tail.machine.numbers.cache) (c.from.ensures ∙ c.least_byte.ensures) c.if-tail-from.false))
+    (sym c.keeps_first.ensures ∙ c.if-keeps_first.false) (subst (λ (x : ℕ). x ≤ a.tail.machine.numbers.cache) c.least_in.ensures c.if-tail-least_in.false))

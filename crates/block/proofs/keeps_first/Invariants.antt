@@ -13,4 +13,4 @@ abbrev pub firstIs : List (List ℕ) → ℕ → ℕ → ℕ → Bool
 firstIs ranks offset m j = eqb (rank_at ranks j offset) m
 
 abbrev pub invariant-loop-k : goal.invariant-loop-k
-invariant-loop-k l = (every (firstIs l.fn.ranked.ranks.now l.fn.ranked.tail.offset l.m) 0 l.k ≡ true)
+invariant-loop-k l = (every (firstIs l.ranks l.some.tail.offset l.m) 0 l.k ≡ true)

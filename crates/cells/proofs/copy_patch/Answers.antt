@@ -2,12 +2,10 @@
 use mathlib.Core.Path.{◌≡◌, sym, ◌∙◌}
 use native.Mathlib.Omega.{arith}
 use lib.IntN.{pos}
-use lib.ListN.{length}
 use mir.Syntax.{w64}
 use mir.Val.{SFits, to_z, of_z}
 use mir.Facts.{to_z-of_z}
-use Rattle.cells.specs.Reaching.{PatchIn}
-use Rattle.cells.proofs.Lying.{lies_in, no_cell, no_run}
+use Rattle.cells.proofs.Lying.{lies_both, no_cell, no_run}
 use borrow.Author.Rules.{rules}
 use Rattle.cells.proofs.copy_patch.Goals as goal
 use Rattle.cells.proofs.copy_patch.Goals.{then-patch-eq0-via-then-patch-eq0, then-patch-eq0-via-else-patch-eq0+then-patch-eq0-2}
@@ -23,35 +21,23 @@ returns-then-patch-eq0 c =
 
 pub copy_packed-requires : goal.copy_packed-requires
 copy_packed-requires c =
-    -- both sides reach their cells
-    let to_in : PatchIn c.args.patch.width (length c.args.destination.now) c.args.patch.n0 c.args.patch.n1 c.args.patch.to = let a = c.args in
-    let g = c.well_formed.0.1 in
-    lies_in a.patch.width (length a.destination.now) a.patch.n0 a.patch.n1 a.patch.to c.requires.lies.to (omega (arith, g)) c.args.patch.few.0 c.args.patch.few.1 in
-    let from_in : PatchIn c.args.patch.width (length c.args.source.now) c.args.patch.n0 c.args.patch.n1 c.args.patch.from = let a = c.args in
-    let g = c.well_formed.1.0.1 in
-    lies_in a.patch.width (length a.source.now) a.patch.n0 a.patch.n1 a.patch.from c.requires.lies.from (omega (arith, g)) c.args.patch.few.0 c.args.patch.few.1 in
     let a = c.args in
+    let l = c.well_formed.0.1 in
+    let m = c.well_formed.1.0.1 in
     let f : SFits w64 a.patch.to.step0 = search rules in
     let g : SFits w64 a.patch.from.step0 = search rules in
     let p : to_z w64 (of_z w64 a.patch.to.step0) ≡ pos a.patch.width = (c.both_step.ensures c.if-both_step.true).0 in
-    let q : to_z w64 (of_z w64 a.patch.from.step0) ≡ pos a.patch.width = (c.both_step.ensures c.if-both_step.true).1 in record { packed = record { cells = omega arith; runs = omega arith; to = sym (to_z-of_z {w = w64} f) ∙ p; from = sym (to_z-of_z {w = w64} g) ∙ q }; reach = record { to = to_in; from = from_in } }
+    let q : to_z w64 (of_z w64 a.patch.from.step0) ≡ pos a.patch.width = (c.both_step.ensures c.if-both_step.true).1 in record { packed = record { cells = omega arith; runs = omega arith; to = sym (to_z-of_z {w = w64} f) ∙ p; from = sym (to_z-of_z {w = w64} g) ∙ q }; reach = lies_both a.patch a.destination.now a.source.now c.requires.lies (omega (arith, l)) (omega (arith, m)) }
 
 pub copy_fours_by_width-requires : goal.copy_fours_by_width-requires
 copy_fours_by_width-requires c =
-    let to_in : PatchIn c.args.patch.width (length c.args.destination.now) c.args.patch.n0 c.args.patch.n1 c.args.patch.to = let a = c.args in
-    let g = c.well_formed.0.1 in
-    lies_in a.patch.width (length a.destination.now) a.patch.n0 a.patch.n1 a.patch.to c.requires.lies.to (omega (arith, g)) c.args.patch.few.0 c.args.patch.few.1 in
-    let from_in : PatchIn c.args.patch.width (length c.args.source.now) c.args.patch.n0 c.args.patch.n1 c.args.patch.from = let a = c.args in
-    let g = c.well_formed.1.0.1 in
-    lies_in a.patch.width (length a.source.now) a.patch.n0 a.patch.n1 a.patch.from c.requires.lies.from (omega (arith, g)) c.args.patch.few.0 c.args.patch.few.1 in
-    record { reach = record { to = to_in; from = from_in }; apart = c.requires.apart }
+    let a = c.args in
+    let l = c.well_formed.0.1 in
+    let m = c.well_formed.1.0.1 in
+    record { reach = lies_both a.patch a.destination.now a.source.now c.requires.lies (omega (arith, l)) (omega (arith, m)); apart = c.requires.apart }
 
 pub copy_runs_by_width-requires : goal.copy_runs_by_width-requires
 copy_runs_by_width-requires c =
-    let to_in : PatchIn c.args.patch.width (length c.args.destination.now) c.args.patch.n0 c.args.patch.n1 c.args.patch.to = let a = c.args in
-    let g = c.well_formed.0.1 in
-    lies_in a.patch.width (length a.destination.now) a.patch.n0 a.patch.n1 a.patch.to c.requires.lies.to (omega (arith, g)) c.args.patch.few.0 c.args.patch.few.1 in
-    let from_in : PatchIn c.args.patch.width (length c.args.source.now) c.args.patch.n0 c.args.patch.n1 c.args.patch.from = let a = c.args in
-    let g = c.well_formed.1.0.1 in
-    lies_in a.patch.width (length a.source.now) a.patch.n0 a.patch.n1 a.patch.from c.requires.lies.from (omega (arith, g)) c.args.patch.few.0 c.args.patch.few.1 in
-    record { to = to_in; from = from_in }
+    let a = c.args in
+    let l = c.well_formed.0.1 in
+    let m = c.well_formed.1.0.1 in lies_both a.patch a.destination.now a.source.now c.requires.lies (omega (arith, l)) (omega (arith, m))

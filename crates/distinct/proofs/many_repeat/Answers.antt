@@ -17,7 +17,7 @@ size_is c = search rules
 pub loop-i-init : goal.loop-i-init
 loop-i-init c =
     let long = length-replicate {A = ℕ} 4096 0 in
-    (behind_starts 4096 c.args.operand.extents.now c.args.operand.strides.now (replicate 4096 0) c.args.operand.sound.paired long refl, long, ((λ y q. absurd q), tt))
+    (behind_starts 4096 c.args.operand.extents.now c.args.operand.strides.now (replicate 4096 0) c.args.operand.sound.paired long refl, ((λ y q. absurd q), tt))
 
 pub spread-requires : goal.spread-requires
 spread-requires c =
@@ -25,19 +25,15 @@ spread-requires c =
     let v = c.loop-i.invariant in
     let size = size_is (goal.at.spread-requires c).After-unsigned_abs in
     let r = behind_ready 4096 _ _ s.paired (no_zero_of _ s.some) c.requires s.near _ _ _ v.0 c.loop-i-test.true in
-    record {
-      extent_nonzero = (r.some, r.room, rw size r.high, record { long = omega (arith, r.long, v.0.long); rising = v.2; below = rw size r.low });
-      list_len = (v.0.long, v.1);
-    }
+    (r.some, r.room, rw size r.high, record { long = omega (arith, r.long, v.0.long); rising = v.1; below = rw size r.low })
 
 pub loop-i-preserved-then-extent-gt1 : goal.loop-i-preserved-then-extent-gt1
 loop-i-preserved-then-extent-gt1 c =
     let s = c.args.operand.sound in
     let k = c.spread in
     let size = size_is (goal.at.loop-i-preserved-then-extent-gt1 c).After-unsigned_abs in (
-      behind_more 4096 _ _ s.paired (no_zero_of _ s.some) c.requires s.near _ _ _ c.loop-i.invariant.0 c.loop-i-test.true k.new.list k.ensures.list_len_2.0
+      behind_more 4096 _ _ s.paired (no_zero_of _ s.some) c.requires s.near _ _ _ c.loop-i.invariant.0 c.loop-i-test.true k.new.list (omega arith)
           (rw size at (k.ensures.spreading.listed c.if-not-spread.false)),
-      k.ensures.list_len_2.1,
       k.ensures.rising c.if-not-spread.false,
     )
 
@@ -51,7 +47,7 @@ pub loop-i-preserved : goal.loop-i-preserved
 loop-i-preserved c =
     let s = c.args.operand.sound in
     let v = c.loop-i.invariant in
-    (behind_one 4096 _ _ s.paired (no_zero_of _ s.some) c.requires s.near _ _ _ v.0 c.loop-i-test.true c.if-extent-gt1.false, v.1, v.2)
+    (behind_one 4096 _ _ s.paired (no_zero_of _ s.some) c.requires s.near _ _ _ v.0 c.loop-i-test.true c.if-extent-gt1.false, v.1)
 
 pub returns : goal.returns
 returns c =

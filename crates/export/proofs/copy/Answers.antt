@@ -1,20 +1,40 @@
 -- `export::copy` meets its contract: what planning refuses, and what it does not. Assumes nothing.
 use Rattle.std.specs.Prelude.{◌≡◌, None}
-use Rattle.std.proofs.Common.{sym, ◌∙◌, rules}
-use Rattle.std.proofs.lemmas.Result.{err_from_is_err_and}
 use Rattle.strided.specs.Refusals.{planning_refused}
 use Rattle.strided.specs.declared.Purpose.TheVariants.{PointwiseInto}
-use Rattle.export.proofs.Ways.{not-planned, planned_taken}
+use Rattle.layout.specs.Checked.{Laid}
+use Rattle.kernel.proofs.Plans.{laid-accepted}
+use Rattle.export.specs.Export.{copy_done, Done}
+use Rattle.std.proofs.lemmas.Result.{err_from_is_err_and}
+use Rattle.layout.proofs.Checks.{checked-laid, checked_some, laid_as, as_laid}
+use Rattle.export.proofs.Ways.{not-planned}
 use Rattle.export.proofs.copy.Goals as goal
+use Rattle.export.proofs.copy.Goals.{In_ok-layout}
 
-pub returns-in_err-check_planning : goal.returns-in_err-check_planning
-returns-in_err-check_planning c =
+pub returns-in_err-layout : goal.returns-in_err-layout
+returns-in_err-layout c =
+    let a = c.args in
     let p = err_from_is_err_and c.from_residual.result c.from_residual.ensures.1 in
-    rw (p.1, p.2) (not-planned _ _ _ _ _ _ _ (sym c.in_err-check_planning.was ∙ c.check_planning.ensures))
+    rw (p.1, p.2) (not-planned _ _ _ _ _ _ _ (checked_some a.extents.now a.sizes.now a.strides.now c.check_planning.ensures c.in_err-layout.was))
+
+-- planning refuses nothing
+laid : (c : In_ok-layout) → let a = c.args in Laid (planning_refused a.machine a.extents.now a.sizes.now a.strides.now (PointwiseInto 0)) a.extents.now a.sizes.now a.strides.now c.in_ok-layout.layout
+laid c = let a = c.args in checked-laid a.extents.now a.sizes.now a.strides.now c.check_planning.ensures c.in_ok-layout.was
 
 pub invariant_of-asked : goal.invariant_of-asked
 invariant_of-asked c =
     let a = c.args in
-    -- planning refuses nothing
-    let none : planning_refused a.machine a.extents.now a.sizes.now a.strides.now (PointwiseInto 0) ≡ None = search rules in
-    record { accepted = planned_taken a.machine a.extents.now a.sizes.now a.strides.now a.starts.now a.destination.now a.source.now none }
+    let l = laid (goal.at.invariant_of-asked c).In_ok-layout in
+    record { operands = l.operands; accepted = laid-accepted a.machine a.extents.now a.sizes.now a.strides.now (PointwiseInto 0) l }
+
+pub copy_accepted-requires : goal.copy_accepted-requires
+copy_accepted-requires c =
+    let a = c.args in
+    let l = laid (goal.at.copy_accepted-requires c).In_ok-layout in
+    as_laid l (λ e m s. planning_refused a.machine e a.sizes.now s (PointwiseInto 0) ≡ None) l.served
+
+pub returns : goal.returns
+returns c =
+    let a = c.args in
+    let l = laid (goal.at.returns c).In_ok-layout in
+    laid_as l (λ e m s. Done (copy_done a.machine e a.sizes.now s a.starts.now a.destination.now a.source.now) a.destination.now c.copy_accepted.new.destination c.copy_accepted.result) c.copy_accepted.ensures

@@ -3,7 +3,8 @@ use Rattle.std.specs.Prelude.{◌≡◌, ◌<◌, ◌^◌, length}
 use Rattle.std.proofs.Common.{refl, arith}
 use Rattle.std.proofs.lemmas.Result.{err_from_is_err_and}
 use Rattle.laws.specs.Refusals.Record.{planning_allowed}
-use Rattle.export.proofs.Ways.{made_whole, no_starts, offsets_leave, cells_refuse, walk_copyable, walk-begun, all_done}
+use Rattle.kernel.proofs.Plans.{made_whole}
+use Rattle.export.proofs.Ways.{no_starts, offsets_leave, cells_refuse, walk_copyable, walk-begun, all_done}
 use Rattle.export.proofs.copy_planned.Goals as goal
 
 pub returns-then-asked : goal.returns-then-asked
@@ -11,12 +12,12 @@ returns-then-asked c = no_starts _ _ _ _ _ _ _ c.requires c.if-asked.true
 
 pub plan_into-rank-requires : goal.plan_into-rank-requires
 plan_into-rank-requires c =
-    let a = c.args in record { allowed = planning_allowed a.machine a.asked.extents.now a.asked.sizes.now a.asked.strides.now _ c.requires; accepted = a.asked.accepted; zeros = record { extents = refl; strides = refl } }
+    let a = c.args in record { operands = a.asked.operands; allowed = planning_allowed a.machine a.asked.layout.extents.now a.asked.sizes.now a.asked.layout.strides.now _ c.requires; accepted = a.asked.accepted; zeros = record { extents = refl; strides = refl } }
 
 pub invariant_of-plan : goal.invariant_of-plan
 invariant_of-plan c =
     let a = c.args in
-    made_whole a.machine a.asked.extents.now a.asked.sizes.now a.asked.strides.now a.asked.starts.now a.destination.now a.source.now c.requires c.plan_into-rank.ensures
+    made_whole a.machine a.asked.layout.extents.now a.asked.sizes.now a.asked.layout.strides.now _ c.requires c.plan_into-rank.ensures
 
 pub returns-in_err-walk : goal.returns-in_err-walk
 returns-in_err-walk c =
@@ -39,12 +40,12 @@ copy_blocks-requires c =
     let short : length c.args.destination.now < 2 ^ 63 = omega arith in
     let a = c.args in
     record {
-      copyable = walk_copyable a.machine a.asked.extents.now a.asked.sizes.now a.asked.strides.now a.asked.starts.now a.destination.now a.source.now c.requires many _ _ _ _ c.plan_into-rank.ensures _ c.begin_on.ensures _ c.in_ok-walk.was c.check_cells.result c.check_cells.ensures c.in_ok-check_cells.was short;
-      walk_value = walk-begun a.machine a.asked.extents.now a.asked.sizes.now a.asked.strides.now a.asked.starts.now a.destination.now a.source.now c.requires many _ _ _ _ c.plan_into-rank.ensures _ c.begin_on.ensures _ c.in_ok-walk.was c.check_cells.result c.check_cells.ensures c.in_ok-check_cells.was;
+      copyable = walk_copyable a.machine a.asked.layout.extents.now a.asked.sizes.now a.asked.layout.strides.now a.asked.starts.now a.destination.now a.source.now c.requires many _ _ _ _ c.plan_into-rank.ensures _ c.begin_on.ensures _ c.in_ok-walk.was c.check_cells.result c.check_cells.ensures c.in_ok-check_cells.was short;
+      walk_value = walk-begun a.machine a.asked.layout.extents.now a.asked.sizes.now a.asked.layout.strides.now a.asked.starts.now a.destination.now a.source.now c.requires many _ _ _ _ c.plan_into-rank.ensures _ c.begin_on.ensures _ c.in_ok-walk.was c.check_cells.result c.check_cells.ensures c.in_ok-check_cells.was;
     }
 
 pub returns : goal.returns
 returns c =
     let many : length c.args.asked.starts.now ≡ length c.args.asked.sizes.now = c.if-asked.false in
     let a = c.args in
-    all_done a.machine a.asked.extents.now a.asked.sizes.now a.asked.strides.now a.asked.starts.now a.destination.now a.source.now c.requires many _ _ _ _ c.plan_into-rank.ensures _ c.begin_on.ensures _ c.in_ok-walk.was c.check_cells.result c.check_cells.ensures c.in_ok-check_cells.was _ c.copy_blocks.ensures
+    all_done a.machine a.asked.layout.extents.now a.asked.sizes.now a.asked.layout.strides.now a.asked.starts.now a.destination.now a.source.now c.requires many _ _ _ _ c.plan_into-rank.ensures _ c.begin_on.ensures _ c.in_ok-walk.was c.check_cells.result c.check_cells.ensures c.in_ok-check_cells.was _ c.copy_blocks.ensures

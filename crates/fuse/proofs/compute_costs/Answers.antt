@@ -6,10 +6,11 @@ use native.Mathlib.Omega.{arith}
 use lib.ListN.{length, get_or, set}
 use lib.Seq.{take_all}
 use Rattle.strided.specs.Base.{padded}
-use Rattle.strided.specs.Costs.{costs}
+use Rattle.strided.specs.Costs.{cost_of, cost_number, costs}
 use Rattle.laws.specs.Base.Filling.{fill_none}
 use Rattle.laws.specs.Base.Stores.{fill_first}
 use Rattle.laws.specs.Cut.Tables.{cost_at}
+use Rattle.fuse.specs.Sizes.{size_at}
 use Rattle.fuse.proofs.Costing.{length-costs}
 use Rattle.fuse.proofs.compute_costs.Goals as goal
 
@@ -18,15 +19,19 @@ loop-i-init c = (omega arith, fill_none 64 0)
 
 pub loop-i-preserved : goal.loop-i-preserved
 loop-i-preserved c =
-    let C : List ℕ = costs c.args.strides.now c.args.operands c.args.rank in
-    let long : length C ≡ c.args.rank = length-costs c.args.strides.now c.args.operands c.args.rank in
-    let e : c.cost.result ≡ get_or C c.loop-i.i 0 =
-    c.cost.ensures ∙ sym (cost_at c.args.strides.now c.args.operands c.args.rank c.loop-i.i c.loop-i-test.true) in (
+    let r = c.args.rows in
+    let i = c.loop-i.i in
+    let C : List ℕ = costs r.strides.now r.operands c.args.rank in
+    let long : length C ≡ c.args.rank = length-costs r.strides.now r.operands c.args.rank in
+    let e : c.cost.result ≡ get_or C i 0 =
+    c.cost.ensures ∙ ap (λ (p : ℕ). cost_number (cost_of (size_at r.strides.now p i) r.operands)) c.requires.pitch
+    ∙ sym (cost_at r.strides.now r.operands c.args.rank i c.loop-i-test.true) in (
       omega (arith, c.loop-i-test),
-      ap₂ (λ (r : List ℕ) (v : ℕ). set r c.loop-i.i v) c.loop-i.invariant.1 e ∙ fill_first 0 64 C c.loop-i.i (omega (arith, c.requires, long)) (omega (arith, c.loop-i-test, long)),
+      ap₂ (λ (o : List ℕ) (v : ℕ). set o i v) c.loop-i.invariant.1 e ∙ fill_first 0 64 C i (omega (arith, c.requires.rank, long)) (omega (arith, c.loop-i-test, long)),
     )
 
 pub returns : goal.returns
 returns c =
-    let long : length (costs c.args.strides.now c.args.operands c.args.rank) ≡ c.args.rank = length-costs c.args.strides.now c.args.operands c.args.rank in
-    c.loop-i.invariant.1 ∙ ap (padded 64 0) (take_all c.loop-i.i (costs c.args.strides.now c.args.operands c.args.rank) (omega (arith, c.loop-i-test, long)))
+    let r = c.args.rows in
+    let long : length (costs r.strides.now r.operands c.args.rank) ≡ c.args.rank = length-costs r.strides.now r.operands c.args.rank in
+    c.loop-i.invariant.1 ∙ ap (padded 64 0) (take_all c.loop-i.i (costs r.strides.now r.operands c.args.rank) (omega (arith, c.loop-i-test, long)))

@@ -7,4 +7,4 @@ use Rattle.strided.specs.Costs.{costs}
 use Rattle.fuse.proofs.compute_costs.Given as goal
 
 abbrev pub invariant-loop-i : goal.invariant-loop-i
-invariant-loop-i l = (l.i ≤ l.rank) × (l.found ≡ padded 64 0 (take l.i (costs l.strides l.operands l.rank)))
+invariant-loop-i l = (l.i ≤ l.rank) × (l.found ≡ padded 64 0 (take l.i (costs l.rows.strides.now l.rows.operands l.rank)))

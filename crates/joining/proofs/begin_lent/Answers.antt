@@ -1,57 +1,48 @@
 -- `joining::begin_lent` meets its contract. Assumes nothing.
-use mathlib.Core.Path.{◌≡◌, refl, sym, ap, ◌∙◌}
-use Rattle.std.specs.Prelude.{None, Ok}
+use mathlib.Core.Path.{refl, sym, ap}
+use native.Mathlib.Omega.{arith}
 use Rattle.std.proofs.lemmas.Result.{err_from_is_err_and}
-use Rattle.laws.specs.Refusals.Rows.{served_none}
-use Rattle.session.specs.declared.Numbers.{Numbers}
+use Rattle.strided.specs.Refusals.{answered}
+use Rattle.layout.specs.Checked.{Laid}
+use Rattle.layout.proofs.Checks.{checked-laid, checked_some}
 use Rattle.session.specs.Session.{Given, given, refused_of, fresh_of, begun}
 use Rattle.session.specs.Afresh.{taken_of}
 use Rattle.joining.proofs.Answering.{lent_refused, lent_served}
-use Rattle.joining.proofs.Moving.{stands_right, stands_table, stands_session}
+use Rattle.joining.proofs.Moving.{stands_begun, stands_right, stands_table, stands_session}
 use Rattle.joining.proofs.begin_lent.Goals as goal
+use Rattle.joining.proofs.begin_lent.Goals.{In_ok-layout}
 
-pub lay-requires : goal.lay-requires
-lay-requires c =
+-- planning accepts the layout
+laid : (c : In_ok-layout) → let a = c.args in Laid (refused_of (given a.aim.machine a.layout_extents.now a.layout_sizes.now a.layout_strides.now a.aim.purpose)) a.layout_extents.now a.layout_sizes.now a.layout_strides.now c.in_ok-layout.layout
+laid c = let a = c.args in checked-laid a.layout_extents.now a.layout_sizes.now a.layout_strides.now c.check_planning.ensures c.in_ok-layout.was
+
+pub lay_into-requires : goal.lay_into-requires
+lay_into-requires c =
     let G : Given = let a = c.args in given a.aim.machine a.layout_extents.now a.layout_sizes.now a.layout_strides.now a.aim.purpose in
-    -- planning accepts the layout
-    let told : c.check_planning.result ≡ Ok tt = c.in_ok-check_planning.was in
-    let passed : refused_of G ≡ None = served_none _ tt (sym c.check_planning.ensures ∙ told) in
-    record { list_in_bounds = (taken_of G passed).axes; out_value = refl }
+    (omega arith, ((taken_of G (laid (goal.at.lay_into-requires c).In_ok-layout).served).axes, refl))
 
 pub lay_operands-requires : goal.lay_operands-requires
-lay_operands-requires c = record { operands = refl; table_value = refl }
-
-pub invariant_of-layout : goal.invariant_of-layout
-invariant_of-layout c =
-    let G : Given = let a = c.args in given a.aim.machine a.layout_extents.now a.layout_sizes.now a.layout_strides.now a.aim.purpose in
-    let told : c.check_planning.result ≡ Ok tt = c.in_ok-check_planning.was in
-    let passed : refused_of G ≡ None = served_none _ tt (sym c.check_planning.ensures ∙ told) in
-    let t = taken_of G passed in record { fits = record { rank-few = t.axes; operands_few = t.few; strides_all = t.strides } }
+lay_operands-requires c = (laid (goal.at.lay_operands-requires c).In_ok-layout).operands
 
 pub keep-requires : goal.keep-requires
 keep-requires c =
-    let G : Given = let a = c.args in given a.aim.machine a.layout_extents.now a.layout_sizes.now a.layout_strides.now a.aim.purpose in
-    let told : c.check_planning.result ≡ Ok tt = c.in_ok-check_planning.was in
-    let passed : refused_of G ≡ None = served_none _ tt (sym c.check_planning.ensures ∙ told) in
-    let g = G in
-    let q = c.begun.ensures in record { layout_right = stands_right g passed c.begun.result _ _ _ _ _ c.lay.ensures c.lay_operands.ensures (ap (λ (x : Numbers). x.rank) q) (ap (λ (x : Numbers). x.operands) q) (ap (λ (x : Numbers). x.machine) q) (ap (λ (x : Numbers). x.purpose) q) (ap (λ (x : Numbers). x.chosen) q); table_of = stands_table g passed c.begun.result _ _ _ _ _ c.lay.ensures c.lay_operands.ensures (ap (λ (x : Numbers). x.rank) q) (ap (λ (x : Numbers). x.operands) q) (ap (λ (x : Numbers). x.machine) q) (ap (λ (x : Numbers). x.purpose) q) (ap (λ (x : Numbers). x.chosen) q); plan_strides_value = refl }
+    let l = laid (goal.at.keep-requires c).In_ok-layout in
+    let t = stands_begun l c.begun.ensures c.lay_into.ensures c.lay_operands.ensures in
+    record { layout_right = stands_right l.served t; table_of = stands_table l.served t; plan_strides_value = refl }
 
 pub returns : goal.returns
 unfolding begun
 returns c =
     let G : Given = let a = c.args in given a.aim.machine a.layout_extents.now a.layout_sizes.now a.layout_strides.now a.aim.purpose in
-    let told : c.check_planning.result ≡ Ok tt = c.in_ok-check_planning.was in
-    let passed : refused_of G ≡ None = served_none _ tt (sym c.check_planning.ensures ∙ told) in
-    let g = G in
-    let q = c.begun.ensures in
-    lent_served (refused_of g) (fresh_of g) _ c.check_planning.ensures told
-    (stands_session g passed c.begun.result _ _ _ _ _ c.lay.ensures c.lay_operands.ensures (ap (λ (x : Numbers). x.rank) q) (ap (λ (x : Numbers). x.operands) q) (ap (λ (x : Numbers). x.machine) q) (ap (λ (x : Numbers). x.purpose) q) (ap (λ (x : Numbers). x.chosen) q)
+    let l = laid (goal.at.returns c).In_ok-layout in
+    lent_served (refused_of G) (fresh_of G) _ (sym (ap answered l.served)) refl
+    (stands_session l.served (stands_begun l c.begun.ensures c.lay_into.ensures c.lay_operands.ensures)
     _ _ _ _ _ _ c.keep.ensures.numbers c.keep.ensures.kept)
 
-pub returns-in_err-check_planning : goal.returns-in_err-check_planning
+pub returns-in_err-layout : goal.returns-in_err-layout
 unfolding begun
-returns-in_err-check_planning c =
-    let G : Given = let a = c.args in given a.aim.machine a.layout_extents.now a.layout_sizes.now a.layout_strides.now a.aim.purpose in
-    let g = G in
+returns-in_err-layout c =
+    let a = c.args in
+    let G : Given = given a.aim.machine a.layout_extents.now a.layout_sizes.now a.layout_strides.now a.aim.purpose in
     let p = err_from_is_err_and c.from_residual.result c.from_residual.ensures.1 in
-    rw (p.1, p.2) (lent_refused (refused_of g) (fresh_of g) _ c.check_planning.ensures c.in_err-check_planning.was)
+    rw (p.1, p.2) (lent_refused (refused_of G) (fresh_of G) _ (sym (ap answered (checked_some a.layout_extents.now a.layout_sizes.now a.layout_strides.now c.check_planning.ensures c.in_err-layout.was))) refl)

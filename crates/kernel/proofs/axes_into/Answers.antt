@@ -1,14 +1,10 @@
 -- `kernel::axes_into` meets its contract: the axes in the order of fusing, fused, make the plan's axes. Assumes nothing.
-use mathlib.Core.Path.{refl}
 use lib.ListN.{length}
 use Rattle.strided.specs.Base.{padded}
 use Rattle.strided.specs.Layout.{extents}
 use Rattle.strided.specs.Plan.{stride_table}
 use Rattle.arrange.specs.Fusing.{in_order_lem, as_planned}
 use Rattle.kernel.proofs.axes_into.Goals as goal
-
-pub fusing_order_into-requires : goal.fusing_order_into-requires
-fusing_order_into-requires c = record { zeros = (refl, refl) }
 
 pub plan_axes_into-requires : goal.plan_axes_into-requires
 plan_axes_into-requires c =

@@ -1,30 +1,34 @@
 -- `kernel::plan` meets its contract: what is made where rows 1 to 6 and 24 pass, and the refusal where one applies. Assumes nothing.
-use Rattle.std.proofs.Common.{◌≡◌, refl, sym, ◌∙◌}
+use Rattle.std.proofs.Common.{refl, sym}
 use Rattle.std.proofs.lemmas.Result.{err_from_is_err_and}
-use Rattle.std.specs.Prelude.{None}
 use Rattle.strided.specs.Refusals.{planning_refused}
-use Rattle.laws.specs.Refusals.Accepted.{accepted}
-use Rattle.laws.specs.Refusals.Record.{planning_allowed, planning_layout}
-use Rattle.laws.specs.Refusals.Rows.{served_none, refused_some}
+use Rattle.laws.specs.Refusals.Record.{planning_allowed}
 use Rattle.laws.specs.Plan.Answers.{planned-refused}
-use Rattle.kernel.proofs.Plans.{serves}
+use Rattle.layout.specs.Checked.{Laid}
+use Rattle.layout.proofs.Checks.{checked-laid, checked_some}
+use Rattle.kernel.proofs.Plans.{serves, laid-accepted, laid-made}
 use Rattle.kernel.proofs.plan.Goals as goal
+use Rattle.kernel.proofs.plan.Goals.{In_ok-layout}
 
-pub returns-in_err-check_planning : goal.returns-in_err-check_planning
-returns-in_err-check_planning c =
+pub returns-in_err-layout : goal.returns-in_err-layout
+returns-in_err-layout c =
     let a = c.args in
     let p = err_from_is_err_and c.from_residual.result c.from_residual.ensures.1 in
     rw (p.1, p.2) (sym (planned-refused a.machine a.extents.now a.sizes.now a.strides.now a.purpose _
-    (refused_some _ _ (sym c.check_planning.ensures ∙ c.in_err-check_planning.was))))
+    (checked_some a.extents.now a.sizes.now a.strides.now c.check_planning.ensures c.in_err-layout.was)))
+
+-- rows 1 to 6 and 24 let the layout through
+laid : (c : In_ok-layout) → let a = c.args in Laid (planning_refused a.machine a.extents.now a.sizes.now a.strides.now a.purpose) a.extents.now a.sizes.now a.strides.now c.in_ok-layout.layout
+laid c = let a = c.args in checked-laid a.extents.now a.sizes.now a.strides.now c.check_planning.ensures c.in_ok-layout.was
 
 pub plan_into-rank-requires : goal.plan_into-rank-requires
 plan_into-rank-requires c =
-    -- rows 1 to 6 and 24 let the layout through
-    let passed : let a = c.args in planning_refused a.machine a.extents.now a.sizes.now a.strides.now a.purpose ≡ None = served_none _ _ (sym c.check_planning.ensures ∙ c.in_ok-check_planning.was) in
-    let a = c.args in record { allowed = planning_allowed a.machine a.extents.now a.sizes.now a.strides.now a.purpose passed; accepted = accepted a.extents.now a.sizes.now a.strides.now a.purpose (planning_layout a.machine a.extents.now a.sizes.now a.strides.now a.purpose passed); zeros = record { extents = refl; strides = refl } }
+    let a = c.args in
+    let l = laid (goal.at.plan_into-rank-requires c).In_ok-layout in
+    record { operands = l.operands; allowed = planning_allowed a.machine a.extents.now a.sizes.now a.strides.now a.purpose l.served; accepted = laid-accepted a.machine a.extents.now a.sizes.now a.strides.now a.purpose l; zeros = record { extents = refl; strides = refl } }
 
 pub returns : goal.returns
 returns c =
-    let passed : let a = c.args in planning_refused a.machine a.extents.now a.sizes.now a.strides.now a.purpose ≡ None = served_none _ _ (sym c.check_planning.ensures ∙ c.in_ok-check_planning.was) in
     let a = c.args in
-    serves a.machine a.extents.now a.sizes.now a.strides.now a.purpose passed _ _ _ _ c.plan_into-rank.ensures
+    let l = laid (goal.at.returns c).In_ok-layout in
+    serves a.machine a.extents.now a.sizes.now a.strides.now a.purpose l.served _ _ _ _ (laid-made a.machine a.extents.now a.sizes.now a.strides.now a.purpose l c.plan_into-rank.ensures)

@@ -11,47 +11,46 @@ use Rattle.laws.specs.Plan.Bounds.{plan_few}
 use Rattle.kernel.proofs.Plans.{plannable, given_planned, made_small, made-cut}
 use Rattle.kernel.proofs.plan_into.Goals as goal
 
-pub invariant_of-layout : goal.invariant_of-layout
-invariant_of-layout c =
-    let ok = c.requires.accepted in
-    record { fits = record { rank-few = ok.axes; operands_few = ok.few; strides_all = ok.strides } }
-
 pub given_axes_into-rank-requires : goal.given_axes_into-rank-requires
 given_axes_into-rank-requires c = let z = c.requires.zeros in record { zeros = (z.extents, z.strides) }
 
 pub returns-then-total_at_most : goal.returns-then-total_at_most
 returns-then-total_at_most c =
     let a = c.args in
-    let es = a.extents.now in
+    let es = a.layout.extents.now in
     let m = length a.sizes.now in
-    let ss = a.strides.now in
+    let ss = a.layout.strides.now in
     let u = a.aim.purpose in
     let small = sym c.total_at_most.ensures ∙ c.if-total_at_most.true in
     let e = c.given_axes_into-rank.ensures in
+    let o = c.requires.operands in
     made_small es a.sizes.now ss u c.requires.accepted c.given_axes_into-rank.result _ _
-    (given_planned es m ss u small length e.rank)
-    (given_planned es m ss u small (λ xs. padded 64 0 (extents xs)) e.extents)
-    (given_planned es m ss u small (λ xs. stride_table xs m) e.strides)
+    (given_planned es m ss u small length (rw o at e.rank))
+    (given_planned es m ss u small (λ xs. padded 64 0 (extents xs)) (rw o at e.extents))
+    (given_planned es m ss u small (λ xs. stride_table xs m) (rw o at e.strides))
     a.aim.machine small
 
 pub invariant_of-axes : goal.invariant_of-axes
 invariant_of-axes c =
     let a = c.args in
-    let few = plan_few a.extents.now a.sizes.now a.strides.now a.aim.purpose c.requires.accepted in
-    record { few = c.requires.accepted.few; to = omega (arith, few, c.axes_into-rank.ensures.rank) }
+    let few = plan_few a.layout.extents.now a.sizes.now a.layout.strides.now a.aim.purpose c.requires.accepted in
+    record { few = c.requires.accepted.few; to = omega (arith, few, rw c.requires.operands at c.axes_into-rank.ensures.rank); all = omega arith }
 
 pub block_sizes_into-requires : goal.block_sizes_into-requires
 block_sizes_into-requires c =
     let a = c.args in
-    let e = c.axes_into-rank.ensures in record {
+    let e = c.axes_into-rank.ensures in
+    let o = c.requires.operands in
+    record {
       allowed = c.requires.allowed;
-      plannable = plannable a.extents.now a.sizes.now a.strides.now a.aim.purpose c.requires.accepted c.axes_into-rank.result _ _ e.rank e.extents e.strides
-          (leb-false (total a.extents.now) 1024 (sym c.total_at_most.ensures ∙ c.if-total_at_most.false));
+      plannable = plannable a.layout.extents.now a.sizes.now a.layout.strides.now a.aim.purpose c.requires.accepted c.axes_into-rank.result _ _ (rw o at e.rank) (rw o at e.extents) (rw o at e.strides)
+          (leb-false (total a.layout.extents.now) 1024 (sym c.total_at_most.ensures ∙ c.if-total_at_most.false));
     }
 
 pub returns : goal.returns
 returns c =
     let a = c.args in
     let e = c.axes_into-rank.ensures in
-    made-cut a.extents.now a.sizes.now a.strides.now a.aim.purpose c.requires.accepted c.axes_into-rank.result _ _ e.rank e.extents e.strides a.aim.machine
+    let o = c.requires.operands in
+    made-cut a.layout.extents.now a.sizes.now a.layout.strides.now a.aim.purpose c.requires.accepted c.axes_into-rank.result _ _ (rw o at e.rank) (rw o at e.extents) (rw o at e.strides) a.aim.machine
     (sym c.total_at_most.ensures ∙ c.if-total_at_most.false) _ c.block_sizes_into.ensures

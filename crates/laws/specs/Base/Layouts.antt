@@ -36,6 +36,13 @@ within-at (e ∷ es) [] j r h = absurd r
 within-at (e ∷ es) (y ∷ x) zero r h = r.0
 within-at (e ∷ es) (y ∷ x) (suc j) r h = within-at es x j r.1 (omega arith)
 
+pub within-drop : (es x : List ℕ) (i : ℕ) → Within es x → Within (drop i es) (drop i x)
+within-drop es x zero h = h
+within-drop [] [] (suc i) h = tt
+within-drop [] (y ∷ x) (suc i) h = absurd h
+within-drop (e ∷ es) [] (suc i) h = absurd h
+within-drop (e ∷ es) (y ∷ x) (suc i) h = within-drop es x i h.1
+
 pub at-within : (es x : List ℕ) → length x ≡ length es → ((j : ℕ) → j < length es → get_or x j 0 < get_or es j 0) → Within es x
 at-within [] [] e f = tt
 at-within [] (y ∷ x) e f = absurd (omega arith)
@@ -53,6 +60,14 @@ within-total [] [] h = omega arith
 within-total [] (y ∷ x) h = absurd h
 within-total (e ∷ es) [] h = absurd h
 within-total (e ∷ es) (y ∷ x) h = pos_mul e (total es) (omega (arith, h.0)) (within-total es x h.1)
+
+-- the total of the axes behind
+pub total-drop : (es : List ℕ) (i : ℕ) → NoZero es → total (drop i es) ≤ total es
+total-drop es zero p = omega arith
+total-drop [] (suc i) p = omega arith
+total-drop (e ∷ es) (suc i) p =
+    let g : 1 * total es ≤ e * total es = mul-le-mul_right (total es) p.0 in
+    omega (arith, total-drop es i p.1)
 
 pub total_nozero : (es : List ℕ) → 0 < total es → NoZero es
 total_nozero [] h = tt

@@ -1,7 +1,7 @@
 -- Lists: a claim on each element, the elements by number, lists joined, and runs of numbers.
 -- Assumes nothing.
 use Rattle.std.specs.Prelude.{◌≡◌, refl, ◌↔◌, List, [], ◌∷◌, ◌++◌, map, ℕ, zero, suc, ◌+◌, ◌≤◌, ◌<◌, length, get_or, take, drop, None, Some}
-use Rattle.std.proofs.Common.{sym, ap, ◌∙◌, append_assoc, append-nil, zero-add, add-zero, suc-add, arith}
+use Rattle.std.proofs.Common.{sym, ap, ap₂, ◌∙◌, append_assoc, append-nil, zero-add, add-zero, suc-add, arith}
 use Rattle.strided.specs.Base.{over, nth, run}
 
 -- ---- P holds of each element
@@ -97,6 +97,17 @@ run-append (suc m) n s =
 pub run-all : (n s lo hi : ℕ) → lo ≤ s → s + n ≤ hi → All (λ k. (lo ≤ k) × (k < hi)) (run s n)
 run-all zero s lo hi h k = tt
 run-all (suc n) s lo hi h k = ((h, omega arith), run-all n (suc s) lo hi (omega arith) (omega arith))
+
+-- two rules that agree on a run make one list
+pub map_agree : {B : Type 0} (f g : ℕ → B) (s n : ℕ) → ((k : ℕ) → s ≤ k → k < s + n → f k ≡ g k) → map f (run s n) ≡ map g (run s n)
+map_agree f g s zero h = refl
+map_agree f g s (suc n) h =
+    ap₂ (λ x r. x ∷ r) (h s (omega arith) (omega arith)) (map_agree f g (suc s) n (λ k a b. h k (omega arith) (omega arith)))
+
+pub over_agree : {B : Type 0} (f g : ℕ → List B) (s n : ℕ) → ((k : ℕ) → s ≤ k → k < s + n → f k ≡ g k) → over (run s n) f ≡ over (run s n) g
+over_agree f g s zero h = refl
+over_agree f g s (suc n) h =
+    ap₂ (λ x r. x ++ r) (h s (omega arith) (omega arith)) (over_agree f g (suc s) n (λ k a b. h k (omega arith) (omega arith)))
 
 pub get_d_run : {B : Type 0} (f : ℕ → B) (d : B) (m s j : ℕ) → j < m → get_or (map f (run s m)) j d ≡ f (s + j)
 get_d_run f d zero s j h = absurd (omega arith)

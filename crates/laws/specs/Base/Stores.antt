@@ -1,9 +1,9 @@
 -- Stores into arrays with a count: what a loop that fills one place after another has made, also behind rows that stand already.
 -- Assumes nothing.
-use Rattle.std.specs.Prelude.{◌≡◌, refl, List, [], ◌∷◌, ◌++◌, ℕ, zero, suc, ◌+◌, ◌≤◌, ◌<◌, length, get_or, take, set, replicate}
-use Rattle.std.proofs.Common.{sym, ap, ◌∙◌, append_assoc, add-one, arith, length-append, length-take-le, take-suc}
+use Rattle.std.specs.Prelude.{◌≡◌, refl, List, [], ◌∷◌, ◌++◌, ℕ, zero, suc, ◌+◌, ◌-◌, ◌≤◌, ◌<◌, length, get_or, take, drop, set, replicate}
+use Rattle.std.proofs.Common.{sym, ap, ap₂, ◌∙◌, append_assoc, add-one, arith, length-append, length-take-le, take-suc}
 use Rattle.strided.specs.Base.{padded}
-use Rattle.laws.specs.Base.Filling.{fill_none}
+use Rattle.laws.specs.Base.Filling.{fill_none, drop_behind, padded_is}
 
 module _ {A : Type 0} (z : A) where
   -- the first places of an array of z are z
@@ -14,6 +14,12 @@ module _ {A : Type 0} (z : A) where
       bad : suc k ≤ 0 → ⊥
       bad h = omega arith
   blank-first (suc n) (suc k) h = ap (λ r. z ∷ r) (blank-first n k (omega arith))
+
+  -- a row that is written over the first places of an array of z
+  pub front-padded : (n r : ℕ) (new xs old : List A) → new ≡ xs → old ≡ replicate n z → length xs ≡ r → r ≤ n → new ++ drop r old ≡ padded n z xs
+  front-padded n r new xs old e o l h =
+      ap₂ ◌++◌ e (ap (drop r) (o ∙ fill_none n z) ∙ drop_behind n r z [] (omega arith) ∙ ap (λ (k : ℕ). padded (n - k) z []) (sym l))
+      ∙ sym (padded_is n z xs (omega (arith, l)))
 
   -- a store within the count
   pub set-padded : (n : ℕ) (xs : List A) (i : ℕ) (v : A) → i < length xs → set (padded n z xs) i v ≡ padded n z (set xs i v)

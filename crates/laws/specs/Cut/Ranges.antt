@@ -2,20 +2,18 @@
 -- whose test is known. The range from o on is written i - o, since a loop holds i. Assumes nothing.
 use Rattle.std.specs.Prelude.{◌≡◌, refl, ◌⊎◌, Bool, true, false, cond, ℕ, zero, suc, ◌+◌, ◌-◌, ◌*◌, ◌<◌, ◌≤◌, min, ltb}
 use Rattle.std.proofs.Common.{sym, ap, ap₂, ◌∙◌, ⊎_elim, inl, inr, eq-or-lt_of_le, le_of_eq, le_refl, add-le-add, mul-le-mul, zero-add, zero-mul, add-mul, add-one, arith, lt-ltb, le-ltb}
-use Rattle.std.proofs.lemmas.Bool.{false≢true}
-use Rattle.std.proofs.Math.Decide.{dec_le}
+use Rattle.std.proofs.lemmas.Bool.{false≢true, cases_lt, cases_Bool}
 use Rattle.std.proofs.Math.Nat.{sub-zero}
 use Rattle.strided.specs.Base.{sum, product, least, every, seek, greatest}
 use Rattle.laws.specs.Base.Ranges.{sum_mono, every_fails}
 
 pub le_or_lt : (a b : ℕ) → (a ≤ b) ⊎ (b < a)
-le_or_lt a b = elim (dec_le a b) [ yes h ↦ inl h | no h ↦ inr (omega arith) ]
+le_or_lt a b = ⊎_elim inr inl (cases_lt b a)
 
 -- ---- choices
 
 pub true_or_false : (t : Bool) → (t ≡ true) ⊎ (t ≡ false)
-true_or_false true = inl refl
-true_or_false false = inr refl
+true_or_false t = cases_Bool t
 
 module _ {A : Type 0} where
   pub cond_true : (t : Bool) (x y : A) → t ≡ true → cond t x y ≡ x

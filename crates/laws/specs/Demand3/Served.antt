@@ -78,22 +78,22 @@ module _ (es sizes : List ℕ) (ss : List ℤ) (u : Purpose) (p : Plan) (zs : Li
   counters-back : (m : ℕ) (c : List ℕ) → state_after ls m ≡ Some c → take p.rank (padded 64 0 c) ≡ c
   counters-back m c e = take_counted 0 64 p.rank c (counters-many p zs r m (Some c) e) r.axes
 
-  -- a block that a step hands out
-  pub record Handed (m : ℕ) (b : Block) : Type 0 where
+  -- the block that step m hands out
+  pub record HandedAt (m : ℕ) (b : Block) : Type 0 where
     pub c : List ℕ
     pub state : state_after ls m ≡ Some c
     pub is : b ≡ out c
 
-  handed : (m : ℕ) (s : Result Stepped Refusal) (b : Block) → nth L m ≡ Some s → Hands s b → Handed m b
+  handed : (m : ℕ) (s : Result Stepped Refusal) (b : Block) → nth L m ≡ Some s → Hands s b → HandedAt m b
   handed m s b e h =
       let d = was_block (state_after ls m) s b (walk_is p zs r n m s e) h in
       record { c = d.0; state = d.1; is = d.2 }
 
   -- the block of a place
-  of_place : (m k : ℕ) (b : Block) → Place es sizes ss u p L m k b → Handed m b
+  of_place : (m k : ℕ) (b : Block) → Place es sizes ss u p L m k b → HandedAt m b
   of_place m k b q = handed m q.step b q.there q.hands
 
-  cell_back : (m k : ℕ) (b : Block) (h : Handed m b) → cell_of es sizes ss u p L k b ≡ cell_at h.c k
+  cell_back : (m k : ℕ) (b : Block) (h : HandedAt m b) → cell_of es sizes ss u p L k b ≡ cell_at h.c k
   cell_back m k b h =
       ap (λ (t : Block). cell_at (take p.rank t.counters) k) h.is ∙ ap (λ (v : List ℕ). cell_at v k) (counters-back m h.c h.state)
 

@@ -7,6 +7,7 @@ use Rattle.strided.specs.Layout.{Axis, no_axis, extents, stride_column, axes_fro
 use Rattle.strided.specs.Order.{pick}
 use Rattle.strided.specs.Fuse.{fuse}
 use Rattle.laws.specs.Base.Layouts.{length-row}
+use Rattle.laws.specs.Base.Lists.{over_agree}
 use Rattle.laws.specs.Fuse.Fused.{row-fuse}
 use Rattle.laws.specs.Order.Permutation.{In}
 
@@ -76,9 +77,7 @@ abbrev pub pick_rows : List ℤ → ℕ → List ℕ → ℕ → List ℤ
 pick_rows ss p o m = over (run 0 m) (λ k. padded 64 (pos 0) (pick_row ss p o k))
 
 pub over-same : {A : Type 0} (f g : ℕ → List A) (s m : ℕ) → ((k : ℕ) → s ≤ k → k < s + m → f k ≡ g k) → over (run s m) f ≡ over (run s m) g
-over-same f g s zero h = refl
-over-same f g s (suc m) h =
-    ap₂ (λ x r. x ++ r) (h s (omega arith) (omega arith)) (over-same f g (suc s) m (λ k a b. h k (omega arith) (omega arith)))
+over-same f g s m h = over_agree f g s m h
 
 pub length-rows : {A : Type 0} (f : ℕ → List A) (w s m : ℕ) → ((k : ℕ) → length (f k) ≡ w) → length (over (run s m) f) ≡ m * w
 length-rows f w s zero h = omega arith

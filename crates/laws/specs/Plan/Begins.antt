@@ -1,7 +1,7 @@
 -- A PLAN BEGINS WHERE ITS LAYOUT DOES: a beginning judges rows 8 and 9 on the plan's own extents and strides. For a plan that planning handed
 -- out, whatever its blocks, that is rows 8 and 9 of the layout, since the plan's offsets are the layout's.
 -- Assumes nothing.
-use Rattle.std.specs.Prelude.{◌≡◌, Bool, true, ◌&&◌, List, ℕ, ◌<◌, eqb, ℤ, pos, ◌+ℤ◌, get_or, None}
+use Rattle.std.specs.Prelude.{◌≡◌, Bool, true, ◌&&◌, List, ℕ, ◌<◌, cond, eqb, ℤ, pos, ◌+ℤ◌, get_or, None, Some}
 use Rattle.std.proofs.Math.Path.{sym, ap, subst}
 use Rattle.std.proofs.Common.{ap₂, ◌∙◌}
 use Rattle.std.proofs.Math.Bool.{false, not}
@@ -19,6 +19,8 @@ use Rattle.strided.specs.Demand3.{replaced}
 use Rattle.strided.specs.declared.Machine.{Machine}
 use Rattle.strided.specs.declared.Purpose.{Purpose}
 use Rattle.strided.specs.declared.Plan.{Plan}
+use Rattle.strided.specs.declared.Refusal.{Refusal}
+use Rattle.strided.specs.declared.Refusal.TheVariants.{Offsets}
 use Rattle.laws.specs.Base.Layouts.{table_row, total_nozero, length-row, length-extents}
 use Rattle.laws.specs.Base.Refusals.{NoneApplies, none_applies}
 use Rattle.laws.specs.Base.Rows.{length_strides}
@@ -140,3 +142,19 @@ module _ (mc : Machine) (es sizes : List ℕ) (ss : List ℤ) (u : Purpose) (h :
         at_is k l' ∙ operand_from k l' (get_or zs k (pos 0)) (no_zero_of es q') (some_of_at layout_at M none_at k l')) in
         none_refuses (begin_rows (replaced P bs) zs)
         (n.0, (n.1.0, (n.1.1.0, (n.1.1.1.0, (eight, (passes-unless (has_zero (plan_extents P)) (some_of plan_at 0 P.operands) here, tt))))))
+
+  -- and of the rows of a beginning with a start for each operand only 9 can apply
+  module _ (zs : List ℤ) (many : length zs ≡ length sizes) where
+    row9_alone : begin_refused P zs ≡ cond (row9 (plan_extents P) P.operands (plan_row P) zs).applies (Some Offsets) None
+    unfolding begin_refused NoneApplies
+    row9_alone =
+        let n : NoneApplies (begin_rows P (zero_starts P)) = none_applies (begin_rows P (zero_starts P)) (planned_begins mc es sizes ss u h) in
+        let eight : not (eqb (length zs) P.operands) ≡ false = ap not (eq-eqb (length zs) P.operands (many ∙ sym (planned_operands mc es sizes ss u h))) in
+        rw (n.0, n.1.0, n.1.1.0, n.1.1.1.0, eight)
+
+    pub begins_offsets : (r : Refusal) → begin_refused (the_plan mc es sizes ss u) zs ≡ Some r → r ≡ Offsets
+    begins_offsets r q = go (row9 (plan_extents P) P.operands (plan_row P) zs).applies (sym row9_alone ∙ q)
+      where
+        go : (b : Bool) → cond b (Some Offsets) None ≡ Some r → r ≡ Offsets
+        go true e = cc e
+        go false e = cc e

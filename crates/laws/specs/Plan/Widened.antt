@@ -4,8 +4,8 @@ use Rattle.std.specs.Prelude.{◌≡◌, refl, Bool, true, false, cond, List, �
 use Rattle.std.proofs.Common.{arith}
 use Rattle.std.proofs.Math.Dec.{ltb}
 use Rattle.strided.specs.Layout.{stride_row, reach, max_i}
-use Rattle.strided.specs.Refusals.{number, some_operand}
-use Rattle.strided.specs.Plan.{planned}
+use Rattle.strided.specs.Refusals.{number, some_operand, served_unless, planning_refused}
+use Rattle.strided.specs.Plan.{the_plan, planned}
 use Rattle.strided.specs.declared.Machine.{Machine}
 use Rattle.strided.specs.declared.Purpose.{Purpose}
 use Rattle.strided.specs.declared.Refusal.{Refusal}
@@ -29,7 +29,8 @@ last_row None answer = answer
 
 -- planning as it was: rows 1 to 4, 24, 5, 6, and 7 behind them
 unfoldable pub planned_before : Machine → List ℕ → List ℕ → List ℤ → Purpose → Result Plan ℕ
-planned_before mc es sizes ss u = last_row (row7 es sizes ss) (numbered (planned mc es sizes ss u))
+planned_before mc es sizes ss u =
+    last_row (row7 es sizes ss) (numbered (served_unless (planning_refused mc es sizes ss u) (the_plan mc es sizes ss u)))
 
 -- "7 is given no longer", by any entry
 pub no_seven : (r : Refusal) → number r ≡ 7 → ⊥
@@ -60,22 +61,28 @@ no_seven Record h = absurd (omega arith)
 module _ (mc : Machine) (es sizes : List ℕ) (ss : List ℤ) (u : Purpose) where
   -- where it did not refuse with 7, nothing has changed
   pub plans_kept : (planned_before mc es sizes ss u ≡ Err 7 → ⊥) → numbered (planned mc es sizes ss u) ≡ planned_before mc es sizes ss u
-  unfolding planned_before
-  plans_kept h = go (planned mc es sizes ss u) (some_operand es (λ k. ltb max_i (get_or sizes k 0 * (1 + reach es (stride_row ss (length es) k)))) (length sizes)) h
+  unfolding planned planned_before
+  plans_kept h = go (planning_refused mc es sizes ss u) (some_operand es (λ k. ltb max_i (get_or sizes k 0 * (1 + reach es (stride_row ss (length es) k)))) (length sizes)) h
     where
-      go : (a : Result Plan Refusal) (t : Bool) → (last_row (cond t (Some 7) None) (numbered a) ≡ Err 7 → ⊥)
-          → numbered a ≡ last_row (cond t (Some 7) None) (numbered a)
-      go (Err r) true f = refl
-      go (Err r) false f = refl
-      go (Ok p) true f = absurd (f refl)
-      go (Ok p) false f = refl
+      p : Plan
+      p = the_plan mc es sizes ss u
+
+      go : (o : Option Refusal) (t : Bool) → (last_row (cond t (Some 7) None) (numbered (served_unless o p)) ≡ Err 7 → ⊥)
+          → numbered (served_unless o p) ≡ last_row (cond t (Some 7) None) (numbered (served_unless o p))
+      go (Some r) true f = refl
+      go (Some r) false f = refl
+      go None true f = absurd (f refl)
+      go None false f = refl
 
   -- where it did, there is a plan
   pub widened : planned_before mc es sizes ss u ≡ Err 7 → (p : Plan) × (planned mc es sizes ss u ≡ Ok p)
-  unfolding planned_before
-  widened h = go (planned mc es sizes ss u) (row7 es sizes ss) refl h
+  unfolding planned planned_before
+  widened h = go (planning_refused mc es sizes ss u) (row7 es sizes ss) h
     where
-      go : (a : Result Plan Refusal) (o : Option ℕ) → planned mc es sizes ss u ≡ a → last_row o (numbered a) ≡ Err 7 → (p : Plan) × (planned mc es sizes ss u ≡ Ok p)
-      go (Ok p) o e q = (p, e)
-      go (Err r) None e q = let e : number r ≡ 7 = cc q in absurd (no_seven r e)
-      go (Err r) (Some n) e q = let e : number r ≡ 7 = cc q in absurd (no_seven r e)
+      p : Plan
+      p = the_plan mc es sizes ss u
+
+      go : (o : Option Refusal) (q : Option ℕ) → last_row q (numbered (served_unless o p)) ≡ Err 7 → (p' : Plan) × (served_unless o p ≡ Ok p')
+      go None q e = (p, refl)
+      go (Some r) None e = let f : number r ≡ 7 = cc e in absurd (no_seven r f)
+      go (Some r) (Some n) e = let f : number r ≡ 7 = cc e in absurd (no_seven r f)

@@ -1,14 +1,16 @@
 -- THE Z FIGURES of the text: the lengths of a plan's blocks add up to the product of its extents, which is the layout's total where planning
--- made the plan; and the blocks are no more than that.
+-- made the plan; and the blocks are no more than that, so that both fit 64 bits where a walk begins.
 -- Assumes nothing.
-use Rattle.std.specs.Prelude.{◌≡◌, refl, Bool, true, false, cond, List, [], ◌∷◌, ℕ, zero, suc, ◌+◌, ◌≤◌, ltb, ℤ, length, None}
-use Rattle.std.proofs.Common.{ap, ◌∙◌, mul-le-mul_right, arith}
-use Rattle.strided.specs.Layout.{extents, total}
+use Rattle.std.specs.Prelude.{◌≡◌, refl, List, [], ◌∷◌, ℕ, ◌+◌, ◌^◌, ◌≤◌, ◌<◌, ℤ, length, None}
+use Rattle.std.proofs.Common.{sym, ap, ◌∙◌, arith, ltb-false}
+use Rattle.std.proofs.lemmas.List.{length-map}
+use Rattle.strided.specs.Layout.{extents, total, max_u}
 use Rattle.strided.specs.Refusals.{planning_refused}
 use Rattle.strided.specs.Fuse.{plan_axes}
 use Rattle.strided.specs.Plan.{plan_from, the_plan}
-use Rattle.strided.specs.Walk.{CutAxis, ax, cut_axes, starts_from, Block}
-use Rattle.strided.specs.Begin.{plan_extents, plan_blocks}
+use Rattle.strided.specs.Walk.{cut_axes, Block, counters, block_at}
+use Rattle.strided.specs.Begin.{plan_extents, plan_blocks, begin_rows, begin_refused}
+use Rattle.strided.specs.Step.{plan_cut_axes}
 use Rattle.strided.specs.Text.{cells_in, cells_of, plan_walk}
 use Rattle.strided.specs.declared.Purpose.{Purpose}
 use Rattle.strided.specs.declared.Plan.{Plan}
@@ -19,8 +21,12 @@ use Rattle.laws.specs.Base.Sums.{sum}
 use Rattle.laws.specs.Fuse.Maps.{plan_total}
 use Rattle.laws.specs.Plan.Bounds.{plan_few}
 use Rattle.laws.specs.Refusals.Accepted.{accepted}
+use Rattle.laws.specs.Base.Refusals.{NoneApplies, none_applies}
 use Rattle.laws.specs.Refusals.Record.{planning_layout}
-use Rattle.laws.specs.Walk.Totals.{cell_count, block_count, cut-total, cells-total, blocks_total}
+use Rattle.laws.specs.Refusals.Zeros.{row5-total}
+use Rattle.laws.specs.Walk.Number.{blocks_most}
+use Rattle.laws.specs.Walk.Placed.{placed_from, placed_walk}
+use Rattle.laws.specs.Walk.Totals.{cell_count, cut-total, cells-total, blocks_total}
 
 -- ---- the cells
 
@@ -48,25 +54,28 @@ planned-cells mc es sizes ss u h =
 
 -- ---- the blocks
 
-starts_most : (f e w s : ℕ) → length (starts_from f e w s) ≤ f
-starts_most zero e w s = omega arith
-starts_most (suc f) e w s = go (ltb s e) (starts_most f e w (s + w))
-  where
-    go : (b : Bool) → length (starts_from f e w (s + w)) ≤ f → length (cond b (s ∷ starts_from f e w (s + w)) []) ≤ suc f
-    go true h = omega arith
-    go false h = omega arith
-
-count_most : (axs : List CutAxis) → block_count axs ≤ cell_count axs
-count_most [] = omega arith
-count_most (ax e w ∷ axs) = mul-le-mul_right (cell_count axs) (starts_most e e w 0)
-
-cut_cells : (es bs : List ℕ) → cell_count (cut_axes es bs) ≡ total es
-cut_cells es bs = cut-total es _
-
 -- every block has a cell
 pub walk_blocks : (p : Plan) → length (plan_walk p) ≤ total (plan_extents p)
 walk_blocks p =
     let b = blocks_total (plan_extents p) (plan_blocks p) in
-    let m = count_most (cut_axes (plan_extents p) (plan_blocks p)) in
-    let t = cut_cells (plan_extents p) (plan_blocks p) in
+    let m = blocks_most (cut_axes (plan_extents p) (plan_blocks p)) in
+    let t : cell_count (cut_axes (plan_extents p) (plan_blocks p)) ≡ total (plan_extents p) = cut-total (plan_extents p) _ in
     omega (arith, b, m, t)
+
+-- ---- a walk that begins
+
+module _ (p : Plan) (zs : List ℤ) (h : begin_refused p zs ≡ None) where
+  pub begun_total : total (plan_extents p) < 2 ^ 64
+  unfolding begin_refused NoneApplies
+  begun_total =
+      let a : NoneApplies (begin_rows p zs) = none_applies (begin_rows p zs) h in
+      omega (arith, ltb-false max_u (total (plan_extents p)) (sym (row5-total (plan_extents p)) ∙ a.1.1.0))
+
+  pub begun_blocks : length (plan_walk p) < 2 ^ 64
+  begun_blocks = omega (arith, begun_total, walk_blocks p)
+
+  pub begun_placed : length (placed_walk p zs) < 2 ^ 64
+  begun_placed =
+      let f = length-map (counters (plan_cut_axes p)) (placed_from p zs) in
+      let g = length-map (counters (plan_cut_axes p)) (block_at (plan_cut_axes p)) in
+      omega (arith, begun_blocks, f, g)

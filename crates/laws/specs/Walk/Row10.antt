@@ -2,14 +2,12 @@
 -- Assumes nothing.
 use Rattle.std.proofs.Math.Path.{◌≡◌, refl, sym, ap}
 use Rattle.std.proofs.Common.{◌∙◌, ⊎_elim}
-use Rattle.std.specs.Prelude.{◌↔◌, ◌⊎◌, Bool, ℕ, ◌≤◌, pos, length, take, drop, Option, None, Some, Err}
+use Rattle.std.specs.Prelude.{◌↔◌, ◌⊎◌, Bool, ℕ, pos, length, take, drop, Option, None, Some, Err}
 use Rattle.std.proofs.Math.Logic.{inl, inr}
 use Rattle.std.proofs.Math.Bool.{true, false, not, not-not}
 use mathlib.Core.List.{List}
 use native.Mathlib.Omega.{arith}
 use Rattle.std.proofs.Math.IntN.{ℤ}
-use Rattle.std.proofs.Math.ListN.{length-take}
-use borrow.Author.Tests.{ltb-false}
 use Rattle.strided.specs.Base.{padded}
 use Rattle.strided.specs.Refusals.{refused_by}
 use Rattle.strided.specs.Begin.{plan_extents, plan_rows, begin_refused, begun_at, started}
@@ -20,11 +18,10 @@ use Rattle.strided.specs.declared.Walk.{Walk}
 use Rattle.laws.specs.Refusals.Rows.{served_none, served_is}
 use Rattle.laws.specs.Base.Tests.{and_both}
 use Rattle.laws.specs.Base.Arrays.{blank-ℕ, blank-ℤ, padded-take}
-use Rattle.laws.specs.Base.Refusals.{NoneApplies, none_applies}
 use Rattle.laws.specs.Walk.States.{state_after}
 use Rattle.laws.specs.Walk.Cuts.{axes_wide}
 use Rattle.laws.specs.Walk.Machine.{Begun, reach-state}
-use Rattle.laws.specs.Walk.Steps.{Ready, ready, none_of, raw, step-at, walk-state}
+use Rattle.laws.specs.Walk.Steps.{Ready, ready_sized, none_of, raw, step-at, walk-state}
 
 -- ---- a plan and a walk as values have them
 
@@ -34,20 +31,13 @@ pub record Sized (p : Plan) (w : Walk) : Type 0 where
   pub offsets_all : length w.offsets ≡ 8
 
 module _ (p : Plan) (w : Walk) (z : Sized p w) (ok : refused_by (step_rows p) ≡ None) where
-  all-axes : length (plan_extents p) ≡ p.rank
-  unfolding NoneApplies
-  all-axes =
-      let f : p.rank ≤ 64 = ltb-false 64 p.rank (none_applies (step_rows p) ok).0 in
-      let e = z.extents-all in
-      omega (arith, length-take p.rank p.extents)
-
   -- a reached state is not refused
   reached_taken : Reached p w → stepped p w ≡ Err State → ⊥
   unfolding begun_at
   reached_taken q h =
       let zs : List ℤ = q.starts in
       let b : begin_refused p zs ≡ None = served_none (begin_refused p zs) _ q.begins in
-      let r : Ready p zs = ready p zs all-axes b in
+      let r : Ready p zs = ready_sized p zs z.extents-all b in
       let o : Option (List ℕ) = state_after (plan_cut_axes p) q.steps in
       let e : stepped p w ≡ handed_out (raw p zs r o) = ap (stepped p) (q.comes ∙ ap (walk_after p q.steps) (served_is (begin_refused p zs) _ q.begins) ∙ walk-state p zs r q.steps) ∙ step-at p zs r q.steps o refl in
       differ o zs r (sym e ∙ h)
@@ -63,7 +53,7 @@ module _ (p : Plan) (w : Walk) (z : Sized p w) (ok : refused_by (step_rows p) �
       let b : Begun (plan_cut_axes p) (plan_rows p) (may_begin p) (unpacked p w) = (reach-state (plan_cut_axes p) (plan_rows p) (may_begin p) (axes_wide (plan_extents p) _) (unpacked p w)).1 c in
       let zs : List ℤ = b.starts in
       let n : begin_refused p zs ≡ None = none_of (begin_refused p zs) b.may in
-      let r : Ready p zs = ready p zs all-axes n in
+      let r : Ready p zs = ready_sized p zs z.extents-all n in
       let blanks = and_both (blank (drop p.rank w.counters)) (blank_z (drop p.operands w.offsets)) t in
       let e₁ : w.ended ≡ not (not w.ended) = sym (not-not w.ended) in
       let e₂ : w.counters ≡ padded 64 0 (take p.rank w.counters) = sym (padded-take blank-ℕ 64 p.rank w.counters z.counters-all blanks.0) in

@@ -3,7 +3,7 @@
 -- Assumes nothing.
 use Rattle.std.specs.Prelude.{◌≡◌, refl, Bool, true, false, cond, not, List, [], ◌∷◌, ℕ, zero, suc, ◌+◌, ◌≤◌, ◌<◌, eqb, ltb, ℤ, pos, ◌+ℤ◌, length, take, Option, None, Some, Result}
 use Rattle.std.proofs.Math.Path.{sym}
-use Rattle.std.proofs.Common.{ap, ap₂, ◌∙◌, add-zero, zero-add, arith, ltb-false, eqb-true}
+use Rattle.std.proofs.Common.{ap, ap₂, ◌∙◌, add-zero, zero-add, arith, length-take, ltb-false, eqb-true}
 use Rattle.std.proofs.lemmas.Bool.{false≢true, not-false}
 use Rattle.std.proofs.Math.Bool.{not-not}
 use Rattle.std.proofs.Math.IntN.{+ℤ_idr}
@@ -72,6 +72,13 @@ ready p zs l h =
       many = eqb-true (length zs) p.operands (not-false (eqb (length zs) p.operands) a.1.1.1.1.0);
       may = ap is_none h;
     }
+
+-- where the arrays have their 64 places
+pub ready_sized : (p : Plan) (zs : List ℤ) → length p.extents ≡ 64 → begin_refused p zs ≡ None → Ready p zs
+unfolding begin_refused NoneApplies
+ready_sized p zs l h =
+    let f : p.rank ≤ 64 = ltb-false 64 p.rank (none_applies (begin_rows p zs) h).0 in
+    ready p zs (omega (arith, length-take p.rank p.extents)) h
 
 module _ (p : Plan) (zs : List ℤ) (r : Ready p zs) where
   pub wide : Wide (plan_cut_axes p)

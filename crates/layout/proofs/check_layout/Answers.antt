@@ -1,25 +1,26 @@
 -- `layout::check_layout` meets its contract: rows 1 to 4, and where they pass 5 and 6. Assumes nothing.
-use mathlib.Core.Path.{◌≡◌, sym, ◌∙◌}
+use mathlib.Core.Path.{sym, ◌∙◌}
 use Rattle.std.proofs.lemmas.Result.{err_from_is_err_and}
-use Rattle.std.specs.Prelude.{None}
-use Rattle.strided.specs.Refusals.{refused_by, count_rows}
-use Rattle.laws.specs.Refusals.Rows.{served_none}
-use Rattle.layout.proofs.Table.{counts-laid, counts-few, layout_spans, layout_counts_refuse}
+use Rattle.laws.specs.Refusals.Rows.{served_none, refused_some}
+use Rattle.layout.proofs.Checks.{checked-laid, checked_some, laid_with}
+use Rattle.layout.proofs.Table.{layout_spans, layout_counts_refuse}
 use Rattle.layout.proofs.check_layout.Goals as goal
 
-pub check_spans-requires : goal.check_spans-requires
-check_spans-requires c =
-    -- rows 1 to 4 pass
-    let passed : let a = c.args in refused_by (count_rows a.extents.now a.sizes.now a.strides.now a.purpose) ≡ None = served_none _ _ (sym c.check_counts.ensures ∙ c.in_ok-check_counts.was) in
-    let a = c.args in record { laid = counts-laid a.extents.now a.sizes.now a.strides.now a.purpose passed; extents_len_bound = counts-few a.extents.now a.sizes.now a.strides.now a.purpose passed }
-
-pub returns-in_err-check_counts : goal.returns-in_err-check_counts
-returns-in_err-check_counts c =
+pub returns-in_err-layout : goal.returns-in_err-layout
+returns-in_err-layout c =
     let a = c.args in
     let p = err_from_is_err_and c.from_residual.result c.from_residual.ensures.1 in
-    rw (p.1, p.2) (layout_counts_refuse a.extents.now a.sizes.now a.strides.now a.purpose _ (sym c.check_counts.ensures ∙ c.in_err-check_counts.was))
+    rw (p.1, p.2) (layout_counts_refuse a.extents.now a.sizes.now a.strides.now a.purpose (checked_some a.extents.now a.sizes.now a.strides.now c.check_counts.ensures c.in_err-layout.was))
+
+pub returns-in_err-check_spans : goal.returns-in_err-check_spans
+returns-in_err-check_spans c =
+    let a = c.args in
+    let p = err_from_is_err_and c.from_residual-in_err-check_spans.result c.from_residual-in_err-check_spans.ensures.1 in
+    rw (p.1, p.2) (layout_spans a.extents.now a.sizes.now a.strides.now a.purpose (checked-laid a.extents.now a.sizes.now a.strides.now c.check_counts.ensures c.in_ok-layout.was)
+    ∙ refused_some _ _ (sym c.check_spans.ensures ∙ c.in_err-check_spans.was))
 
 pub returns : goal.returns
 returns c =
-    let passed : let a = c.args in refused_by (count_rows a.extents.now a.sizes.now a.strides.now a.purpose) ≡ None = served_none _ _ (sym c.check_counts.ensures ∙ c.in_ok-check_counts.was) in
-    let a = c.args in layout_spans a.extents.now a.sizes.now a.strides.now a.purpose passed c.check_spans.ensures
+    let a = c.args in
+    let l = checked-laid a.extents.now a.sizes.now a.strides.now c.check_counts.ensures c.in_ok-layout.was in
+    laid_with l (layout_spans a.extents.now a.sizes.now a.strides.now a.purpose l ∙ served_none _ _ (sym c.check_spans.ensures ∙ c.in_ok-check_spans.was))

@@ -19,6 +19,7 @@ use Rattle.laws.specs.Mark.Marks.{zero_mark}
 use Rattle.mark.proofs.Tests.{row6-one, row6-within}
 use Rattle.std.specs.Prelude.{Ok, Err}
 use Rattle.mark.proofs.repeat_mark.Goals as goal
+use Rattle.mark.proofs.repeat_mark.Goals.{After-strides_wrong, After-total_over, After-reach_over}
 
 module _ (es : List ℕ) (ts : List ℤ) where
   refuses : {r : Refusal} → Err r ≡ answered (refused_by (mark_rows es ts)) → Err r ≡ marked es ts
@@ -33,6 +34,29 @@ module _ (es : List ℕ) (ts : List ℤ) where
   one-row : {b : Bool} → b ≡ (row3 (length es) 1 ts).applies → b ≡ false → length ts ≡ length es
   one-row is h = let e : length ts ≡ length es * 1 = eqb-true (length ts) (length es * 1) (not-false (eqb (length ts) (length es * 1)) (sym is ∙ h)) in omega arith
 
+-- the rows passed, one by one
+behind_1 : (c : After-strides_wrong) → let a = c.args in
+    Past (mark_rows a.extents.now a.strides.now) (row3 (length a.extents.now) 1 a.strides.now ∷ row5 a.extents.now ∷ row6 a.extents.now 1 (λ k. a.strides.now) ∷ [])
+behind_1 c = past_next (past_none _) c.rank_over.ensures c.if-rank_over.false
+
+behind_3 : (c : After-total_over) → let a = c.args in Past (mark_rows a.extents.now a.strides.now) (row5 a.extents.now ∷ row6 a.extents.now 1 (λ k. a.strides.now) ∷ [])
+behind_3 c = past_next (past_next (past_none _) c.rank_over.ensures c.if-rank_over.false) c.strides_wrong.ensures c.if-strides_wrong.false
+
+behind_5 : (c : After-reach_over) → let a = c.args in Past (mark_rows a.extents.now a.strides.now) (row6 a.extents.now 1 (λ k. a.strides.now) ∷ [])
+behind_5 c =
+    past_next (past_next (past_next (past_none _) c.rank_over.ensures c.if-rank_over.false) c.strides_wrong.ensures c.if-strides_wrong.false)
+    c.total_over.ensures c.if-total_over.false
+
+as_many : (c : After-total_over) → length c.args.strides.now ≡ length c.args.extents.now
+as_many c = one-row c.args.extents.now c.args.strides.now c.strides_wrong.ensures c.if-strides_wrong.false
+
+-- row 6 is asked of the strides as one operand's
+row-6 : (c : After-reach_over) → c.reach_over.result ≡ (row6 c.args.extents.now 1 (λ k. c.args.strides.now)).applies
+row-6 c =
+    let a = c.args in
+    let q = one-row a.extents.now a.strides.now c.strides_wrong.ensures c.if-strides_wrong.false in
+    c.reach_over.ensures ∙ row6-one a.extents.now a.strides.now q (length a.extents.now)
+
 pub returns-then-rank_over : goal.returns-then-rank_over
 returns-then-rank_over c =
     let a = c.args in
@@ -43,63 +67,32 @@ strides_wrong-requires c = (ltb-false 64 _ (sym c.rank_over.ensures ∙ c.if-ran
 
 pub returns-then-strides_wrong : goal.returns-then-strides_wrong
 returns-then-strides_wrong c =
-    -- the rows passed, one by one
-    let passed-1 : let a = c.args in Past (mark_rows a.extents.now a.strides.now) (row3 (length a.extents.now) 1 a.strides.now ∷ row5 a.extents.now ∷ row6 a.extents.now 1 (λ k. a.strides.now) ∷ []) = past_next (past_none _) c.rank_over.ensures c.if-rank_over.false in
-    refuses _ _ (past_refused passed-1 c.strides_wrong.ensures c.if-strides_wrong.true)
+    refuses _ _ (past_refused (behind_1 (goal.at.returns-then-strides_wrong c).After-strides_wrong) c.strides_wrong.ensures c.if-strides_wrong.true)
 
 pub returns-then-total_over : goal.returns-then-total_over
 returns-then-total_over c =
-    let passed-1 : let a = c.args in Past (mark_rows a.extents.now a.strides.now) (row3 (length a.extents.now) 1 a.strides.now ∷ row5 a.extents.now ∷ row6 a.extents.now 1 (λ k. a.strides.now) ∷ []) = past_next (past_none _) c.rank_over.ensures c.if-rank_over.false in
-    let passed-2 : let a = c.args in Past (mark_rows a.extents.now a.strides.now) (row5 a.extents.now ∷ row6 a.extents.now 1 (λ k. a.strides.now) ∷ []) = past_next passed-1 c.strides_wrong.ensures c.if-strides_wrong.false in
-    refuses _ _ (past_refused passed-2 c.total_over.ensures c.if-total_over.true)
-
-pub reach_over-requires : goal.reach_over-requires
-reach_over-requires c =
-    let as_many : let a = c.args in length a.strides.now ≡ length a.extents.now = let a = c.args in
-    one-row a.extents.now a.strides.now c.strides_wrong.ensures c.if-strides_wrong.false in
-    let q = as_many in record { apart = omega arith; all = omega (arith, q) }
+    refuses _ _ (past_refused (behind_3 (goal.at.returns-then-total_over c).After-total_over) c.total_over.ensures c.if-total_over.true)
 
 pub returns-then-reach_over : goal.returns-then-reach_over
 returns-then-reach_over c =
-    let passed-1 : let a = c.args in Past (mark_rows a.extents.now a.strides.now) (row3 (length a.extents.now) 1 a.strides.now ∷ row5 a.extents.now ∷ row6 a.extents.now 1 (λ k. a.strides.now) ∷ []) = past_next (past_none _) c.rank_over.ensures c.if-rank_over.false in
-    let passed-2 : let a = c.args in Past (mark_rows a.extents.now a.strides.now) (row5 a.extents.now ∷ row6 a.extents.now 1 (λ k. a.strides.now) ∷ []) = past_next passed-1 c.strides_wrong.ensures c.if-strides_wrong.false in
-    let passed-3 : let a = c.args in Past (mark_rows a.extents.now a.strides.now) (row6 a.extents.now 1 (λ k. a.strides.now) ∷ []) = past_next passed-2 c.total_over.ensures c.if-total_over.false in
-    let as_many : let a = c.args in length a.strides.now ≡ length a.extents.now = let a = c.args in
-    one-row a.extents.now a.strides.now c.strides_wrong.ensures c.if-strides_wrong.false in
-    -- row 6 is asked of the strides as one operand's
-    let row-6 : let a = c.args in c.reach_over.result ≡ (row6 a.extents.now 1 (λ k. a.strides.now)).applies = let a = c.args in
-    c.reach_over.ensures ∙ row6-one a.extents.now a.strides.now as_many (length a.extents.now) in
-    refuses _ _ (past_refused passed-3 row-6 c.if-reach_over.true)
+    let l = (goal.at.returns-then-reach_over c).After-reach_over in
+    refuses _ _ (past_refused (behind_5 l) (row-6 l) c.if-reach_over.true)
 
 pub returns-then-has_zero : goal.returns-then-has_zero
 returns-then-has_zero c =
-    let passed-1 : let a = c.args in Past (mark_rows a.extents.now a.strides.now) (row3 (length a.extents.now) 1 a.strides.now ∷ row5 a.extents.now ∷ row6 a.extents.now 1 (λ k. a.strides.now) ∷ []) = past_next (past_none _) c.rank_over.ensures c.if-rank_over.false in
-    let passed-2 : let a = c.args in Past (mark_rows a.extents.now a.strides.now) (row5 a.extents.now ∷ row6 a.extents.now 1 (λ k. a.strides.now) ∷ []) = past_next passed-1 c.strides_wrong.ensures c.if-strides_wrong.false in
-    let passed-3 : let a = c.args in Past (mark_rows a.extents.now a.strides.now) (row6 a.extents.now 1 (λ k. a.strides.now) ∷ []) = past_next passed-2 c.total_over.ensures c.if-total_over.false in
-    let as_many : let a = c.args in length a.strides.now ≡ length a.extents.now = let a = c.args in
-    one-row a.extents.now a.strides.now c.strides_wrong.ensures c.if-strides_wrong.false in
-    let row-6 : let a = c.args in c.reach_over.result ≡ (row6 a.extents.now 1 (λ k. a.strides.now)).applies = let a = c.args in
-    c.reach_over.ensures ∙ row6-one a.extents.now a.strides.now as_many (length a.extents.now) in
     let a = c.args in
-    serves _ _ No (past_served (past_next passed-3 row-6 c.if-reach_over.false)) (zero_mark a.extents.now a.strides.now (sym c.has_zero.ensures ∙ c.if-has_zero.true))
+    let l = (goal.at.returns-then-has_zero c).After-reach_over in
+    serves _ _ No (past_served (past_next (behind_5 l) (row-6 l) c.if-reach_over.false)) (zero_mark a.extents.now a.strides.now (sym c.has_zero.ensures ∙ c.if-has_zero.true))
 
 pub invariant_of-mark_of : goal.invariant_of-mark_of
 invariant_of-mark_of c =
-    let as_many : let a = c.args in length a.strides.now ≡ length a.extents.now = let a = c.args in
-    one-row a.extents.now a.strides.now c.strides_wrong.ensures c.if-strides_wrong.false in
-    let row-6 : let a = c.args in c.reach_over.result ≡ (row6 a.extents.now 1 (λ k. a.strides.now)).applies = let a = c.args in
-    c.reach_over.ensures ∙ row6-one a.extents.now a.strides.now as_many (length a.extents.now) in
     let a = c.args in
+    let many = as_many (goal.at.invariant_of-mark_of c).After-total_over in
     let some : has_zero a.extents.now ≡ false = sym c.has_zero.ensures ∙ c.if-has_zero.false in
-    record { sound = record { paired = as_many; some = some; near = row6-within a.extents.now a.strides.now as_many (sym row-6 ∙ c.if-reach_over.false) some } }
+    let six = row-6 (goal.at.invariant_of-mark_of c).After-reach_over in
+    record { sound = record { paired = many; some = some; near = row6-within a.extents.now a.strides.now many (sym six ∙ c.if-reach_over.false) some } }
 
 pub returns : goal.returns
 returns c =
-    let passed-1 : let a = c.args in Past (mark_rows a.extents.now a.strides.now) (row3 (length a.extents.now) 1 a.strides.now ∷ row5 a.extents.now ∷ row6 a.extents.now 1 (λ k. a.strides.now) ∷ []) = past_next (past_none _) c.rank_over.ensures c.if-rank_over.false in
-    let passed-2 : let a = c.args in Past (mark_rows a.extents.now a.strides.now) (row5 a.extents.now ∷ row6 a.extents.now 1 (λ k. a.strides.now) ∷ []) = past_next passed-1 c.strides_wrong.ensures c.if-strides_wrong.false in
-    let passed-3 : let a = c.args in Past (mark_rows a.extents.now a.strides.now) (row6 a.extents.now 1 (λ k. a.strides.now) ∷ []) = past_next passed-2 c.total_over.ensures c.if-total_over.false in
-    let as_many : let a = c.args in length a.strides.now ≡ length a.extents.now = let a = c.args in
-    one-row a.extents.now a.strides.now c.strides_wrong.ensures c.if-strides_wrong.false in
-    let row-6 : let a = c.args in c.reach_over.result ≡ (row6 a.extents.now 1 (λ k. a.strides.now)).applies = let a = c.args in
-    c.reach_over.ensures ∙ row6-one a.extents.now a.strides.now as_many (length a.extents.now) in
-    serves _ _ c.mark_of.result (past_served (past_next passed-3 row-6 c.if-reach_over.false)) c.mark_of.ensures
+    let l = (goal.at.returns c).After-reach_over in
+    serves _ _ c.mark_of.result (past_served (past_next (behind_5 l) (row-6 l) c.if-reach_over.false)) c.mark_of.ensures

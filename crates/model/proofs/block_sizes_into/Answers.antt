@@ -9,6 +9,19 @@ use Rattle.laws.specs.Cut.Image.{Images}
 use Rattle.model.specs.Exits.{exits}
 use Rattle.model.proofs.Whole.{whole_in_order, whole-exits, exits_fits, exits-not, whole-declined, whole-fitted}
 use Rattle.model.proofs.block_sizes_into.Goals as goal
+use Rattle.model.proofs.block_sizes_into.Goals.{After-byte_table_into, After-cut_axes}
+
+-- what the table of byte strides has
+bytes-are : (c : After-byte_table_into) → let a = c.args in Images a.machine (length a.axes.sizes.now) a.axes.rank c.byte_table_into.new.table (byte_table a.axes.sizes.now a.axes.strides.now)
+bytes-are c =
+    let a = c.args in
+    rows_read a.machine a.axes.sizes.now a.axes.strides.now a.axes.rank (length a.axes.sizes.now) _ refl c.requires.plannable.few c.requires.plannable.axes c.byte_table_into.ensures
+
+-- where the axes are cut there is no exit
+no_exit : (c : After-cut_axes) → let a = c.args in exits a.machine c.byte_table_into.new.table a.axes.sizes.now a.axes.extents.now a.axes.strides.now a.axes.rank ≡ false
+no_exit c =
+    let a = c.args in
+    exits-not a.machine _ a.axes.sizes.now a.axes.extents.now a.axes.strides.now a.axes.rank (sym c.keeps_order.ensures ∙ c.if-keeps_order.false) (sym c.fits_whole.ensures ∙ c.if-fits_whole.false)
 
 pub returns-then-keeps_order : goal.returns-then-keeps_order
 returns-then-keeps_order c =
@@ -17,20 +30,17 @@ returns-then-keeps_order c =
 
 pub returns-then-fits_whole : goal.returns-then-fits_whole
 returns-then-fits_whole c =
-    -- what the table of byte strides has
-    let bytes-are : let a = c.args in Images a.machine (length a.axes.sizes.now) a.axes.rank c.byte_table_into.new.table (byte_table a.axes.sizes.now a.axes.strides.now) = let a = c.args in
-    rows_read a.machine a.axes.sizes.now a.axes.strides.now a.axes.rank (length a.axes.sizes.now) _ refl c.requires.plannable.few c.requires.plannable.axes c.byte_table_into.ensures in
+    let table = bytes-are (goal.at.returns-then-fits_whole c).After-byte_table_into in
     let a = c.args in
     let es = a.axes.extents.now in
     let t = c.byte_table_into.new.table in
-    sym (whole-exits a.machine a.axes.sizes.now es a.axes.strides.now a.axes.rank a.purpose c.requires.allowed t bytes-are
+    sym (whole-exits a.machine a.axes.sizes.now es a.axes.strides.now a.axes.rank a.purpose c.requires.allowed t table
     (exits_fits a.machine t a.axes.sizes.now es a.axes.strides.now a.axes.rank (sym c.fits_whole.ensures ∙ c.if-fits_whole.true)))
 
 -- what no purpose changes
 pub cut_axes-requires : goal.cut_axes-requires
 cut_axes-requires c =
-    let bytes-are : let a = c.args in Images a.machine (length a.axes.sizes.now) a.axes.rank c.byte_table_into.new.table (byte_table a.axes.sizes.now a.axes.strides.now) = let a = c.args in
-    rows_read a.machine a.axes.sizes.now a.axes.strides.now a.axes.rank (length a.axes.sizes.now) _ refl c.requires.plannable.few c.requires.plannable.axes c.byte_table_into.ensures in
+    let table = bytes-are (goal.at.cut_axes-requires c).After-byte_table_into in
     let n = c.requires.plannable in record {
       plannable = record {
         axes = n.axes;
@@ -42,7 +52,7 @@ cut_axes-requires c =
         there = refl;
         near = n.near;
       };
-      images = bytes-are;
+      images = table;
     }
 
 pub declines_tiles-requires : goal.declines_tiles-requires
@@ -51,21 +61,16 @@ declines_tiles-requires c =
 
 pub returns-then-declines_tiles : goal.returns-then-declines_tiles
 returns-then-declines_tiles c =
-    let bytes-are : let a = c.args in Images a.machine (length a.axes.sizes.now) a.axes.rank c.byte_table_into.new.table (byte_table a.axes.sizes.now a.axes.strides.now) = let a = c.args in
-    rows_read a.machine a.axes.sizes.now a.axes.strides.now a.axes.rank (length a.axes.sizes.now) _ refl c.requires.plannable.few c.requires.plannable.axes c.byte_table_into.ensures in
-    -- where the axes are cut there is no exit
-    let on : let a = c.args in exits a.machine c.byte_table_into.new.table a.axes.sizes.now a.axes.extents.now a.axes.strides.now a.axes.rank ≡ false = let a = c.args in
-    exits-not a.machine _ a.axes.sizes.now a.axes.extents.now a.axes.strides.now a.axes.rank (sym c.keeps_order.ensures ∙ c.if-keeps_order.false) (sym c.fits_whole.ensures ∙ c.if-fits_whole.false) in
+    let table = bytes-are (goal.at.returns-then-declines_tiles c).After-byte_table_into in
+    let on = no_exit (goal.at.returns-then-declines_tiles c).After-cut_axes in
     let a = c.args in
-    whole-declined a.machine a.axes.sizes.now a.axes.extents.now a.axes.strides.now a.axes.rank a.purpose c.requires.allowed _ bytes-are _ c.cut_axes.ensures on
+    whole-declined a.machine a.axes.sizes.now a.axes.extents.now a.axes.strides.now a.axes.rank a.purpose c.requires.allowed _ table _ c.cut_axes.ensures on
     (sym c.declines_tiles.ensures ∙ c.if-declines_tiles.true)
 
 pub returns : goal.returns
 returns c =
-    let bytes-are : let a = c.args in Images a.machine (length a.axes.sizes.now) a.axes.rank c.byte_table_into.new.table (byte_table a.axes.sizes.now a.axes.strides.now) = let a = c.args in
-    rows_read a.machine a.axes.sizes.now a.axes.strides.now a.axes.rank (length a.axes.sizes.now) _ refl c.requires.plannable.few c.requires.plannable.axes c.byte_table_into.ensures in
-    let on : let a = c.args in exits a.machine c.byte_table_into.new.table a.axes.sizes.now a.axes.extents.now a.axes.strides.now a.axes.rank ≡ false = let a = c.args in
-    exits-not a.machine _ a.axes.sizes.now a.axes.extents.now a.axes.strides.now a.axes.rank (sym c.keeps_order.ensures ∙ c.if-keeps_order.false) (sym c.fits_whole.ensures ∙ c.if-fits_whole.false) in
+    let table = bytes-are (goal.at.returns c).After-byte_table_into in
+    let on = no_exit (goal.at.returns c).After-cut_axes in
     let a = c.args in
-    whole-fitted a.machine a.axes.sizes.now a.axes.extents.now a.axes.strides.now a.axes.rank a.purpose c.requires.allowed _ bytes-are _ c.cut_axes.ensures on
+    whole-fitted a.machine a.axes.sizes.now a.axes.extents.now a.axes.strides.now a.axes.rank a.purpose c.requires.allowed _ table _ c.cut_axes.ensures on
     (sym c.declines_tiles.ensures ∙ c.if-declines_tiles.false) c.fit_for.ensures

@@ -1,6 +1,6 @@
 -- `model::cut_axes` meets its contract: costs and ranks of the code say the same as the definition's, and the tail is all axes.
 -- Assumes nothing.
-use mathlib.Core.Path.{ap, ◌∙◌}
+use mathlib.Core.Path.{◌≡◌, ap, subst⁻¹, ◌∙◌}
 use mathlib.Core.List.{List}
 use Prim.Native.Nat.{ℕ}
 use native.Mathlib.Nat.{sub-zero}
@@ -11,6 +11,7 @@ use Rattle.strided.specs.Cut.{cutting}
 use Rattle.strided.specs.declared.Purpose.TheVariants.{Pointwise}
 use Rattle.laws.specs.Base.Arrays.{get_d_padded}
 use Rattle.laws.specs.Cut.Same.{SameCosts}
+use Rattle.laws.specs.Cut.Steps.{ScoresFit}
 use Rattle.laws.specs.Plan.Ranks.{ranks-same}
 use Rattle.model.proofs.Rooms.{scores}
 use Rattle.model.proofs.Whole.{ruled_is}
@@ -19,20 +20,24 @@ use Rattle.model.proofs.cut_axes.Goals as goal
 pub compute_blocks_at-requires : goal.compute_blocks_at-requires
 compute_blocks_at-requires c =
     -- the costs and the ranks that are worked out
-    let costed : let a = c.args in SameCosts a.axes.rank c.compute_costs-costs.result (costs a.axes.strides.now (length a.axes.sizes.now) a.axes.rank) = let a = c.args in
-    λ i h. ap (λ (l : List ℕ). get_or l i 0) c.compute_costs-costs.ensures ∙ get_d_padded 0 64 (costs a.axes.strides.now (length a.axes.sizes.now) a.axes.rank) i (omega (arith, c.requires.plannable.axes)) in
+    let costed : let a = c.args in SameCosts a.cut.axes.rank c.compute_costs-costs.result (costs a.cut.axes.strides.now (length a.cut.axes.sizes.now) a.cut.axes.rank) = let a = c.args in
+    λ i h. ap (λ (l : List ℕ). get_or l i 0) c.compute_costs-costs.ensures ∙ get_d_padded 0 64 (costs a.cut.axes.strides.now (length a.cut.axes.sizes.now) a.cut.axes.rank) i (omega (arith, c.requires.plannable.axes)) in
     let a = c.args in
-    let p = c.requires.plannable in (p.one, scores a.axes.sizes.now a.blocks.now a.axes.strides.now a.axes.rank Pointwise p c.compute_costs-costs.result costed)
+    let p = c.requires.plannable in
+    let e = c.all.ensures in
+    (omega (arith, e.operands, p.one), subst⁻¹ (λ (n : ℕ). ScoresFit n c.compute_costs-costs.result a.blocks.now) e.rank (scores a.cut.axes.sizes.now a.blocks.now a.cut.axes.strides.now a.cut.axes.rank Pointwise p c.compute_costs-costs.result costed))
 
 pub returns : goal.returns
 returns c =
-    let costed : let a = c.args in SameCosts a.axes.rank c.compute_costs-costs.result (costs a.axes.strides.now (length a.axes.sizes.now) a.axes.rank) = let a = c.args in
-    λ i h. ap (λ (l : List ℕ). get_or l i 0) c.compute_costs-costs.ensures ∙ get_d_padded 0 64 (costs a.axes.strides.now (length a.axes.sizes.now) a.axes.rank) i (omega (arith, c.requires.plannable.axes)) in
+    let costed : let a = c.args in SameCosts a.cut.axes.rank c.compute_costs-costs.result (costs a.cut.axes.strides.now (length a.cut.axes.sizes.now) a.cut.axes.rank) = let a = c.args in
+    λ i h. ap (λ (l : List ℕ). get_or l i 0) c.compute_costs-costs.ensures ∙ get_d_padded 0 64 (costs a.cut.axes.strides.now (length a.cut.axes.sizes.now) a.cut.axes.rank) i (omega (arith, c.requires.plannable.axes)) in
     let a = c.args in
     let p = c.requires.plannable in
     let ranks = c.plan_ranks_into.new.table in
-    let ranked = ranks-same a.axes.sizes.now a.axes.strides.now a.axes.rank (replicate 64 0) p.few p.axes _ c.plan_ranks_into.ensures in
-    c.compute_blocks_at.ensures
-    ∙ ap (λ (n : ℕ). cutting a.machine.numbers a.bytes.now (length a.axes.sizes.now) c.compute_costs-costs.result ranks 0 n a.blocks.now) (sub-zero a.axes.rank)
-    ∙ ruled_is a.machine.numbers a.axes.sizes.now a.blocks.now a.axes.strides.now a.axes.rank Pointwise c.args.machine.allowed a.bytes.now c.requires.images
+    let ranked = ranks-same a.cut.axes.sizes.now a.cut.axes.strides.now a.cut.axes.rank (replicate 64 0) p.few p.axes _ c.plan_ranks_into.ensures in
+    let e = c.all.ensures in
+    let whole : c.compute_blocks_at.new.blocks ≡ cutting a.cut.machine.numbers a.cut.bytes.now (length a.cut.axes.sizes.now) c.compute_costs-costs.result ranks 0 a.cut.axes.rank a.blocks.now =
+    rw (e.machine, e.bytes, e.operands, e.offset, e.rank, sub-zero a.cut.axes.rank) at c.compute_blocks_at.ensures in
+    whole
+    ∙ ruled_is a.cut.machine.numbers a.cut.axes.sizes.now a.blocks.now a.cut.axes.strides.now a.cut.axes.rank Pointwise c.args.cut.machine.allowed a.cut.bytes.now c.requires.images
     c.compute_costs-costs.result costed ranks ranked

@@ -19,20 +19,20 @@ fit-requires c =
     let into : c.args.purpose ≡ PointwiseInto c.in-PointwiseInto.c = c.in-PointwiseInto.is in
     let a = c.args in
     let k : ℕ = c.in-PointwiseInto.c in
-    let two : length a.axes.sizes.now ≡ 2 = c.if-axes-eq2.true in
-    let there : missing (length a.axes.sizes.now) (chosen (PointwiseInto k)) ≡ false =
-    subst (λ (v : Purpose). missing (length a.axes.sizes.now) (chosen v) ≡ false) into c.requires in
-    let below : k < length a.axes.sizes.now = leb-false (length a.axes.sizes.now) k there in (omega (arith, a.axes.few), two)
+    let two : length a.cut.axes.sizes.now ≡ 2 = c.if-cut-eq2.true in
+    let there : missing (length a.cut.axes.sizes.now) (chosen (PointwiseInto k)) ≡ false =
+    subst (λ (v : Purpose). missing (length a.cut.axes.sizes.now) (chosen v) ≡ false) into c.requires in
+    let below : k < length a.cut.axes.sizes.now = leb-false (length a.cut.axes.sizes.now) k there in (omega (arith, a.cut.axes.few), two)
 
 pub returns-in-Pointwise : goal.returns-in-Pointwise
 returns-in-Pointwise c = ⊎_elim (λ e. rw e) (λ e. rw e.1) c.in-Pointwise.is
 
-pub returns-then-axes-eq2 : goal.returns-then-axes-eq2
-returns-then-axes-eq2 c =
+pub returns-then-cut-eq2 : goal.returns-then-cut-eq2
+returns-then-cut-eq2 c =
     let into : c.args.purpose ≡ PointwiseInto c.in-PointwiseInto.c = c.in-PointwiseInto.is in
-    rw (into, eq-eqb _ _ c.if-axes-eq2.true) c.fit.ensures
+    rw (into, eq-eqb _ _ c.if-cut-eq2.true) c.fit.ensures
 
-pub returns-else-axes-eq2 : goal.returns-else-axes-eq2
-returns-else-axes-eq2 c =
+pub returns-else-cut-eq2 : goal.returns-else-cut-eq2
+returns-else-cut-eq2 c =
     let into : c.args.purpose ≡ PointwiseInto c.in-PointwiseInto.c = c.in-PointwiseInto.is in
-    rw (into, ne_eqb _ _ c.if-axes-eq2.false)
+    rw (into, ne_eqb _ _ c.if-cut-eq2.false)

@@ -1,6 +1,6 @@
 -- `model::fits_whole` meets its contract: the region saturates above the cache's size, so the comparison says the same. Assumes nothing.
 use native.Mathlib.Omega.{arith}
-use mathlib.Core.Path.{◌≡◌, refl, ap, ◌∙◌}
+use mathlib.Core.Path.{◌≡◌, refl}
 use mathlib.Core.Bool.{Bool, true, false}
 use Prim.Native.Nat.{ℕ, ◌<◌, min}
 use native.Mathlib.Nat.{sub-zero}
@@ -19,6 +19,9 @@ tested r x n m h e = go (leb x n) refl
     go false q = lt-leb r n (omega (arith, leb-false x n q))
 
 pub returns : goal.returns
-returns c = let a = c.args in
-    tested c.memory_region.result (region a.machine.numbers a.bytes.now (length a.axes.sizes.now) a.axes.extents.now 0 a.axes.rank) a.machine.numbers.cache (cap a.machine.numbers) (omega arith)
-    (c.memory_region.ensures ∙ ap (λ (n : ℕ). min (region a.machine.numbers a.bytes.now (length a.axes.sizes.now) a.axes.extents.now 0 n) (cap a.machine.numbers)) (sub-zero a.axes.rank))
+returns c =
+    let a = c.args in
+    let e = c.all.ensures in
+    let whole : c.memory_region.result ≡ min (region a.cut.machine.numbers a.cut.bytes.now (length a.cut.axes.sizes.now) a.cut.axes.extents.now 0 a.cut.axes.rank) (cap a.cut.machine.numbers) =
+    rw (e.machine, e.bytes, e.operands, e.offset, e.rank, sub-zero a.cut.axes.rank) at c.memory_region.ensures in
+    tested c.memory_region.result (region a.cut.machine.numbers a.cut.bytes.now (length a.cut.axes.sizes.now) a.cut.axes.extents.now 0 a.cut.axes.rank) a.cut.machine.numbers.cache (cap a.cut.machine.numbers) (omega arith) whole

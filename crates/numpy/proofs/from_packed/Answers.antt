@@ -7,7 +7,7 @@ use Rattle.std.specs.Prelude.{None}
 use Prim.Native.Nat.{ℕ, ◌≤◌, ◌<◌}
 use native.Mathlib.Omega.{arith}
 use lib.IntN.{pos}
-use lib.ListN.{length, take, drop, length-take}
+use lib.ListN.{length, take, length-take}
 use Rattle.strided.specs.Base.{padded}
 use Rattle.strided.specs.Digits.{digits_of}
 use Rattle.strided.specs.Text.{FitU}
@@ -38,17 +38,17 @@ packed_strides-strides-requires c =
     let made : let a = c.args in (vs : List ℕ) → length vs ≡ a.rank → (a.rank ≤ 64 → take a.rank a.shape.now ≡ vs) → take a.rank c.reversed-extents.result ≡ reversed vs = λ vs l laid. let a = c.args in
     ap (take a.rank) (c.reversed-extents.ensures ∙ ap (λ (u : List ℕ). padded 64 0 (reversed u)) (laid few))
     ∙ take-padded 0 (reversed vs) a.rank (length-reversed vs ∙ l) few in
-    let right : let a = c.args in (vs rest : List ℕ) → length vs ≡ a.rank → RowHere digits_of FitU (drop a.at a.text.now) vs rest → (0 < a.size) × (list_any too_far (packed a.size vs) ≡ false) = λ vs rest l r. let a = c.args in
+    let right : let a = c.args in (vs rest : List ℕ) → length vs ≡ a.rank → RowHere digits_of FitU a.row.now vs rest → (0 < a.size) × (list_any too_far (packed a.size vs) ≡ false) = λ vs rest l r. let a = c.args in
     some_size a.size _ (sym (c.packed_wrong.ensures vs rest l r) ∙ c.if-packed_wrong.false) in
     let a = c.args in
-    let n = c.requires.1 in
+    let n = c.requires in
     let m : take a.rank c.reversed-extents.result ≡ reversed n.es = made n.es n.count n.laid in
     let w = right n.es [] n.count n.row in
     (omega (arith, few, length-take a.rank c.reversed-extents.result), subst Near (sym m) (packed-near a.size n.es w.0 w.1))
 
 pub returns : goal.returns
 returns c =
-    let right : let a = c.args in (vs rest : List ℕ) → length vs ≡ a.rank → RowHere digits_of FitU (drop a.at a.text.now) vs rest → (0 < a.size) × (list_any too_far (packed a.size vs) ≡ false) = λ vs rest l r. let a = c.args in
+    let right : let a = c.args in (vs rest : List ℕ) → length vs ≡ a.rank → RowHere digits_of FitU a.row.now vs rest → (0 < a.size) × (list_any too_far (packed a.size vs) ≡ false) = λ vs rest l r. let a = c.args in
     some_size a.size _ (sym (c.packed_wrong.ensures vs rest l r) ∙ c.if-packed_wrong.false) in
     let few : c.args.rank ≤ 64 = few-axes _ c.rank_over.ensures c.if-rank_over.false in
     let made : let a = c.args in (vs : List ℕ) → length vs ≡ a.rank → (a.rank ≤ 64 → take a.rank a.shape.now ≡ vs) → take a.rank c.reversed-extents.result ≡ reversed vs = λ vs l laid. let a = c.args in

@@ -1,19 +1,21 @@
 -- `order::fusing_order_into` meets its contract. Assumes nothing.
-use mathlib.Core.Path.{◌≡◌, sym, ap, ◌∙◌}
+use mathlib.Core.Path.{◌≡◌, refl, sym, ap, ◌∙◌}
 use mathlib.Core.Bool.{Bool, true, false, cond}
 use mathlib.Core.List.{List}
 use Prim.Native.Nat.{ℕ, ◌≤◌}
 use lib.Dec.{leb}
 use lib.IntN.{ℤ}
-use lib.ListN.{length, drop, replicate, length-replicate}
+use native.Mathlib.Omega.{arith}
+use lib.ListN.{length, take, drop, replicate, length-take, length-replicate}
 use Rattle.strided.specs.Base.{padded, run}
 use Rattle.strided.specs.Layout.{total, lead}
 use Rattle.strided.specs.Order.{loop_order, fusing_order}
 use Rattle.strided.specs.Step.{blank}
 use Rattle.strided.specs.Weights.{weights}
 use Rattle.strided.specs.declared.Purpose.{Purpose}
-use Rattle.laws.specs.Base.Arrays.{length-padded, blank-ℕ, blank_behind}
-use Rattle.laws.specs.Base.Stores.{blank-first}
+use Rattle.laws.specs.Base.Arrays.{blank-ℕ, blank_behind}
+use Rattle.laws.specs.Base.Lists.{length_run}
+use Rattle.laws.specs.Base.Stores.{blank-first, front-padded}
 use Rattle.laws.specs.Order.Tries.{weights_long}
 use Rattle.order.proofs.fusing_order_into.Goals as goal
 
@@ -28,15 +30,23 @@ module _ (es : List ℕ) (m : ℕ) (ss : List ℤ) (u : Purpose) {b : Bool} (is 
   large h = sym (ap (λ (t : Bool). cond t (run 0 (length es)) (loop_order es m ss u)) (sym is ∙ h))
 
 -- an array that is a row padded is 0 behind it, and so is an array of zeros behind any place
-behind : (w ws : List ℕ) (n : ℕ) → length ws ≡ n → w ≡ padded 64 0 ws → (length w ≡ 64) × (blank (drop n w) ≡ true)
-behind w ws n e h = (ap length h ∙ length-padded 0 64 ws, ap (λ (v : List ℕ). blank (drop n v)) h ∙ blank_behind blank-ℕ 64 n ws e)
+behind : (w ws : List ℕ) (n : ℕ) → length ws ≡ n → w ≡ padded 64 0 ws → blank (drop n w) ≡ true
+behind w ws n e h = ap (λ (v : List ℕ). blank (drop n v)) h ∙ blank_behind blank-ℕ 64 n ws e
 
-zeros_behind : (w : List ℕ) (n : ℕ) → n ≤ 64 → w ≡ replicate 64 0 → (length w ≡ 64) × (blank (drop n w) ≡ true)
+zeros_behind : (w : List ℕ) (n : ℕ) → n ≤ 64 → w ≡ replicate 64 0 → blank (drop n w) ≡ true
 zeros_behind w n l h = behind w (replicate n 0) n (length-replicate {A = ℕ} n 0) (h ∙ blank-first 0 64 n l)
 
 pub returns-then-total_at_most : goal.returns-then-total_at_most
 returns-then-total_at_most c =
-    let a = c.args in record { weights = zeros_behind _ (length a.layout.extents.now) c.args.layout.fits.rank-few c.requires.zeros.0; order = c.as_given_into.ensures ∙ ap (padded 64 0) (small a.layout.extents.now a.layout.operands a.layout.strides.now a.purpose c.total_at_most.ensures c.if-total_at_most.true) }
+    let a = c.args in
+    let n = length a.layout.extents.now in
+    let few : n ≤ 64 = c.args.layout.fits.rank-few in
+    let g = c.as_given_into in
+    let front : length (take n (replicate {A = ℕ} 64 0)) ≡ n = omega (arith, length-take n (replicate {A = ℕ} 64 0), length-replicate {A = ℕ} 64 0, few) in record {
+      weights = zeros_behind _ n few refl;
+      order = front-padded 0 64 n _ (run 0 n) _ (g.ensures ∙ ap (run 0) front) refl (length_run 0 n) few
+          ∙ ap (padded 64 0) (small a.layout.extents.now a.layout.operands a.layout.strides.now a.purpose c.total_at_most.ensures c.if-total_at_most.true);
+    }
 
 pub returns-else-total_at_most : goal.returns-else-total_at_most
 returns-else-total_at_most c =

@@ -1,23 +1,19 @@
 -- `session::check_join` meets its contract. Assumes nothing.
-use mathlib.Core.Path.{sym, ap, ◌∙◌, subst}
+use mathlib.Core.Path.{sym, ◌∙◌}
 use lib.ListN.{take}
-use Rattle.session.specs.Session.{Right, new_rows}
-use Rattle.strided.specs.Refusals.{answered, refused_by}
+use Rattle.session.specs.Session.{new_rows}
 use Rattle.session.proofs.Holding.{right_layout, past_10, at_10}
 use Rattle.session.proofs.check_join.Goals as goal
 
 pub check_joining-requires : goal.check_joining-requires
-check_joining-requires c =
-    let i = c.session.inside in
-    (right_layout i.numbers i.extents.now i.sizes.now i.strides.now i.ranks.now i.weights.now i.costs.now i.plan_extents.now i.blocks.now i.plan_strides.now
-    (subst Right (sym c.session.view_is) (c.holds.ensures.told.yes c.if-not-holds.false))).axes
+check_joining-requires c = (right_layout c.args.session.now (c.holds.ensures.told.yes c.if-not-holds.false)).axes
 
 pub returns : goal.returns
 returns c =
     let s = c.args.session.now in
     let h = c.holds.ensures in
     record {
-      told = c.check_joining.ensures ∙ ap (λ s. answered (refused_by (new_rows s.rank s.operands (take s.rank s.extents) c.args.joining.now))) c.session.view_is ∙ sym (past_10 s h.told (new_rows s.rank s.operands (take s.rank s.extents) c.args.joining.now) c.if-not-holds.false);
+      told = c.check_joining.ensures ∙ sym (past_10 s h.told (new_rows s.rank s.operands (take s.rank s.extents) c.args.joining.now) c.if-not-holds.false);
       table = λ e. h.table c.if-not-holds.false;
     }
 

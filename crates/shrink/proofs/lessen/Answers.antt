@@ -1,68 +1,46 @@
--- `shrink::lessen` meets its contract. The invariant: the blocks end up by the rule as those at first would. The loop ends, since each turn
--- leaves fewer cells; what a turn does is a law about the rule (laws, Cut/Steps). Assumes nothing.
+-- `shrink::lessen` meets its contract. The clipped blocks are still too large, so the single steps pass them (laws, Cut/Jump), and go on
+-- from there. Assumes nothing.
 use native.Mathlib.Omega.{arith}
-use mathlib.Core.Path.{◌≡◌, refl, sym, ◌∙◌}
-use Rattle.std.specs.Prelude.{None}
-use Prim.Native.Nat.{ℕ, ◌-◌, ◌≤◌, ◌<◌}
-use lib.ListN.{get_or, set}
+use mathlib.Core.Path.{◌≡◌, sym, ap, subst⁻¹, ◌∙◌}
+use mathlib.Core.List.{List}
+use Prim.Native.Nat.{ℕ, ◌≤◌}
 use Rattle.strided.specs.Region.{region}
-use Rattle.strided.specs.Cut.{greatest_score, lessened}
-use Rattle.laws.specs.Cut.Picks.{pick_is}
-use Rattle.laws.specs.Cut.Steps.{lessened_fits, lessened_nothing, Turn, lessened_turn}
+use Rattle.strided.specs.declared.Machine.{Machine}
+use Rattle.strided.specs.Cut.{lessened}
+use Rattle.laws.specs.Cut.Steps.{ScoresFit, lessened_fits}
+use Rattle.laws.specs.Cut.Jump.{clipped, clipped_over, over_itself, jump, clipped_scores}
+use Rattle.laws.specs.Cut.Level.{Least}
 use Rattle.region.specs.Tail.{axes}
-use Rattle.shrink.proofs.Places.{there, place}
+use Rattle.std.proofs.Common.{rules}
+use Rattle.shrink.proofs.Turns.{by_ones}
 use Rattle.shrink.proofs.lessen.Goals as goal
 
-pub loop-tail-init : goal.loop-tail-init
-loop-tail-init c = (c.requires, refl)
+-- the blocks b clipped at the score s are t, which the single steps start from
+module _ (mc : Machine) (bytes : List ℕ) (operands : ℕ) (costs : List ℕ) (o n rank : ℕ) (b : List ℕ) (s : ℕ) {t : List ℕ} (made : t ≡ clipped_over s costs o n b b) where
+  is : t ≡ clipped s costs o n b
+  is = made ∙ over_itself s costs o n b
+
+  still-fit : ScoresFit rank costs b → ScoresFit rank costs t
+  still-fit h = subst⁻¹ (λ (l : List ℕ). ScoresFit rank costs l) is (clipped_scores s costs o n rank b h)
+
+  same_end : Least mc bytes operands costs o n b s → lessened mc bytes operands costs o n t ≡ lessened mc bytes operands costs o n b
+  same_end h = ap (lessened mc bytes operands costs o n) is ∙ sym (jump mc bytes operands costs o n s b h.above)
+
+pub returns-then-memory_region-tail : goal.returns-then-memory_region-tail
+returns-then-memory_region-tail c =
+    let a = c.args in
+    let small : region a.tail.machine.numbers a.tail.bytes.now a.tail.operands a.blocks.now a.tail.offset (axes a.tail) ≤ a.tail.machine.numbers.cache = omega arith in
+    sym (lessened_fits a.tail.machine.numbers a.tail.bytes.now a.tail.operands a.costs.now a.tail.offset (axes a.tail) a.blocks.now small)
+
+pub shorten-requires-clause-fit : goal.shorten-requires-clause-fit
+shorten-requires-clause-fit c =
+    let a = c.args in still-fit a.tail.machine.numbers a.tail.bytes.now a.tail.operands a.costs.now a.tail.offset (axes a.tail) a.tail.rank a.blocks.now c.level-s.result c.clip_into.ensures c.requires
+
+pub shorten-requires-clause-rule : goal.shorten-requires-clause-rule
+shorten-requires-clause-rule c = by_ones (λ x r h. search rules) _ _ _ _ _ _ _
 
 pub returns : goal.returns
-returns c = let a = c.args in
-    let n : ℕ = axes a.tail in
-    let small : region a.tail.machine.numbers a.tail.bytes.now a.tail.operands c.loop-tail.blocks a.tail.offset n ≤ a.tail.machine.numbers.cache = omega arith in
-    sym (lessened_fits a.tail.machine.numbers a.tail.bytes.now a.tail.operands a.costs.now a.tail.offset n c.loop-tail.blocks small) ∙ c.loop-tail.invariant.1
-
-pub returns-in_default : goal.returns-in_default
-returns-in_default c = let a = c.args in
-    let n : ℕ = axes a.tail in
-    let nothing : greatest_score c.loop-tail.blocks a.costs.now a.tail.offset n ≡ None = sym c.last_argmax_weighted.ensures ∙ c.in_default.is in
-    sym (lessened_nothing a.tail.machine.numbers a.tail.bytes.now a.tail.operands a.costs.now a.tail.offset n c.loop-tail.blocks nothing) ∙ c.loop-tail.invariant.1
-
-pub offset_bounds-blocks-i : goal.offset_bounds-blocks-i
-offset_bounds-blocks-i c =
-    let at = there c.last_argmax_weighted.ensures c.in-Some.is in
-    omega (arith, place _ _ _ _ at)
-
-pub bounds-blocks-i : goal.bounds-blocks-i
-bounds-blocks-i c =
-    let at = there c.last_argmax_weighted.ensures c.in-Some.is in
-    omega (arith, place _ _ _ _ at)
-
-pub overflow_sub-blocks : goal.overflow_sub-blocks
-overflow_sub-blocks c =
-    let at = there c.last_argmax_weighted.ensures c.in-Some.is in
-    let r = pick_is _ _ _ _ _ at in omega (arith, r.above)
-
-pub bounds-blocks-i-in-loop-tail : goal.bounds-blocks-i-in-loop-tail
-bounds-blocks-i-in-loop-tail c =
-    let at = there c.last_argmax_weighted.ensures c.in-Some.is in
-    omega (arith, place _ _ _ _ at)
-
-pub loop-tail-smaller : goal.loop-tail-smaller
-loop-tail-smaller c =
-    let at = there c.last_argmax_weighted.ensures c.in-Some.is in
-    -- what the turn makes of the blocks
-    let turn : let a = c.args in let n : ℕ = axes a.tail in let i : ℕ = c.in-Some.i in Turn (lessened a.tail.machine.numbers a.tail.bytes.now a.tail.operands a.costs.now a.tail.offset n) a.tail.offset n a.tail.rank a.costs.now c.loop-tail.blocks (set c.loop-tail.blocks i (get_or c.loop-tail.blocks i 0 - 1)) = let a = c.args in
-    let n : ℕ = axes a.tail in
-    let big : a.tail.machine.numbers.cache < region a.tail.machine.numbers a.tail.bytes.now a.tail.operands c.loop-tail.blocks a.tail.offset n = omega arith in
-    lessened_turn a.tail.machine.numbers a.tail.bytes.now a.tail.operands a.costs.now a.tail.offset n a.tail.rank c.loop-tail.blocks c.in-Some.i c.loop-tail.invariant.0 at big in
-    turn.fewer
-
-pub loop-tail-preserved : goal.loop-tail-preserved
-loop-tail-preserved c =
-    let at = there c.last_argmax_weighted.ensures c.in-Some.is in
-    let turn : let a = c.args in let n : ℕ = axes a.tail in let i : ℕ = c.in-Some.i in Turn (lessened a.tail.machine.numbers a.tail.bytes.now a.tail.operands a.costs.now a.tail.offset n) a.tail.offset n a.tail.rank a.costs.now c.loop-tail.blocks (set c.loop-tail.blocks i (get_or c.loop-tail.blocks i 0 - 1)) = let a = c.args in
-    let n : ℕ = axes a.tail in
-    let big : a.tail.machine.numbers.cache < region a.tail.machine.numbers a.tail.bytes.now a.tail.operands c.loop-tail.blocks a.tail.offset n = omega arith in
-    lessened_turn a.tail.machine.numbers a.tail.bytes.now a.tail.operands a.costs.now a.tail.offset n a.tail.rank c.loop-tail.blocks c.in-Some.i c.loop-tail.invariant.0 at big in
-    (turn.fit, turn.same ∙ c.loop-tail.invariant.1)
+returns c =
+    let a = c.args in
+    c.shorten.ensures (by_ones (λ x r h. search rules) _ _ _ _ _ _ _)
+    ∙ same_end a.tail.machine.numbers a.tail.bytes.now a.tail.operands a.costs.now a.tail.offset (axes a.tail) a.tail.rank a.blocks.now c.level-s.result c.clip_into.ensures c.level-s.ensures

@@ -1,14 +1,38 @@
 -- `summary::summarize` meets its contract: the rows of planning, then what is behind them. Assumes nothing.
-use Rattle.std.specs.Prelude.{length}
-use Rattle.std.proofs.Common.{sym, ◌∙◌}
+use mathlib.Core.Path.{◌≡◌, ◌∙◌}
+use Rattle.std.specs.Prelude.{length, None}
+use mir.Syntax.{w64}
+use mir.Facts.{to_z-of_z}
 use Rattle.std.proofs.lemmas.Result.{err_from_is_err_and}
-use Rattle.laws.specs.Refusals.Rows.{refused_some}
+use Rattle.strided.specs.Refusals.{planning_refused}
+use Rattle.layout.specs.Checked.{Laid}
+use Rattle.layout.proofs.Checks.{checked-laid, checked_some, laid_is, as_laid}
+use Rattle.summary.specs.Visits.{cell_sizes, ordering}
+use Rattle.summary.specs.Rows.{summarized}
 use Rattle.summary.proofs.Served.{planning_rows_lem, refused_with}
 use Rattle.summary.proofs.summarize.Goals as goal
+use Rattle.summary.proofs.summarize.Goals.{In_ok-layout}
 
-pub returns-in_err-check_planning : goal.returns-in_err-check_planning
-returns-in_err-check_planning c =
+pub returns-in_err-layout : goal.returns-in_err-layout
+returns-in_err-layout c =
     let a = c.args in
     let p = err_from_is_err_and c.from_residual.result c.from_residual.ensures.1 in
     rw (p.1, p.2) (refused_with a.machine a.extents.now a.strides.now a.start a.cells.now _
-    (planning_rows_lem a.machine a.extents.now a.strides.now a.start (length a.cells.now) _ (refused_some _ _ (sym c.check_planning.ensures ∙ c.in_err-check_planning.was))))
+    (planning_rows_lem a.machine a.extents.now a.strides.now a.start (length a.cells.now) _ (checked_some a.extents.now cell_sizes a.strides.now c.check_planning.ensures c.in_err-layout.was)))
+
+-- planning lets the layout through
+laid : (c : In_ok-layout) → let a = c.args in Laid (planning_refused a.machine a.extents.now cell_sizes a.strides.now ordering) a.extents.now cell_sizes a.strides.now c.in_ok-layout.layout
+laid c = let a = c.args in checked-laid a.extents.now cell_sizes a.strides.now c.check_planning.ensures c.in_ok-layout.was
+
+pub summarize_served-requires : goal.summarize_served-requires
+summarize_served-requires c =
+    let a = c.args in
+    let l = laid (goal.at.summarize_served-requires c).In_ok-layout in
+    record { one = l.operands; passed = as_laid l (λ e m s. planning_refused a.machine e cell_sizes s ordering ≡ None) l.served }
+
+pub returns : goal.returns
+returns c =
+    let a = c.args in
+    let l = laid (goal.at.returns c).In_ok-layout in
+    let served = rw (to_z-of_z {w = w64} c.ranges.start) at c.summarize_served.ensures in
+    served ∙ laid_is l (λ e m s. summarized a.machine e s a.start a.cells.now)

@@ -1,48 +1,67 @@
 -- `text::list_layout` meets its contract: rows 1 to 6, then row 13, then the plan is made and listed. Assumes nothing.
 use mathlib.Core.Path.{sym, ◌∙◌}
+use Rattle.strided.specs.Refusals.{layout_refused, planning_refused}
+use Rattle.strided.specs.Machine.{fixed_four}
 use Rattle.std.proofs.lemmas.Result.{err_from_is_err_and}
-use Rattle.laws.specs.Refusals.Accepted.{accepted}
-use Rattle.laws.specs.Refusals.Record.{fixed_allowed}
-use Rattle.laws.specs.Refusals.Rows.{served_none, refused_some}
-use Rattle.text.proofs.Listings.{made_printable, made_whole, layout_refused_lem, layout_total, layout_served}
+use Rattle.laws.specs.Refusals.Record.{fixed_allowed, planning_fixed}
+use Rattle.layout.specs.Checked.{Laid}
+use Rattle.layout.proofs.Checks.{checked-laid, checked_some, laid_with}
+use Rattle.kernel.proofs.Plans.{laid-accepted, laid-made}
+use Rattle.text.proofs.Listings.{made_printable, made_lent, layout_refused_lem, layout_total, layout_served}
 use Rattle.text.proofs.list_layout.Goals as goal
+use Rattle.text.proofs.list_layout.Goals.{In_ok-layout}
 
-pub returns-in_err-check_layout : goal.returns-in_err-check_layout
-returns-in_err-check_layout c =
+-- rows 1 to 6 pass
+laid : (c : In_ok-layout) → let a = c.args in Laid (layout_refused a.extents.now a.sizes.now a.strides.now a.purpose) a.extents.now a.sizes.now a.strides.now c.in_ok-layout.layout
+laid c = let a = c.args in checked-laid a.extents.now a.sizes.now a.strides.now c.check_layout.ensures c.in_ok-layout.was
+
+-- and 24 for the fixed four
+planning : (c : In_ok-layout) → let a = c.args in Laid (planning_refused fixed_four a.extents.now a.sizes.now a.strides.now a.purpose) a.extents.now a.sizes.now a.strides.now c.in_ok-layout.layout
+planning c = let a = c.args in laid_with (laid c) (planning_fixed a.extents.now a.sizes.now a.strides.now a.purpose ∙ (laid c).served)
+
+pub returns-in_err-layout : goal.returns-in_err-layout
+returns-in_err-layout c =
     let a = c.args in
     let p = err_from_is_err_and c.from_residual.result c.from_residual.ensures.1 in
     rw (p.1, p.2)
-    (layout_refused_lem a.extents.now a.sizes.now a.strides.now a.purpose a.room.now _ (refused_some _ _ (sym c.check_layout.ensures ∙ c.in_err-check_layout.was)))
+    (layout_refused_lem a.extents.now a.sizes.now a.strides.now a.purpose a.room.now _ (checked_some a.extents.now a.sizes.now a.strides.now c.check_layout.ensures c.in_err-layout.was))
 
 pub returns-then-not-total_at_most : goal.returns-then-not-total_at_most
 returns-then-not-total_at_most c =
     let a = c.args in
-    layout_total a.extents.now a.sizes.now a.strides.now a.purpose a.room.now (served_none _ _ (sym c.check_layout.ensures ∙ c.in_ok-check_layout.was))
+    layout_total a.extents.now a.sizes.now a.strides.now a.purpose a.room.now (laid (goal.at.returns-then-not-total_at_most c).In_ok-layout).served
     (sym c.if-not-total_at_most.ensures)
 
 pub plan_into-rank-requires-clause-allowed : goal.plan_into-rank-requires-clause-allowed
 plan_into-rank-requires-clause-allowed c = fixed_allowed
 
+pub plan_into-rank-requires-clause-operands : goal.plan_into-rank-requires-clause-operands
+plan_into-rank-requires-clause-operands c = (laid (goal.at.plan_into-rank-requires-clause-operands c).In_ok-layout).operands
+
 pub plan_into-rank-requires-clause-accepted : goal.plan_into-rank-requires-clause-accepted
 plan_into-rank-requires-clause-accepted c =
     let a = c.args in
-    accepted a.extents.now a.sizes.now a.strides.now a.purpose (served_none _ _ (sym c.check_layout.ensures ∙ c.in_ok-check_layout.was))
+    laid-accepted fixed_four a.extents.now a.sizes.now a.strides.now a.purpose (planning (goal.at.plan_into-rank-requires-clause-accepted c).In_ok-layout)
 
 pub invariant_of-plan : goal.invariant_of-plan
 invariant_of-plan c =
     let a = c.args in
-    made_whole a.extents.now a.sizes.now a.strides.now a.purpose (served_none _ _ (sym c.check_layout.ensures ∙ c.in_ok-check_layout.was)) _ _ _ _
-    c.plan_into-rank.ensures
+    let i = (goal.at.invariant_of-plan c).In_ok-layout in
+    made_lent a.extents.now a.sizes.now a.strides.now a.purpose (laid i).served _ _ _ _
+    (laid-made fixed_four a.extents.now a.sizes.now a.strides.now a.purpose (planning i) c.plan_into-rank.ensures)
 
 pub list-requires : goal.list-requires
 list-requires c =
     let a = c.args in
-    made_printable a.extents.now a.sizes.now a.strides.now a.purpose (served_none _ _ (sym c.check_layout.ensures ∙ c.in_ok-check_layout.was)) _ _ _ _
-    c.plan_into-rank.ensures
+    let i = (goal.at.list-requires c).In_ok-layout in
+    made_printable a.extents.now a.sizes.now a.strides.now a.purpose (laid i).served _ _ _ _
+    (laid-made fixed_four a.extents.now a.sizes.now a.strides.now a.purpose (planning i) c.plan_into-rank.ensures)
 
 pub returns : goal.returns
 returns c =
     let a = c.args in
+    let i = (goal.at.returns c).In_ok-layout in
     c.list.ensures
-    ∙ layout_served a.extents.now a.sizes.now a.strides.now a.purpose a.room.now (served_none _ _ (sym c.check_layout.ensures ∙ c.in_ok-check_layout.was))
-    (sym c.if-not-total_at_most.ensures) c.plan_into-rank.ensures
+    ∙ layout_served a.extents.now a.sizes.now a.strides.now a.purpose a.room.now (laid i).served
+    (sym c.if-not-total_at_most.ensures)
+    (laid-made fixed_four a.extents.now a.sizes.now a.strides.now a.purpose (planning i) c.plan_into-rank.ensures)

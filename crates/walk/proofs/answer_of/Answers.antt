@@ -1,11 +1,11 @@
 -- `walk::answer_of` meets its contract: row 10. Assumes nothing.
 use mathlib.Core.Bool.{Bool, true, false, not}
-use mathlib.Core.Path.{◌≡◌, refl, subst}
+use mathlib.Core.Path.{◌≡◌, refl, sym, ap, subst}
 use Rattle.std.specs.Prelude.{Ok}
-use Rattle.strided.specs.Memory.{walk_of}
 use Rattle.strided.specs.declared.Plan.{Plan}
 use Rattle.strided.specs.declared.Walk.{Walk}
 use Rattle.layout.specs.Lent.{Whole}
+use Rattle.states.specs.Lent.{WholeWalk}
 use Rattle.walk.specs.Lent.{Taken, Answers}
 use Rattle.walk.proofs.Stepping.{state_rejected, taken, ended_step}
 use Rattle.walk.proofs.answer_of.Goals as goal
@@ -19,13 +19,17 @@ answered_ok p w k = go w.ended refl
 
 pub returns-then-reaches : goal.returns-then-reaches
 returns-then-reaches c =
-    let a = c.args in
-    let A : Whole a.plan.now = subst Whole c.plan.view_is c.plan.invariant in
-    let w : Walk = walk_of a.ended a.c.now a.o.now in
-    answered_ok a.plan.now w (taken a.plan.now w A c.told-c c.told-o c.reaches.ensures c.if-reaches.true)
+    let p = c.args.plan.now in
+    let w = c.args.walk.now in
+    let A : Whole p = subst Whole c.plan.view_is c.plan.invariant in
+    let H : WholeWalk w = subst WholeWalk c.walk.view_is c.walk.invariant in
+    subst (λ (e : Bool). Answers p w (Ok (not e))) (sym (ap (λ (v : Walk). v.ended) c.walk.view_is))
+    (answered_ok p w (taken p w A H.counters-all H.offsets_all c.reaches.ensures c.if-reaches.true))
 
 pub returns : goal.returns
 returns c =
-    let a = c.args in
-    let A : Whole a.plan.now = subst Whole c.plan.view_is c.plan.invariant in
-    state_rejected a.plan.now (walk_of a.ended a.c.now a.o.now) A c.told-c c.told-o c.reaches.ensures c.if-reaches.false
+    let p = c.args.plan.now in
+    let w = c.args.walk.now in
+    let A : Whole p = subst Whole c.plan.view_is c.plan.invariant in
+    let H : WholeWalk w = subst WholeWalk c.walk.view_is c.walk.invariant in
+    state_rejected p w A H.counters-all H.offsets_all c.reaches.ensures c.if-reaches.false

@@ -1,5 +1,5 @@
 -- `walker::blocks_left` meets its contract. Assumes nothing.
-use Rattle.walker.proofs.Ahead.{told_none, told_tile, told_axis, told-one, told-tiles}
+use Rattle.walker.proofs.Ahead.{told_none, told_tile, told_axis, told_tiles}
 use mathlib.Core.Path.{◌≡◌, ◌∙◌}
 use Prim.Native.Nat.{ℕ, ◌-◌, ◌<◌, ◌≤◌}
 use native.Mathlib.Omega.{arith}
@@ -20,8 +20,5 @@ returns-then-y c =
       c.ranges.extent.fits,
     )
 
-pub returns-then-left-width : goal.returns-then-left-width
-returns-then-left-width c = (told-one _ _ _ _ _ c.requires c.if-y-eq0.false c.if-y.false c.if-left-width.true, c.ranges.extent.fits)
-
 pub returns : goal.returns
-returns c = (told-tiles _ _ _ _ _ c.requires c.if-y-eq0.false c.if-y.false c.if-left-width.false, c.ranges.extent.fits)
+returns c = (told_tiles _ _ _ _ _ c.requires c.if-y-eq0.false c.if-y.false c.max.ensures, c.ranges.extent.fits)

@@ -6,4 +6,4 @@ use Rattle.auxiliary.specs.Stairs.{steps_to}
 use Rattle.auxiliary.proofs.stairs.steps.Given as goal
 
 abbrev pub invariant-loop-i : goal.invariant-loop-i
-invariant-loop-i l = (l.i ≤ max 1 (length l.strides)) × (l.count ≡ steps_to l.falling l.strides (l.i - 1))
+invariant-loop-i l = (l.i ≤ max 1 (length l.row.strides.now)) × (l.count ≡ steps_to l.falling l.row.strides.now (l.i - 1))

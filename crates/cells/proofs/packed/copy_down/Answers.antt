@@ -1,36 +1,33 @@
 -- `cells::packed::copy_down` meets its contract. Assumes nothing.
 use mathlib.Core.Path.{◌≡◌, sym, ap, ◌∙◌, subst}
-use Prim.Native.Nat.{◌-◌, ◌<◌}
 use native.Mathlib.Omega.{arith}
 use lib.ListN.{length}
 use Rattle.cells.specs.declared.Side.{Side}
 use Rattle.cells.specs.Copy.{copied}
 use Rattle.cells.specs.Patch.{patch_cells}
-use Rattle.cells.specs.Reaching.{Reaches, PatchIn, turned}
+use Rattle.cells.specs.Reaching.{PatchIn, turned}
 use Rattle.cells.proofs.Patching.{patch_cell}
-use Rattle.cells.proofs.Lying.{lies_in}
+use Rattle.cells.proofs.Lying.{lies_in, lies_both}
 use Rattle.cells.proofs.Turning.{turned_lies, turned-copied}
 use Rattle.cells.proofs.packed.copy_down.Goals as goal
 
 pub upwards-to-requires : goal.upwards-to-requires
 upwards-to-requires c =
-    let last : c.args.patch.n0 - 1 < c.args.patch.n0 = let h = c.requires.packed.cells in omega (arith, h) in
-    let to_last : Reaches c.args.patch.to (c.args.patch.n0 - 1) 0 = let a = c.args in
-    let g = c.well_formed.0.1 in
-    (patch_cell a.patch.width (length a.destination.now) a.patch.n0 a.patch.n1 a.patch.to (a.patch.n0 - 1) 0
-    (lies_in a.patch.width (length a.destination.now) a.patch.n0 a.patch.n1 a.patch.to c.requires.lies.to (omega (arith, g)) c.args.patch.few.0 c.args.patch.few.1)
-    last c.requires.packed.runs).reaches in
-    let w = c.args.patch.narrow.1 in record { n0_nonzero = (c.requires.packed.cells, omega (arith, w)); reaches = to_last }
+    let a = c.args in
+    let h = c.requires.packed.cells in
+    let l = c.well_formed.0.1 in
+    let m = c.well_formed.1.0.1 in
+    let w = a.patch.narrow.1 in
+    let r = lies_both a.patch a.destination.now a.source.now c.requires.lies (omega (arith, l)) (omega (arith, m)) in record { n0_nonzero = (h, omega (arith, w)); reaches = (patch_cell _ _ _ _ _ _ _ r.to (omega (arith, h)) c.requires.packed.runs).reaches }
 
 pub upwards-from-requires : goal.upwards-from-requires
 upwards-from-requires c =
-    let last : c.args.patch.n0 - 1 < c.args.patch.n0 = let h = c.requires.packed.cells in omega (arith, h) in
-    let from_last : Reaches c.args.patch.from (c.args.patch.n0 - 1) 0 = let a = c.args in
-    let g = c.well_formed.1.0.1 in
-    (patch_cell a.patch.width (length a.source.now) a.patch.n0 a.patch.n1 a.patch.from (a.patch.n0 - 1) 0
-    (lies_in a.patch.width (length a.source.now) a.patch.n0 a.patch.n1 a.patch.from c.requires.lies.from (omega (arith, g)) c.args.patch.few.0 c.args.patch.few.1)
-    last c.requires.packed.runs).reaches in
-    let w = c.args.patch.narrow.1 in record { n0_nonzero = (c.requires.packed.cells, omega (arith, w)); reaches = from_last }
+    let a = c.args in
+    let h = c.requires.packed.cells in
+    let l = c.well_formed.0.1 in
+    let m = c.well_formed.1.0.1 in
+    let w = a.patch.narrow.1 in
+    let r = lies_both a.patch a.destination.now a.source.now c.requires.lies (omega (arith, l)) (omega (arith, m)) in record { n0_nonzero = (h, omega (arith, w)); reaches = (patch_cell _ _ _ _ _ _ _ r.from (omega (arith, h)) c.requires.packed.runs).reaches }
 
 pub copy_packed-requires : goal.copy_packed-requires
 copy_packed-requires c =

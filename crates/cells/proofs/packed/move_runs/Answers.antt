@@ -1,13 +1,13 @@
 -- `cells::packed::move_runs` meets its contract. Assumes nothing.
-use mathlib.Core.Path.{◌≡◌, refl, sym, ap, ap₂, ◌∙◌}
-use mathlib.Core.List.{List}
-use Prim.Native.Nat.{ℕ, ◌+◌, ◌*◌, ◌≤◌, ◌<◌}
+use mathlib.Core.Path.{◌≡◌, sym, ap₂, ◌∙◌}
+use Prim.Native.Nat.{ℕ, ◌+◌, ◌-◌, ◌*◌, ◌≤◌, ◌<◌}
 use native.Mathlib.Omega.{arith}
 use lib.ListN.{length}
-use Rattle.cells.specs.Copy.{moved, copied}
-use Rattle.cells.specs.Meaning.{moved_length}
-use Rattle.cells.specs.Patch.{place, run_cells}
-use Rattle.cells.proofs.Running.{run_more}
+use borrow.Rule.Slice.PartMut.{put_mid}
+use Rattle.cells.specs.Copy.{moved}
+use Rattle.cells.specs.Patch.{place}
+use Rattle.cells.specs.Moving.{moved_slice}
+use Rattle.cells.proofs.Running.{as_long, run_more}
 use Rattle.cells.proofs.Patching.{patch_cell, patch_start}
 use Rattle.cells.proofs.Packing.{begin, packed-run, run-from, run-bytes, run-place}
 use Rattle.cells.proofs.packed.move_runs.Goals as goal
@@ -19,7 +19,7 @@ overflow_mul-bytes c =
     omega (arith, h)
 
 pub loop-j-init : goal.loop-j-init
-loop-j-init c = (omega arith, refl, patch_start _ _ _ _ _ _)
+loop-j-init c = (omega arith, patch_start _ _ _ _ _ _)
 
 pub place_of-d-requires : goal.place_of-d-requires
 place_of-d-requires c =
@@ -31,19 +31,42 @@ place_of-s-requires c =
     let a = c.args in
     (patch_cell _ _ a.patch.n0 a.patch.n1 a.patch.from 0 c.loop-j.j c.requires.reach.from c.requires.packed.cells c.loop-j-test.true).reaches
 
-pub move_pieces-requires : goal.move_pieces-requires
-move_pieces-requires c =
+pub overflow_add-d : goal.overflow_add-d
+overflow_add-d c =
+    let a = c.args in
     let j : ℕ = c.loop-j.j in
-    let below : j < c.args.patch.n1 = c.loop-j-test.true in
-    let to_is : c.place_of-d.result ≡ begin c.args.patch.to j = let a = c.args in
-    let e : c.place_of-d.result ≡ place a.patch.to 0 j = c.place_of-d.ensures in
-    e ∙ run-place _ _ a.patch.n0 a.patch.n1 a.patch.to c.requires.reach.to c.requires.packed.cells c.requires.packed.to j below in
-    let to-bytes : begin c.args.patch.to j + c.args.patch.n0 * c.args.patch.width ≤ length c.args.destination.now = let a = c.args in run-bytes _ _ a.patch.n0 a.patch.n1 a.patch.to c.requires.reach.to c.requires.packed.cells c.requires.packed.to j below in
-    let from_is : c.place_of-s.result ≡ begin c.args.patch.from j = let a = c.args in
-    let e : c.place_of-s.result ≡ place a.patch.from 0 j = c.place_of-s.ensures in
-    e ∙ run-place _ _ a.patch.n0 a.patch.n1 a.patch.from c.requires.reach.from c.requires.packed.cells c.requires.packed.from j below in
-    let from_bytes : begin c.args.patch.from j + c.args.patch.n0 * c.args.patch.width ≤ length c.args.source.now = let a = c.args in run-bytes _ _ a.patch.n0 a.patch.n1 a.patch.from c.requires.reach.from c.requires.packed.cells c.requires.packed.from j below in
-    let l = c.loop-j.invariant.1 in record { n_in_bounds = omega (arith, to_is, to-bytes, l); n_in_bounds_2 = omega (arith, from_is, from_bytes) }
+    let below : j < a.patch.n1 = c.loop-j-test.true in
+    let is : c.place_of-d.result ≡ begin a.patch.to j = c.place_of-d.ensures ∙ run-place _ _ a.patch.n0 a.patch.n1 a.patch.to c.requires.reach.to c.requires.packed.cells c.requires.packed.to j below in
+    let within : begin a.patch.to j + a.patch.n0 * a.patch.width ≤ length a.destination.now = run-bytes _ _ a.patch.n0 a.patch.n1 a.patch.to c.requires.reach.to c.requires.packed.cells c.requires.packed.to j below in
+    omega (arith, is, within, c.well_formed.0.1)
+
+pub slice_bounds-move_pieces-end : goal.slice_bounds-move_pieces-end
+slice_bounds-move_pieces-end c =
+    let a = c.args in
+    let j : ℕ = c.loop-j.j in
+    let below : j < a.patch.n1 = c.loop-j-test.true in
+    let is : c.place_of-d.result ≡ begin a.patch.to j = c.place_of-d.ensures ∙ run-place _ _ a.patch.n0 a.patch.n1 a.patch.to c.requires.reach.to c.requires.packed.cells c.requires.packed.to j below in
+    let within : begin a.patch.to j + a.patch.n0 * a.patch.width ≤ length a.destination.now = run-bytes _ _ a.patch.n0 a.patch.n1 a.patch.to c.requires.reach.to c.requires.packed.cells c.requires.packed.to j below in
+    let l = as_long _ _ _ _ c.loop-j.invariant.1 in
+    omega (arith, is, within, l)
+
+pub overflow_add-s : goal.overflow_add-s
+overflow_add-s c =
+    let a = c.args in
+    let j : ℕ = c.loop-j.j in
+    let below : j < a.patch.n1 = c.loop-j-test.true in
+    let is : c.place_of-s.result ≡ begin a.patch.from j = c.place_of-s.ensures ∙ run-place _ _ a.patch.n0 a.patch.n1 a.patch.from c.requires.reach.from c.requires.packed.cells c.requires.packed.from j below in
+    let within : begin a.patch.from j + a.patch.n0 * a.patch.width ≤ length a.source.now = run-bytes _ _ a.patch.n0 a.patch.n1 a.patch.from c.requires.reach.from c.requires.packed.cells c.requires.packed.from j below in
+    omega (arith, is, within, c.well_formed.1.0.1)
+
+pub slice_bounds-move_pieces-end-in-loop-j : goal.slice_bounds-move_pieces-end-in-loop-j
+slice_bounds-move_pieces-end-in-loop-j c =
+    let a = c.args in
+    let j : ℕ = c.loop-j.j in
+    let below : j < a.patch.n1 = c.loop-j-test.true in
+    let is : c.place_of-s.result ≡ begin a.patch.from j = c.place_of-s.ensures ∙ run-place _ _ a.patch.n0 a.patch.n1 a.patch.from c.requires.reach.from c.requires.packed.cells c.requires.packed.from j below in
+    let within : begin a.patch.from j + a.patch.n0 * a.patch.width ≤ length a.source.now = run-bytes _ _ a.patch.n0 a.patch.n1 a.patch.from c.requires.reach.from c.requires.packed.cells c.requires.packed.from j below in
+    omega (arith, is, within)
 
 pub loop-j-preserved : goal.loop-j-preserved
 loop-j-preserved c =
@@ -55,18 +78,17 @@ loop-j-preserved c =
     let from_is : c.place_of-s.result ≡ begin c.args.patch.from j = let a = c.args in
     let e : c.place_of-s.result ≡ place a.patch.from 0 j = c.place_of-s.ensures in
     e ∙ run-place _ _ a.patch.n0 a.patch.n1 a.patch.from c.requires.reach.from c.requires.packed.cells c.requires.packed.from j below in
-    let m = c.move_pieces in
     let a = c.args in
     let b : ℕ = a.patch.n0 * a.patch.width in
-    let e : m.new.destination ≡ moved c.loop-j.destination c.place_of-d.result a.source.now c.place_of-s.result b = m.ensures in
-    let f : m.new.destination ≡ moved c.loop-j.destination (begin a.patch.to j) a.source.now (begin a.patch.from j) b =
-    e ∙ ap₂ (λ (x y : ℕ). moved c.loop-j.destination x a.source.now y b) to_is from_is in
+    let to-bytes : begin a.patch.to j + b ≤ length a.destination.now = run-bytes _ _ a.patch.n0 a.patch.n1 a.patch.to c.requires.reach.to c.requires.packed.cells c.requires.packed.to j below in
+    let from_bytes : begin a.patch.from j + b ≤ length a.source.now = run-bytes _ _ a.patch.n0 a.patch.n1 a.patch.from c.requires.reach.from c.requires.packed.cells c.requires.packed.from j below in
+    let l = as_long _ _ _ _ c.loop-j.invariant.1 in
+    let f : put_mid c.place_of-d.result (c.place_of-d.result + b - c.place_of-d.result) c.loop-j.destination c.move_pieces.new.to ≡ moved c.loop-j.destination (begin a.patch.to j) a.source.now (begin a.patch.from j) b =
+    moved_slice c.loop-j.destination c.place_of-d.result a.source.now c.place_of-s.result b (omega (arith, to_is, to-bytes, l)) (omega (arith, from_is, from_bytes)) c.move_pieces.new.to c.move_pieces.ensures
+    ∙ ap₂ (λ (x y : ℕ). moved c.loop-j.destination x a.source.now y b) to_is from_is in
     let u = run-from _ _ a.patch.n0 a.patch.n1 a.patch.to c.requires.reach.to c.requires.packed.cells c.requires.packed.to j below in
     let v = run-from _ _ a.patch.n0 a.patch.n1 a.patch.from c.requires.reach.from c.requires.packed.cells c.requires.packed.from j below in (
       omega arith,
-      ap length f ∙ moved_length c.loop-j.destination (begin a.patch.to j) a.source.now (begin a.patch.from j) b ∙ c.loop-j.invariant.1,
-      f
-          ∙ sym (packed-run a.patch.width a.patch.to a.patch.from c.loop-j.destination a.source.now c.requires.packed.to c.requires.packed.from j u v a.patch.n0)
-          ∙ ap (λ (xs : List ℕ). copied a.patch.width (run_cells a.patch.n0 a.patch.to a.patch.from j) xs a.source.now) c.loop-j.invariant.2
-          ∙ run_more a.patch.width a.patch.to a.patch.from a.destination.now a.source.now a.patch.n0 j,
+      run_more _ _ _ _ _ _ _ c.loop-j.invariant.1
+          (f ∙ sym (packed-run a.patch.width a.patch.to a.patch.from c.loop-j.destination a.source.now c.requires.packed.to c.requires.packed.from j u v a.patch.n0)),
     )

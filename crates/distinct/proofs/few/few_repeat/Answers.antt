@@ -1,4 +1,5 @@
 -- `distinct::few::few_repeat` meets its contract. The invariant: the axes from i on are listed. Assumes nothing.
+use native.Mathlib.Omega.{arith}
 use mathlib.Core.Path.{◌≡◌, refl}
 use Prim.Native.Nat.{ℕ, ◌-◌}
 use lib.IntN.{pos, nat_abs}
@@ -22,21 +23,21 @@ extend-requires c =
     let s = c.args.operand.sound in
     let size = size_is (goal.at.extend-requires c).After-unsigned_abs in
     let r = behind_ready 64 _ _ s.paired (no_zero_of _ s.some) c.requires s.near _ _ _ c.loop-i.invariant c.loop-i-test.true in
-    record { n_nonzero = (r.one, r.some, r.room, rw size r.low); list_len = c.loop-i.invariant.long }
+    (r.one, r.some, r.room, rw size r.low)
 
 pub loop-i-preserved : goal.loop-i-preserved
 loop-i-preserved c =
     let s = c.args.operand.sound in
     let k = c.extend in
     let size = size_is (goal.at.loop-i-preserved c).After-unsigned_abs in
-    behind_more 64 _ _ s.paired (no_zero_of _ s.some) c.requires s.near _ _ _ c.loop-i.invariant c.loop-i-test.true k.new.list k.ensures.list_len_2
-    (rw size at (k.ensures.spreading.listed c.if-not-extend.false))
+    behind_more 64 _ _ s.paired (no_zero_of _ s.some) c.requires s.near _ _ _ c.loop-i.invariant c.loop-i-test.true k.new.list (omega arith)
+    (rw size at (k.ensures.listed c.if-not-extend.false))
 
 pub returns-then-not-extend : goal.returns-then-not-extend
 returns-then-not-extend c =
     let s = c.args.operand.sound in
     let size = size_is (goal.at.returns-then-not-extend c).After-unsigned_abs in
-    shared_true (behind_folds 64 _ _ s.paired (no_zero_of _ s.some) c.requires s.near _ _ _ c.loop-i.invariant c.loop-i-test.true (rw size at (c.extend.ensures.spreading.fold c.if-not-extend.true)))
+    shared_true (behind_folds 64 _ _ s.paired (no_zero_of _ s.some) c.requires s.near _ _ _ c.loop-i.invariant c.loop-i-test.true (rw size at (c.extend.ensures.fold c.if-not-extend.true)))
 
 pub returns : goal.returns
 returns c =

@@ -1,7 +1,7 @@
 -- The invariant of `few::holds`.
-use Rattle.distinct.proofs.Extending.{Missing}
+use Rattle.distinct.specs.Lists.{Looked}
 use Rattle.distinct.proofs.few.holds.Given as goal
 
--- x is none of the first i
-abbrev pub invariant-loop-i : goal.invariant-loop-i
-invariant-loop-i l = Missing l.list l.i l.x
+-- what the places before this one answer
+abbrev pub invariant-loop-y : goal.invariant-loop-y
+invariant-loop-y l = Looked l.list l.y-index l.x l.found

@@ -18,17 +18,17 @@ use Rattle.export.proofs.packed.plain_cells.Goals as goal
 pub gapless-requires : goal.gapless-requires
 gapless-requires c =
     -- no extent is 0
-    let no_zero : NoZero c.args.asked.extents.now = no_zero_of c.args.asked.extents.now (sym c.has_zero.ensures ∙ c.if-has_zero.false) in
+    let no_zero : NoZero c.args.asked.layout.extents.now = no_zero_of c.args.asked.layout.extents.now (sym c.has_zero.ensures ∙ c.if-has_zero.false) in
     -- row 16 passes
     let sixteen : (row16 c.args.asked.sizes.now).applies ≡ false = sym c.sizes_wrong.ensures ∙ c.if-sizes_wrong.false in
     let good : Sized c.args.asked.sizes.now = sizes_good c.args.asked.sizes.now sixteen in (
-      total_some c.args.asked.extents.now no_zero,
+      total_some c.args.asked.layout.extents.now no_zero,
       good.two,
     )
 
 pub returns : goal.returns
 returns c =
-    let no_zero : NoZero c.args.asked.extents.now = no_zero_of c.args.asked.extents.now (sym c.has_zero.ensures ∙ c.if-has_zero.false) in
+    let no_zero : NoZero c.args.asked.layout.extents.now = no_zero_of c.args.asked.layout.extents.now (sym c.has_zero.ensures ∙ c.if-has_zero.false) in
     let sixteen : (row16 c.args.asked.sizes.now).applies ≡ false = sym c.sizes_wrong.ensures ∙ c.if-sizes_wrong.false in
     let good : Sized c.args.asked.sizes.now = sizes_good c.args.asked.sizes.now sixteen in
     let a = c.args in

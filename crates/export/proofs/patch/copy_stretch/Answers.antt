@@ -13,10 +13,21 @@ use Rattle.cells.specs.Copy.{Pair, copied}
 use Rattle.export.specs.Blocks.{InBytes}
 use Rattle.export.proofs.Bytes.{bytes_read, read_bytes, into_bytes, from_bytes, into_lies, from_lies, same-cells, cells-apart}
 use Rattle.export.proofs.patch.copy_stretch.Goals as goal
+use Rattle.export.proofs.patch.copy_stretch.Goals.{After-side_of-from}
+
+-- where the destination's cells lie, and the source's
+to_bytes : (c : After-side_of-from) → let a = c.args in InBytes a.width a.x.length a.x.count (get_or a.first.now 0 (pos 0)) (get_or a.s.now 0 (pos 0)) (get_or a.d.now 0 (pos 0)) c.side_of-to.result
+to_bytes c =
+    read_bytes (to_z-of_z {w = w64} (let f : SFits w64 (get_or c.args.first.now 0 (pos 0)) = search rules in f)) (to_z-of_z {w = w64} (let f : SFits w64 (get_or c.args.s.now 0 (pos 0)) = search rules in f)) (to_z-of_z {w = w64} (let f : SFits w64 (get_or c.args.d.now 0 (pos 0)) = search rules in f))
+    c.side_of-to.ensures
+
+source_bytes : (c : After-side_of-from) → let a = c.args in InBytes a.width a.x.length a.x.count (get_or a.first.now 1 (pos 0)) (get_or a.s.now 64 (pos 0)) (get_or a.d.now 1 (pos 0)) c.side_of-from.result
+source_bytes c =
+    read_bytes (to_z-of_z {w = w64} (let f : SFits w64 (get_or c.args.first.now 1 (pos 0)) = search rules in f)) (to_z-of_z {w = w64} (let f : SFits w64 (get_or c.args.s.now 64 (pos 0)) = search rules in f)) (to_z-of_z {w = w64} (let f : SFits w64 (get_or c.args.d.now 1 (pos 0)) = search rules in f))
+    c.side_of-from.ensures
 
 pub side_of-to-requires : goal.side_of-to-requires
 side_of-to-requires c =
-    -- a buffer is shorter than 2^63
     let to-short : length c.args.destination.now < 2 ^ 63 = omega arith in
     let from-short : length c.args.source.now < 2 ^ 63 = omega arith in
     bytes_read (to_z-of_z {w = w64} (let f : SFits w64 (get_or c.args.first.now 0 (pos 0)) = search rules in f)) (to_z-of_z {w = w64} (let f : SFits w64 (get_or c.args.s.now 0 (pos 0)) = search rules in f)) (to_z-of_z {w = w64} (let f : SFits w64 (get_or c.args.d.now 0 (pos 0)) = search rules in f))
@@ -31,23 +42,19 @@ side_of-from-requires c =
 
 pub copy_patch-requires : goal.copy_patch-requires
 copy_patch-requires c =
-    -- where the destination's cells lie, and the source's
-    let into : let a = c.args in InBytes a.width a.x.length a.x.count (get_or a.first.now 0 (pos 0)) (get_or a.s.now 0 (pos 0)) (get_or a.d.now 0 (pos 0)) c.side_of-to.result = read_bytes (to_z-of_z {w = w64} (let f : SFits w64 (get_or c.args.first.now 0 (pos 0)) = search rules in f)) (to_z-of_z {w = w64} (let f : SFits w64 (get_or c.args.s.now 0 (pos 0)) = search rules in f)) (to_z-of_z {w = w64} (let f : SFits w64 (get_or c.args.d.now 0 (pos 0)) = search rules in f)) c.side_of-to.ensures in
-    let out : let a = c.args in InBytes a.width a.x.length a.x.count (get_or a.first.now 1 (pos 0)) (get_or a.s.now 64 (pos 0)) (get_or a.d.now 1 (pos 0)) c.side_of-from.result = read_bytes (to_z-of_z {w = w64} (let f : SFits w64 (get_or c.args.first.now 1 (pos 0)) = search rules in f)) (to_z-of_z {w = w64} (let f : SFits w64 (get_or c.args.s.now 64 (pos 0)) = search rules in f)) (to_z-of_z {w = w64} (let f : SFits w64 (get_or c.args.d.now 1 (pos 0)) = search rules in f)) c.side_of-from.ensures in
+    let into = to_bytes (goal.at.copy_patch-requires c).After-side_of-from in
+    let out = source_bytes (goal.at.copy_patch-requires c).After-side_of-from in
     let to-short : length c.args.destination.now < 2 ^ 63 = omega arith in
     let from-short : length c.args.source.now < 2 ^ 63 = omega arith in
     let h = c.requires in
-    let p = into in
-    let q = out in
-    let f = to-short in
-    let g = from-short in record { lies = record { to = into_lies h f g p q; from = from_lies h f g p q }; apart = cells-apart h f g p q }
+    record { lies = record { to = into_lies h to-short from-short into out; from = from_lies h to-short from-short into out }; apart = cells-apart h to-short from-short into out }
 
 pub returns : goal.returns
 returns c =
     let to-short : length c.args.destination.now < 2 ^ 63 = omega arith in
     let from-short : length c.args.source.now < 2 ^ 63 = omega arith in
-    let into : let a = c.args in InBytes a.width a.x.length a.x.count (get_or a.first.now 0 (pos 0)) (get_or a.s.now 0 (pos 0)) (get_or a.d.now 0 (pos 0)) c.side_of-to.result = read_bytes (to_z-of_z {w = w64} (let f : SFits w64 (get_or c.args.first.now 0 (pos 0)) = search rules in f)) (to_z-of_z {w = w64} (let f : SFits w64 (get_or c.args.s.now 0 (pos 0)) = search rules in f)) (to_z-of_z {w = w64} (let f : SFits w64 (get_or c.args.d.now 0 (pos 0)) = search rules in f)) c.side_of-to.ensures in
-    let out : let a = c.args in InBytes a.width a.x.length a.x.count (get_or a.first.now 1 (pos 0)) (get_or a.s.now 64 (pos 0)) (get_or a.d.now 1 (pos 0)) c.side_of-from.result = read_bytes (to_z-of_z {w = w64} (let f : SFits w64 (get_or c.args.first.now 1 (pos 0)) = search rules in f)) (to_z-of_z {w = w64} (let f : SFits w64 (get_or c.args.s.now 64 (pos 0)) = search rules in f)) (to_z-of_z {w = w64} (let f : SFits w64 (get_or c.args.d.now 1 (pos 0)) = search rules in f)) c.side_of-from.ensures in
+    let into = to_bytes (goal.at.returns c).After-side_of-from in
+    let out = source_bytes (goal.at.returns c).After-side_of-from in
     c.copy_patch.ensures
     ∙ ap (λ (l : List Pair). copied c.args.width l c.args.destination.now c.args.source.now) (same-cells c.requires to-short from-short into out)
 

@@ -8,7 +8,7 @@ use Rattle.strided.specs.Base.{least}
 use Rattle.strided.specs.Costs.{still, cost_of, cost_number}
 use Rattle.laws.specs.Cut.Ranges.{least_in}
 use Rattle.laws.specs.Cut.Tables.{cost_none, cost_one, cost_twice, still-not}
-use Rattle.fuse.proofs.Costing.{size_at}
+use Rattle.fuse.specs.Sizes.{size_at}
 use Rattle.fuse.proofs.Column.cost.Goals as goal
 
 -- where the least size is not 0, operand 0 moves
@@ -22,12 +22,13 @@ once false size operands e m = sym (ap cost_number (cost_one size operands (sym 
 
 pub returns-then-size-eq0 : goal.returns-then-size-eq0
 returns-then-size-eq0 c =
-    let a = c.args in
-    c.from.ensures ∙ once c.stays.result (size_at a.self.strides.now a.self.axis) a.self.operands c.stays.ensures (sym c.least_size-size.ensures ∙ c.if-size-eq0.true)
+    let s = c.args.self in
+    c.from.ensures ∙ once c.stays.result (size_at s.rows.strides.now s.rows.pitch s.axis) s.rows.operands c.stays.ensures (sym c.least_size-size.ensures ∙ c.if-size-eq0.true)
 
 pub returns : goal.returns
 returns c =
-    let a = c.args in
-    let f : ℕ → ℕ = size_at a.self.strides.now a.self.axis in
-    let n : least f 0 a.self.operands ≡ 0 → ⊥ = λ e. c.if-size-eq0.false (c.least_size-size.ensures ∙ e) in
-    omega (arith, c.least_size-size.ensures, ap cost_number (cost_twice f a.self.operands (twice f a.self.operands c.args.self.inside.0 n) n))
+    let s = c.args.self in
+    let m : ℕ = s.rows.operands in
+    let f : ℕ → ℕ = size_at s.rows.strides.now s.rows.pitch s.axis in
+    let n : least f 0 m ≡ 0 → ⊥ = λ e. c.if-size-eq0.false (c.least_size-size.ensures ∙ e) in
+    omega (arith, c.least_size-size.ensures, ap cost_number (cost_twice f m (twice f m s.some n) n))

@@ -1,14 +1,13 @@
 -- `gougelily::indices::gougelily_plan_index` meets its contract. Assumes nothing.
 use mathlib.Core.Path.{◌∙◌}
 use mir.Facts.{to_z-of_z}
-use Rattle.strided.specs.Index.{told_plan, told}
+use Rattle.strided.specs.Index.{told_plan}
 use Rattle.strided.specs.declared.Purpose.{Purpose}
 use Rattle.strided.specs.declared.Told.{Told}
 use Rattle.gougelily.proofs.Answers.{told_as}
 use Rattle.gougelily.proofs.indices.gougelily_plan_index.Goals as goal
 use mir.Syntax.{w64}
 use Rattle.std.specs.Prelude.{Result}
-use Rattle.strided.specs.Memory.{code_of}
 use Rattle.strided.specs.declared.Refusal.{Refusal}
 
 pub returns : goal.returns

@@ -13,6 +13,18 @@ use Rattle.walk.proofs.Stepping.{lent_refused}
 use Rattle.bulk.proofs.Ways.{refused-many}
 use Rattle.gougelily.proofs.Answers.{many-count, many-refused, many_ended, many_blocks}
 use Rattle.gougelily.proofs.many.gougelily_step_many.Goals as goal
+use Rattle.gougelily.proofs.many.gougelily_step_many.Goals.{After-step_many_on}
+
+-- what is made of the plan that is lent is made of the plan
+makes : (c : After-step_many_on) → let a = c.args in
+    many_of c.step_many_on.result c.step_many_on.new.lengths c.step_many_on.new.offsets
+    ≡ stepped_many (plan_of a.rank a.operands a.extents.now a.blocks.now a.strides.now) (walk_in (walk_at a.ended.now a.counters.now a.offsets.now)) a.block_lengths.now a.block_offsets.now
+makes c =
+    let a = c.args in
+    let P : Plan = plan_of a.rank a.operands a.extents.now a.blocks.now a.strides.now in
+    let W : Walk = walk_in (walk_at a.ended.now a.counters.now a.offsets.now) in
+    subst (λ (q : Plan). many_of c.step_many_on.result c.step_many_on.new.lengths c.step_many_on.new.offsets ≡ stepped_many q W a.block_lengths.now a.block_offsets.now)
+    (served_is _ P (sym c.of.ensures ∙ c.in-Ok.is)) c.step_many_on.ensures
 
 -- the plan is not lent
 pub returns-in-Err : goal.returns-in-Err
@@ -29,9 +41,7 @@ returns-in-Err-step_many_on c =
     let a = c.args in
     let P : Plan = plan_of a.rank a.operands a.extents.now a.blocks.now a.strides.now in
     let W : Walk = walk_in (walk_at a.ended.now a.counters.now a.offsets.now) in
-    let made : many_of c.step_many_on.result c.step_many_on.new.lengths c.step_many_on.new.offsets ≡ stepped_many P W a.block_lengths.now a.block_offsets.now =
-    subst (λ (q : Plan). many_of c.step_many_on.result c.step_many_on.new.lengths c.step_many_on.new.offsets ≡ stepped_many q W a.block_lengths.now a.block_offsets.now)
-    (served_is _ P (sym c.of.ensures ∙ c.in-Ok.is)) c.step_many_on.ensures in
+    let made = makes (goal.at.returns-in-Err-step_many_on c).After-step_many_on in
     many-refused P W a.block_lengths.now a.block_offsets.now made _ c.in-Err-step_many_on.is
     (to_z-of_z {w = w64} (record { sfits = c.negated-in-Err-step_many_on.type_inv }) ∙ c.negated-in-Err-step_many_on.ensures)
 
@@ -41,9 +51,7 @@ overflow_cast-result c =
     let a = c.args in
     let P : Plan = plan_of a.rank a.operands a.extents.now a.blocks.now a.strides.now in
     let W : Walk = walk_in (walk_at a.ended.now a.counters.now a.offsets.now) in
-    let made : many_of c.step_many_on.result c.step_many_on.new.lengths c.step_many_on.new.offsets ≡ stepped_many P W a.block_lengths.now a.block_offsets.now =
-    subst (λ (q : Plan). many_of c.step_many_on.result c.step_many_on.new.lengths c.step_many_on.new.offsets ≡ stepped_many q W a.block_lengths.now a.block_offsets.now)
-    (served_is _ P (sym c.of.ensures ∙ c.in-Ok.is)) c.step_many_on.ensures in
+    let made = makes (goal.at.overflow_cast-result c).After-step_many_on in
     let few : c.in-Some.count ≤ length a.block_lengths.now = many-count P W a.block_lengths.now a.block_offsets.now made c.in-Ok-step_many_on.is c.in-Some.is in
     let fits : SFits w64 (pos c.in-Some.count) = record { sfits = search rules } in
     fits
@@ -53,9 +61,7 @@ returns-in-None c =
     let a = c.args in
     let P : Plan = plan_of a.rank a.operands a.extents.now a.blocks.now a.strides.now in
     let W : Walk = walk_in (walk_at a.ended.now a.counters.now a.offsets.now) in
-    let made : many_of c.step_many_on.result c.step_many_on.new.lengths c.step_many_on.new.offsets ≡ stepped_many P W a.block_lengths.now a.block_offsets.now =
-    subst (λ (q : Plan). many_of c.step_many_on.result c.step_many_on.new.lengths c.step_many_on.new.offsets ≡ stepped_many q W a.block_lengths.now a.block_offsets.now)
-    (served_is _ P (sym c.of.ensures ∙ c.in-Ok.is)) c.step_many_on.ensures in
+    let made = makes (goal.at.returns-in-None c).After-step_many_on in
     many_ended P W a.block_lengths.now a.block_offsets.now made _ c.in-Ok-step_many_on.is c.in-None.is
 
 pub returns-in-Some : goal.returns-in-Some
@@ -63,9 +69,7 @@ returns-in-Some c =
     let a = c.args in
     let P : Plan = plan_of a.rank a.operands a.extents.now a.blocks.now a.strides.now in
     let W : Walk = walk_in (walk_at a.ended.now a.counters.now a.offsets.now) in
-    let made : many_of c.step_many_on.result c.step_many_on.new.lengths c.step_many_on.new.offsets ≡ stepped_many P W a.block_lengths.now a.block_offsets.now =
-    subst (λ (q : Plan). many_of c.step_many_on.result c.step_many_on.new.lengths c.step_many_on.new.offsets ≡ stepped_many q W a.block_lengths.now a.block_offsets.now)
-    (served_is _ P (sym c.of.ensures ∙ c.in-Ok.is)) c.step_many_on.ensures in
+    let made = makes (goal.at.returns-in-Some c).After-step_many_on in
     let few : c.in-Some.count ≤ length a.block_lengths.now = many-count P W a.block_lengths.now a.block_offsets.now made c.in-Ok-step_many_on.is c.in-Some.is in
     let fits : SFits w64 (pos c.in-Some.count) = record { sfits = search rules } in
     let w = c.in-Ok-step_many_on.several.walk in

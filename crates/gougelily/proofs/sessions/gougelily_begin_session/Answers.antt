@@ -1,6 +1,6 @@
 -- `gougelily::sessions::gougelily_begin_session` meets its contract. Assumes nothing.
 use mathlib.Core.Path.{◌≡◌, ◌∙◌, subst}
-use Rattle.strided.specs.Memory.{purpose_of, code_of}
+use Rattle.strided.specs.Memory.{purpose_of}
 use Rattle.strided.specs.Machine.{machine_of}
 use Rattle.strided.specs.declared.Purpose.{Purpose}
 use Rattle.session.specs.Session.{Given, given, begun}

@@ -6,7 +6,6 @@ use mathlib.Core.Path.{◌∙◌}
 use Rattle.gougelily.proofs.Numbers.{handed}
 use Rattle.gougelily.proofs.sessions.gougelily_join_session.Goals as goal
 use mir.Syntax.{w64}
-use Rattle.strided.specs.Memory.{code_of}
 
 pub returns : goal.returns
 returns c =

@@ -6,12 +6,14 @@ use Rattle.session.proofs.Tabling.{table_front}
 use Rattle.joining.proofs.Moving.{stand_table, ranks-front, add_stands}
 use Rattle.joining.proofs.moves.add_operand.Goals as goal
 
+pub invariant_of-add_row : goal.invariant_of-add_row
+invariant_of-add_row c = record { few = omega (arith, c.requires.operands_bound.1, c.requires.standing.fits.rank-few) }
+
 pub add_row-requires : goal.add_row-requires
 add_row-requires c =
     let few : c.args.numbers.operands ≤ 8 = let r = c.requires.operands_bound.0 in omega (arith, r) in
     let a = c.args in
-    let e = c.requires.operands_bound.1 in
-    let x = c.requires.standing.fits.rank-few in record { operands_bound = (c.requires.operands_bound.0, omega (arith, e, x)); table_value = table_front _ a.numbers.rank a.numbers.operands few a.table.now (stand_table a.numbers.rank a.numbers.operands a.sizes.now a.strides.now a.ranks.now a.table.now few c.requires.standing) }
+    record { operands_bound = c.requires.operands_bound.0; table_value = table_front _ a.numbers.rank a.numbers.operands few a.table.now (stand_table a.numbers.rank a.numbers.operands a.sizes.now a.strides.now a.ranks.now a.table.now few c.requires.standing) }
 
 pub put_row-requires : goal.put_row-requires
 put_row-requires c =

@@ -1,5 +1,6 @@
 -- `judge::pass::see_visit` meets its contract: the index is read back from the array.
 -- Assumes nothing.
+use borrow.Author.Rules.{rules}
 use mathlib.Core.Path.{ap}
 use mathlib.Core.Bool.{not}
 use Rattle.judge.proofs.Passing.{sees_to}
@@ -7,4 +8,4 @@ use Rattle.judge.proofs.pass.see_visit.Goals as goal
 
 pub returns : goal.returns
 returns c =
-    sees_to c.args.extents.now c.read_visit.ensures _ c.in_ok-line.was c.requires.0 c.requires.1 _ (ap not c.stays-inside.ensures)
+    sees_to c.args.extents.now c.read_visit.ensures c.in_ok-axis.was c.requires (search rules) _ (ap not c.stays-inside.ensures)

@@ -1,32 +1,39 @@
--- `judge::run::step_at` meets its contract: the product of the first i extents.
+-- `judge::run::step_at` meets its contract: the product of the first extents.
 -- Assumes nothing.
 use mathlib.Core.Path.{◌≡◌, sym, ap, ◌∙◌}
 use Prim.Native.Nat.{ℕ, ◌+◌, ◌*◌, ◌≤◌}
-use native.Mathlib.Numerals.{add-one}
 use native.Mathlib.Omega.{arith}
-use lib.ListN.{get_or}
+use lib.ListN.{get_or, take}
 use borrow.Author.Rules.{rules}
+use Rattle.std.proofs.lemmas.List.{length-take-le}
 use Rattle.judge.specs.Laying.{step_of}
-use Rattle.judge.proofs.Steps.{step-zero, step-next, step_fits}
+use Rattle.judge.proofs.Steps.{step-zero, step-taken, step_fits}
 use Rattle.judge.proofs.run.step_at.Goals as goal
 
-pub loop-i-init : goal.loop-i-init
-loop-i-init c = (omega arith, sym (step-zero c.args.extents.now))
+pub loop-extent-init : goal.loop-extent-init
+loop-extent-init c = sym (step-zero c.args.extents.now)
 
 pub overflow_mul-step : goal.overflow_mul-step
 overflow_mul-step c =
-    let next : c.loop-i.step * get_or c.args.extents.now c.loop-i.i 0 ≡ step_of c.args.extents.now (c.loop-i.i + 1) = let l = c.loop-i in
-    let t = c.loop-i-test.true in
-    ap (λ (k : ℕ). k * get_or c.args.extents.now l.i 0) l.invariant.1 ∙ sym (step-next c.args.extents.now l.i (omega (arith, t, c.requires.2))) ∙ ap (step_of c.args.extents.now) (sym (add-one l.i)) in
-    let fits : c.loop-i.step * get_or c.args.extents.now c.loop-i.i 0 ≤ 65536 = let l = c.loop-i in
-    let t = c.loop-i-test.true in
-    omega (arith, next, step_fits c.args.extents.now (l.i + 1) c.requires.0 (omega (arith, t, c.requires.2)), c.requires.1) in
-    let h = fits in search rules
+    let a = c.args in
+    let l = c.loop-extent in
+    let es = a.extents.now in
+    let r = c.requires in
+    let s = step-taken es a.axis (omega (arith, r.2)) l.extent-index c.loop-extent-test.true in
+    let h : l.step * get_or (take a.axis es) l.extent-index 0 ≤ 65536 =
+    omega (arith, ap (λ (k : ℕ). k * get_or (take a.axis es) l.extent-index 0) l.invariant, s.1, step_fits es (l.extent-index + 1) r.0 (omega (arith, s.0, r.2)), r.1) in
+    search rules
 
-pub loop-i-preserved : goal.loop-i-preserved
-loop-i-preserved c =
-    let next : c.loop-i.step * get_or c.args.extents.now c.loop-i.i 0 ≡ step_of c.args.extents.now (c.loop-i.i + 1) = let l = c.loop-i in
-    let t = c.loop-i-test.true in
-    ap (λ (k : ℕ). k * get_or c.args.extents.now l.i 0) l.invariant.1 ∙ sym (step-next c.args.extents.now l.i (omega (arith, t, c.requires.2))) ∙ ap (step_of c.args.extents.now) (sym (add-one l.i)) in
-    let t = c.loop-i-test.true in
-    (omega arith, next)
+pub loop-extent-preserved : goal.loop-extent-preserved
+loop-extent-preserved c =
+    let a = c.args in
+    let l = c.loop-extent in
+    let r = c.requires in
+    ap (λ (k : ℕ). k * get_or (take a.axis a.extents.now) l.extent-index 0) l.invariant ∙ (step-taken a.extents.now a.axis (omega (arith, r.2)) l.extent-index c.loop-extent-test.true).1
+
+pub returns : goal.returns
+returns c =
+    let a = c.args in
+    let r = c.requires in
+    let e : c.loop-extent.extent-index ≡ a.axis = (let t = c.loop-extent-test.false in let u = c.loop-extent.auto.extent-index-end in omega (arith, length-take-le a.axis a.extents.now (omega (arith, r.2)), t, u)) in
+    c.loop-extent.invariant ∙ ap (step_of a.extents.now) e

@@ -6,4 +6,4 @@ use Rattle.l1.proofs.L1Sets.fit.Given as goal
 
 abbrev pub invariant-loop-i : goal.invariant-loop-i
 invariant-loop-i l =
-    (fit_from l.machine.numbers l.bytes l.axes.sizes.now l.axes.rank (chosen_size l.axes.strides.now l.chosen) l.i l.blocks ≡ fitted l.machine.numbers l.bytes l.axes.sizes.now l.axes.rank (chosen_size l.axes.strides.now l.chosen) l.initial.blocks)
+    (fit_from l.cut.machine.numbers l.cut.bytes.now l.cut.axes.sizes.now l.cut.axes.rank (chosen_size l.cut.axes.strides.now l.chosen) l.i l.blocks ≡ fitted l.cut.machine.numbers l.cut.bytes.now l.cut.axes.sizes.now l.cut.axes.rank (chosen_size l.cut.axes.strides.now l.chosen) l.initial.blocks)

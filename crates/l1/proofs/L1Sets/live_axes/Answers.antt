@@ -28,13 +28,13 @@ pub loop-i-init : goal.loop-i-init
 unfolding reuse
 loop-i-init c =
     let a = c.args in
-    (ap (seek (near a.machine.numbers a.bytes.now a.operand.k) 0) (sub-zero a.operand.axes.rank), holds_none)
+    (ap (seek (near a.cut.machine.numbers a.cut.bytes.now a.k) 0) (sub-zero a.cut.axes.rank), holds_none)
 
-pub returns-then-s-machine : goal.returns-then-s-machine
+pub returns-then-s-cut : goal.returns-then-s-cut
 unfolding live_count
-returns-then-s-machine c = let a = c.args in
-    let e : reuse a.machine.numbers a.bytes.now a.operand.axes.rank a.operand.k ≡ c.loop-i.i = sym c.loop-i.invariant.0 ∙ seek_hit (near a.machine.numbers a.bytes.now a.operand.k) c.loop-i.i a.operand.axes.rank (omega arith) (lt-ltb (byte_at a.bytes.now a.operand.k c.loop-i.i) a.machine.numbers.line (omega (arith, c.from-s.ensures, c.if-s-machine.true))) in
-    record { count = rw (ne_eqb _ _ c.if-size-eq0.false, e, lt-ltb c.loop-i.i a.operand.axes.rank (omega arith)); aliased = c.loop-i.invariant.1 }
+returns-then-s-cut c = let a = c.args in
+    let e : reuse a.cut.machine.numbers a.cut.bytes.now a.cut.axes.rank a.k ≡ c.loop-i.i = sym c.loop-i.invariant.0 ∙ seek_hit (near a.cut.machine.numbers a.cut.bytes.now a.k) c.loop-i.i a.cut.axes.rank (omega arith) (lt-ltb (byte_at a.cut.bytes.now a.k c.loop-i.i) a.cut.machine.numbers.line (omega (arith, c.from-s.ensures, c.if-s-cut.true))) in
+    record { count = rw (ne_eqb _ _ c.if-size-eq0.false, e, lt-ltb c.loop-i.i a.cut.axes.rank (omega arith)); aliased = c.loop-i.invariant.1 }
 
 -- the set with axis i: its byte stride is a line at least, so not 0
 stored : (mc : Machine) (bytes : List ℕ) (k i : ℕ) {aliased s r : ℕ} → Holds (aliases_at mc bytes k) i aliased → i < 64 → s ≡ byte_at bytes k i → 0 < s
@@ -45,21 +45,21 @@ stored mc bytes k i {aliased} {s} {r} h l e p q =
 
 pub overflow_add-aliased : goal.overflow_add-aliased
 overflow_add-aliased c =
-    let multiple : c.is_multiple_of.result ≡ eqb (c.from-s.result % c.args.machine.numbers.way) 0 = search rules in
+    let multiple : c.is_multiple_of.result ≡ eqb (c.from-s.result % c.args.cut.machine.numbers.way) 0 = search rules in
     let i : ℕ = c.loop-i.i in
-    omega (arith, (stored c.args.machine.numbers c.args.bytes.now c.args.operand.k i c.loop-i.invariant.1 (omega arith) c.from-s.ensures (omega arith) (c.from.ensures ∙ ap bool_byte multiple)).below, pow_mono {i = i + 1} {j = 64} (omega arith))
+    omega (arith, (stored c.args.cut.machine.numbers c.args.cut.bytes.now c.args.k i c.loop-i.invariant.1 (omega arith) c.from-s.ensures (omega arith) (c.from.ensures ∙ ap bool_byte multiple)).below, pow_mono {i = i + 1} {j = 64} (omega arith))
 
 pub loop-i-preserved : goal.loop-i-preserved
 loop-i-preserved c =
     let a = c.args in
-    let multiple : c.is_multiple_of.result ≡ eqb (c.from-s.result % c.args.machine.numbers.way) 0 = search rules in
+    let multiple : c.is_multiple_of.result ≡ eqb (c.from-s.result % c.args.cut.machine.numbers.way) 0 = search rules in
     let i : ℕ = c.loop-i.i in (
-      sym (seek_miss (near a.machine.numbers a.bytes.now a.operand.k) i a.operand.axes.rank (omega arith) (le-ltb (byte_at a.bytes.now a.operand.k i) a.machine.numbers.line (omega (arith, c.from-s.ensures, c.if-s-machine.false)))) ∙ c.loop-i.invariant.0,
-      stored a.machine.numbers a.bytes.now a.operand.k i c.loop-i.invariant.1 (omega arith) c.from-s.ensures (omega arith) (c.from.ensures ∙ ap bool_byte multiple),
+      sym (seek_miss (near a.cut.machine.numbers a.cut.bytes.now a.k) i a.cut.axes.rank (omega arith) (le-ltb (byte_at a.cut.bytes.now a.k i) a.cut.machine.numbers.line (omega (arith, c.from-s.ensures, c.if-s-cut.false)))) ∙ c.loop-i.invariant.0,
+      stored a.cut.machine.numbers a.cut.bytes.now a.k i c.loop-i.invariant.1 (omega arith) c.from-s.ensures (omega arith) (c.from.ensures ∙ ap bool_byte multiple),
     )
 
 pub returns : goal.returns
 unfolding live_count
 returns c = let a = c.args in
-    let e : reuse a.machine.numbers a.bytes.now a.operand.axes.rank a.operand.k ≡ c.loop-i.i = sym c.loop-i.invariant.0 ∙ seek_none (near a.machine.numbers a.bytes.now a.operand.k) c.loop-i.i a.operand.axes.rank (omega arith) in
-    record { count = rw (ne_eqb _ _ c.if-size-eq0.false, e, le-ltb c.loop-i.i a.operand.axes.rank (omega arith)); aliased = holds_none }
+    let e : reuse a.cut.machine.numbers a.cut.bytes.now a.cut.axes.rank a.k ≡ c.loop-i.i = sym c.loop-i.invariant.0 ∙ seek_none (near a.cut.machine.numbers a.cut.bytes.now a.k) c.loop-i.i a.cut.axes.rank (omega arith) in
+    record { count = rw (ne_eqb _ _ c.if-size-eq0.false, e, le-ltb c.loop-i.i a.cut.axes.rank (omega arith)); aliased = holds_none }

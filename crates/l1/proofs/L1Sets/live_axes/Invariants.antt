@@ -16,5 +16,5 @@ abbrev pub near : Machine → List ℕ → ℕ → ℕ → Bool
 near mc bytes k j = ltb (byte_at bytes k j) mc.line
 
 abbrev pub invariant-loop-i : goal.invariant-loop-i
-invariant-loop-i l = (seek (near l.machine.numbers l.bytes l.operand.k) l.i (l.operand.axes.rank - l.i) ≡ reuse l.machine.numbers l.bytes l.operand.axes.rank l.operand.k)
-    × (Holds (aliases_at l.machine.numbers l.bytes l.operand.k) l.i l.aliased)
+invariant-loop-i l = (seek (near l.cut.machine.numbers l.cut.bytes.now l.k) l.i (l.cut.axes.rank - l.i) ≡ reuse l.cut.machine.numbers l.cut.bytes.now l.cut.axes.rank l.k)
+    × (Holds (aliases_at l.cut.machine.numbers l.cut.bytes.now l.k) l.i l.aliased)

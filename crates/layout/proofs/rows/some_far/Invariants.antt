@@ -8,4 +8,4 @@ use Rattle.layout.proofs.rows.some_far.Given as goal
 
 -- no operand before k is too far
 abbrev pub invariant-loop-k : goal.invariant-loop-k
-invariant-loop-k l = (l.k ≤ l.operands) × (some_of (far_at l.extents (row_at l.extents l.strides l.pitch)) 0 l.k ≡ false)
+invariant-loop-k l = (l.k ≤ l.rows.operands) × (some_of (far_at l.extents (row_at l.extents l.rows.strides.now l.rows.pitch)) 0 l.k ≡ false)

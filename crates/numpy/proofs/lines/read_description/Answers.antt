@@ -4,5 +4,4 @@ use Rattle.numpy.proofs.Forms.{text_lines}
 use Rattle.numpy.proofs.lines.read_description.Goals as goal
 
 pub returns : goal.returns
-returns c =
-    text_lines _ _ _ _ _ c.if-s-gt-MAX_TEXT.false c.read_head.ensures _ c.in_ok-head.was c.read_lines.ensures
+returns c = text_lines c.if-s-gt-MAX_TEXT.false (c.read_head.ensures.told _ _ _ c.in_ok-size.was) c.read_lines.ensures

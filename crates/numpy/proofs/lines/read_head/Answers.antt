@@ -3,7 +3,7 @@
 use Rattle.numpy.proofs.Forms.{head_end}
 use Rattle.numpy.proofs.lines.read_head.Goals as goal
 
-pub returns-in_err-next : goal.returns-in_err-next
-returns-in_err-next c =
-    rw c.from_residual-in_err-next.ensures
-    (head_end (c.behind.ensures.to _ c.in_ok-from.was) c.read_counts.ensures _ c.in_ok-counts.was (c.behind-2.ensures.bad c.in_err-next.was))
+pub returns-in_err-rest : goal.returns-in_err-rest
+returns-in_err-rest c =
+    rw c.from_residual-in_err-rest.ensures
+    (head_end (c.behind.ensures.to _ c.in_ok-behind.was) c.read_counts.ensures c.in_ok-size.was (c.behind-2.ensures.bad c.in_err-rest.was))

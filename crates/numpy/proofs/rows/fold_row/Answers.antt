@@ -6,7 +6,7 @@ use Rattle.numpy.proofs.Reading.{reading_start, reading_turn, reading_bad, readi
 use Rattle.numpy.proofs.rows.fold_row.Goals as goal
 
 pub loop-init : goal.loop-init
-loop-init g c = let m = g.T.Number in reading_start m.text m.fits _ _ _ _ refl
+loop-init g c = let m = g.T.Number in reading_start m.text m.fits _ _ _ refl
 
 pub returns-in_default : goal.returns-in_default
 returns-in_default g c =

@@ -22,5 +22,5 @@ found-more size w r xs b h e =
 
 pub returns : goal.returns
 returns c vs rest l r =
-    let size = c.args.size in
+    let size = c.args.unit.size in
     chained_keeps _ (λ (xs : List ℤ) (w : Bool). w ≡ list_any (no_multiple size) xs) (λ xs w b v h q. found-more size w v xs b h (search rules)) vs false _ refl (c.fold_row.ensures vs rest l r)

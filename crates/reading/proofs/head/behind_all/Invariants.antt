@@ -3,4 +3,4 @@ use Rattle.reading.proofs.Bytes.{Passing}
 use Rattle.reading.proofs.head.behind_all.Given as goal
 
 abbrev pub invariant-loop-b : goal.invariant-loop-b
-invariant-loop-b l = Passing l.word l.s l.at l.p l.b-index
+invariant-loop-b l = Passing l.word l.s l.rest l.b-index

@@ -3,6 +3,6 @@
 use Rattle.reading.proofs.Heads.{last_open}
 use Rattle.reading.proofs.head.read_last.Goals as goal
 
-pub returns-in_err-next : goal.returns-in_err-next
-returns-in_err-next c =
-    rw c.from_residual-in_err-next.ensures (last_open c.in_ok-k.p (c.field.ensures.value _ _ c.in_ok-k.was) (c.behind.ensures.bad c.in_err-next.was))
+pub returns-in_err-behind : goal.returns-in_err-behind
+returns-in_err-behind c =
+    rw c.from_residual-in_err-behind.ensures (last_open (c.field.ensures.value _ _ c.in_ok-k.was) (c.behind.ensures.bad c.in_err-behind.was))

@@ -4,10 +4,10 @@ use Rattle.reading.proofs.Heads.{told_is, told_open}
 use Rattle.reading.proofs.head.read_told.Goals as goal
 
 pub returns-in_err-purpose : goal.returns-in_err-purpose
-returns-in_err-purpose c =
+returns-in_err-purpose g c letter reads =
     rw c.from_residual-in_err-purpose.ensures
-    (told_open c.in_ok-counts.counts.next (c.read_counts.ensures.told _ c.in_ok-counts.was) (c.read_chosen.ensures.bad c.in_err-purpose.was))
+    (told_open (c.read_counts.ensures.told _ _ _ c.in_ok-rank.was) ((reads _ _ c.read_chosen.ensures).bad c.in_err-purpose.was))
 
 pub returns : goal.returns
-returns c =
-    told_is c.in_ok-counts.counts.next (c.read_counts.ensures.told _ c.in_ok-counts.was) _ _ (c.read_chosen.ensures.by _ _ c.in_ok-purpose.was)
+returns g c letter reads =
+    told_is (c.read_counts.ensures.told _ _ _ c.in_ok-rank.was) _ _ ((reads _ _ c.read_chosen.ensures).by _ _ c.in_ok-purpose.was)

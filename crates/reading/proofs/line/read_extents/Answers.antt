@@ -5,4 +5,4 @@ use Rattle.reading.proofs.line.read_extents.Goals as goal
 
 pub returns : goal.returns
 returns c =
-    extents_reads c.in_ok-from.from (c.behind.ensures.to _ c.in_ok-from.was) c.read_row.ensures
+    extents_reads (c.behind.ensures.to _ c.in_ok-behind.was) c.read_row.ensures

@@ -5,7 +5,7 @@ use Rattle.reading.proofs.line.read_lines.Goals as goal
 
 pub returns-in-Some-read_operands : goal.returns-in-Some-read_operands
 returns-in-Some-read_operands c =
-    lines_told c.read_extents.ensures _ c.in-Some.is c.read_operands.ensures _ c.in-Some-read_operands.is
+    lines_told c.read_extents.ensures _ c.in-Some.is c.read_operands.ensures _ c.in-Some-read_operands.is c.is_empty.ensures
 
 pub returns-in-None : goal.returns-in-None
-returns-in-None c = lines_open c.read_extents.ensures c.in-Some.p c.in-Some.is c.read_operands.ensures c.in-None.is
+returns-in-None c = lines_open c.read_extents.ensures _ c.in-Some.is c.read_operands.ensures c.in-None.is

@@ -13,11 +13,11 @@ read_row_from-requires c =
     let l = size_short (c.read_size.ensures.value _ _ c.in_ok-size.was) in
     omega arith
 
-pub returns-in_err-next : goal.returns-in_err-next
-returns-in_err-next c =
-    rw c.from_residual-in_err-next.ensures
-    (operand_open c.in_ok-size.p (c.read_size.ensures.value _ _ c.in_ok-size.was) (c.read_row_from.ensures.bad c.in_err-next.was))
+pub returns-in_err-rest : goal.returns-in_err-rest
+returns-in_err-rest c =
+    rw c.from_residual-in_err-rest.ensures
+    (operand_open (c.read_size.ensures.value _ _ c.in_ok-size.was) (c.read_row_from.ensures.bad c.in_err-rest.was))
 
 pub returns : goal.returns
 returns c =
-    operand_told c.in_ok-size.p (c.read_size.ensures.value _ _ c.in_ok-size.was) _ (c.read_row_from.ensures.to _ c.in_ok-next.was)
+    operand_told (c.read_size.ensures.value _ _ c.in_ok-size.was) _ (c.read_row_from.ensures.to _ c.in_ok-rest.was)

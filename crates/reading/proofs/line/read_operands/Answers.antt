@@ -11,9 +11,9 @@ returns-in_err-size c =
 
 pub overflow_add-from : goal.overflow_add-from
 overflow_add-from c =
-    let h = lining_short c.loop-k.invariant c.in_ok-size.next (c.read_operand.ensures.value _ _ c.in_ok-size.was) in
+    let h = lining_short c.loop-k.invariant (c.read_operand.ensures.value _ _ c.in_ok-size.was) in
     search rules
 
 pub loop-k-preserved : goal.loop-k-preserved
 loop-k-preserved c =
-    rw c.keep.ensures (lining_turn c.loop-k.invariant _ (c.read_operand.ensures.value _ _ c.in_ok-size.was) c.loop-k-test.true)
+    rw c.keep.ensures (lining_turn c.loop-k.invariant (c.read_operand.ensures.value _ _ c.in_ok-size.was) c.loop-k-test.true)

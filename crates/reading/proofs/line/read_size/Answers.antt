@@ -5,4 +5,4 @@ use Rattle.reading.proofs.Answers.{front_finds}
 use Rattle.reading.proofs.line.read_size.Goals as goal
 
 pub returns : goal.returns
-returns c = front_finds 79 field FitU (c.behind.ensures.to _ c.in_ok-from.was) c.field.ensures
+returns c = front_finds 79 field FitU (c.behind.ensures.to _ c.in_ok-behind.was) c.field.ensures

@@ -4,4 +4,4 @@ use Rattle.reading.proofs.Answers.{front_finds}
 use Rattle.reading.proofs.number.field.Goals as goal
 
 pub returns : goal.returns
-returns g c = let m = g.T.Number in front_finds 44 m.text m.fits (c.behind.ensures.to _ c.in_ok-from.was) c.read.ensures
+returns g c = let m = g.T.Number in front_finds 44 m.text m.fits (c.behind.ensures.to _ c.in_ok-behind.was) c.read.ensures

@@ -1,6 +1,5 @@
 -- `reading::number::minus` meets its contract: a size of 1 to 2^63 is a number below 0, no other is.
 -- Assumes nothing.
-use mathlib.Core.Path.{refl}
 use Prim.Native.Nat.{◌-◌, ◌^◌, ◌<◌}
 use native.Mathlib.Omega.{arith}
 use lib.IntN.{negsuc}
@@ -11,4 +10,4 @@ pub returns : goal.returns
 returns c =
     let n = c.args.n in
     let low : n - 1 < 2 ^ 63 = omega arith in
-    (n - 1, omega arith, low, rw c.negative.ensures (read_back (negsuc (n - 1)) low), refl)
+    (n - 1, omega arith, low, rw c.negative.ensures (read_back (negsuc (n - 1)) low))

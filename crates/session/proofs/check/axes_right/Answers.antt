@@ -1,83 +1,87 @@
 -- `session::check::axes_right` meets its contract. Assumes nothing.
-use mathlib.Core.Path.{◌≡◌, refl, sym, ap, ap₂, ◌∙◌, subst}
-use mathlib.Core.List.{List}
+use mathlib.Core.Path.{◌≡◌, refl, sym, ap, ◌∙◌, subst}
 use Prim.Native.Nat.{ℕ, ◌*◌, ◌<◌}
 use native.Mathlib.Omega.{arith}
-use lib.IntN.{ℤ, pos}
+use lib.IntN.{pos}
 use lib.ListN.{length, take}
 use lib.Seq.{get_or-take, length-take-le}
 use Rattle.strided.specs.Base.{padded}
-use Rattle.strided.specs.Layout.{lead, extents}
-use Rattle.strided.specs.Weights.{weights}
+use Rattle.strided.specs.Layout.{extents}
 use Rattle.strided.specs.Fuse.{plan_axes}
-use Rattle.strided.specs.declared.Purpose.{Purpose}
 use Rattle.laws.specs.Base.Arrays.{length-padded}
 use Rattle.laws.specs.Fuse.Arrays.{pick_rows}
 use Rattle.session.specs.Session.{same_ints}
-use Rattle.session.specs.Afresh.{few_strides}
-use Rattle.session.specs.Made.{purpose_in, StaysIn}
-use Rattle.session.proofs.Holding.{axes_decides}
-use Rattle.session.proofs.Tabling.{kept_fits}
+use Rattle.session.specs.Made.{purpose_in, numbers_of, weights_in, AxesAt}
+use Rattle.session.proofs.Holding.{decides_for, axes_decides, stays_as}
 use Rattle.session.proofs.check.axes_right.Goals as goal
+use Rattle.session.proofs.check.axes_right.Goals.{After-session, After-layout-layout, After-stays_kept_into-found}
 
-pub overflow_mul-layout : goal.overflow_mul-layout
-overflow_mul-layout c =
-    let f = few_strides c.args.numbers.rank c.args.numbers.operands c.requires.axes c.requires.few in
-    omega (arith, f)
+-- the layout's slices, and its purpose
+module _ (c : After-layout-layout) where
+  extents_are : c.layout-layout.result.extents.now ≡ take c.args.session.now.rank c.args.session.now.extents
+  extents_are = let q = c.laid-laid.ensures in c.layout-layout.ensures.extents ∙ (λ i. take (q.numbers i).rank (q.extents i))
 
-pub invariant_of-layout : goal.invariant_of-layout
-invariant_of-layout c =
-    let a = c.args in
-    let l = c.requires in
-    record { fits = kept_fits a.numbers.rank a.numbers.operands l.axes l.few a.strides.now l.strides a.extents.now l.extents }
+  strides_are : c.layout-layout.result.strides.now ≡ take (c.args.session.now.rank * c.args.session.now.operands) c.args.session.now.strides
+  strides_are = let q = c.laid-laid.ensures in c.layout-layout.ensures.strides ∙ (λ i. take ((q.numbers i).rank * (q.numbers i).operands) (q.strides i))
 
-pub stays_by_into-found-requires : goal.stays_by_into-found-requires
-stays_by_into-found-requires c =
-    let a = c.args in
-    let l = c.requires in record { weights_value = l.weights ∙ ap (λ (u : Purpose). padded 64 0 (weights (take a.numbers.rank a.extents.now) a.numbers.operands (take (a.numbers.rank * a.numbers.operands) a.strides.now) (lead u))) (sym c.purpose_of.ensures); es_value = (refl, refl) }
+  operands_are : c.layout-layout.result.operands ≡ c.args.session.now.operands
+  operands_are = c.layout-layout.ensures.operands ∙ ap (λ n. n.operands) c.laid-laid.ensures.numbers
+
+-- the weights are the layout's
+weighed : (c : After-session) → c.session.inside.weights.now ≡ weights_in (numbers_of c.args.session.now) c.args.session.now.extents c.args.session.now.strides
+weighed c = ap (λ s. s.weights) c.session.view_is ∙ c.requires.weights_right
+
+-- the fresh extents have their places still
+places : (c : After-stays_kept_into-found) → length c.stays_kept_into-found.new.es ≡ 64
+places c =
+    let l = c.laid-laid.result in
+    let n = l.numbers in
+    ap length c.stays_kept_into-found.ensures.extents
+    ∙ length-padded 0 64 (extents (plan_axes (take n.rank l.extents.now) n.operands (take (n.rank * n.operands) l.strides.now) (purpose_in n)))
+
+pub stays_kept_into-found-requires : goal.stays_kept_into-found-requires
+stays_kept_into-found-requires c =
+    let q = c.laid-laid.ensures in
+    record {
+      weights_value = weighed (goal.at.stays_kept_into-found-requires c).After-session ∙ sym (λ i. weights_in (q.numbers i) (q.extents i) (q.strides i));
+      es_value = (refl, refl);
+    }
 
 pub slice_bounds-same-end : goal.slice_bounds-same-end
-slice_bounds-same-end c =
-    -- the fresh extents have their places still
-    let places : length c.stays_by_into-found.new.es ≡ 64 = let a = c.args in
-    ap length c.stays_by_into-found.ensures.extents
-    ∙ length-padded 0 64 (extents (plan_axes (take a.numbers.rank a.extents.now) a.numbers.operands (take (a.numbers.rank * a.numbers.operands) a.strides.now) c.purpose_of.result)) in
-    sym places
+slice_bounds-same-end c = sym (places (goal.at.slice_bounds-same-end c).After-stays_kept_into-found)
 
 pub same-loops-requires : goal.same-loops-requires
-same-loops-requires c =
-    let places : length c.stays_by_into-found.new.es ≡ 64 = let a = c.args in
-    ap length c.stays_by_into-found.ensures.extents
-    ∙ length-padded 0 64 (extents (plan_axes (take a.numbers.rank a.extents.now) a.numbers.operands (take (a.numbers.rank * a.numbers.operands) a.strides.now) c.purpose_of.result)) in
-    places ∙ sym c.told-plan_extents
+same-loops-requires c = places (goal.at.same-loops-requires c).After-stays_kept_into-found ∙ sym c.session.invariant.plan_extents
 
 pub strides_right-moves-requires : goal.strides_right-moves-requires
 strides_right-moves-requires c =
-    let l = c.requires in
-    let y = c.stays_by_into-found.ensures in
+    let y = c.stays_kept_into-found.ensures in
     let r = c.rows.ensures in
-    let taken : length (take c.stays_by_into-found.result c.stays_by_into-found.new.axes) ≡ c.stays_by_into-found.result =
-    length-take-le c.stays_by_into-found.result c.stays_by_into-found.new.axes (omega (arith, y.few, y.places)) in
+    let f = c.layout-layout.result.fits in
+    let long = ap length c.layout-layout.ensures.extents in
+    let taken : length (take c.stays_kept_into-found.result c.stays_kept_into-found.new.axes) ≡ c.stays_kept_into-found.result =
+    length-take-le c.stays_kept_into-found.result c.stays_kept_into-found.new.axes (omega (arith, y.few, y.places)) in
     record {
-      few = (omega (arith, r.operands, l.few), omega (arith, taken, y.few));
-      by_index = λ j h. let g : j < c.stays_by_into-found.result = omega (arith, taken) in
-          subst (λ (x : ℕ). x < c.rows.result.pitch) (sym (get_or-take c.stays_by_into-found.result c.stays_by_into-found.new.axes j 0 g)) (omega (arith, r.pitch, y.inside j g));
+      few = (omega (arith, r.operands, f.operands_few), omega (arith, taken, y.few));
+      by_index = λ j h. let g : j < c.stays_kept_into-found.result = omega (arith, taken) in
+          subst (λ (x : ℕ). x < c.rows.result.pitch) (sym (get_or-take c.stays_kept_into-found.result c.stays_kept_into-found.new.axes j 0 g)) (omega (arith, r.pitch, long, y.inside j g));
     }
 
 pub returns : goal.returns
 returns c =
-    let a = c.args in
-    let l = c.requires in
-    let es = take a.numbers.rank a.extents.now in
-    let ss = take (a.numbers.rank * a.numbers.operands) a.strides.now in
-    let m = a.numbers.operands in
+    let s = c.args.session.now in
+    let i = c.session.inside in
+    let q = c.laid-laid.ensures in
+    let at = (goal.at.returns c).After-layout-layout in
+    let es = extents_are at in
+    let ss = strides_are at in
+    let m = operands_are at in
     let r = c.rows.ensures in
-    let p : ℕ = c.rows.result.pitch in
-    let o : ℕ = c.rows.result.operands in
-    let A = take c.stays_by_into-found.result c.stays_by_into-found.new.axes in
-    let f = subst (λ (u : Purpose). StaysIn es m ss u c.stays_by_into-found.result c.stays_by_into-found.new.es c.stays_by_into-found.new.axes) c.purpose_of.ensures c.stays_by_into-found.ensures in
-    axes_decides es m ss (purpose_in a.numbers) f a.numbers.plan_operands a.numbers.operands a.numbers.plan_rank a.weights.now a.plan_extents.now a.plan_strides.now l.weights
+    let A = take c.stays_kept_into-found.result c.stays_kept_into-found.new.axes in
+    decides_for (λ x. (x.plan.operands ≡ x.operands) × AxesAt (numbers_of s) s.extents s.strides x.plan.rank x.weights x.plan.extents x.plan.strides) c.session.view_is
+    (axes_decides (take s.rank s.extents) s.operands (take (s.rank * s.operands) s.strides) (purpose_in (numbers_of s))
+    (stays_as (λ j. take (q.numbers j).rank (q.extents j)) (ap (λ n. n.operands) q.numbers) (λ j. take ((q.numbers j).rank * (q.numbers j).operands) (q.strides j)) (ap purpose_in q.numbers) c.stays_kept_into-found.ensures)
+    i.numbers.plan_operands i.numbers.operands i.numbers.plan_rank i.weights.now i.plan_extents.now i.plan_strides.now (weighed (goal.at.returns c).After-session)
     c.same-loops.ensures
     (c.strides_right-moves.ensures
-    ∙ ap (λ (x : List ℤ). same_ints (padded 512 (pos 0) (pick_rows x p A o)) a.plan_strides.now) r.strides
-    ∙ ap₂ (λ (x y : ℕ). same_ints (padded 512 (pos 0) (pick_rows ss x A y)) a.plan_strides.now) r.pitch r.operands)
+    ∙ (λ j. same_ints (padded 512 (pos 0) (pick_rows ((r.strides ∙ ss) j) ((r.pitch ∙ ap length es) j) A ((r.operands ∙ m) j))) i.plan_strides.now)))

@@ -5,19 +5,28 @@ use lib.ListN.{length, take}
 use Rattle.strided.specs.Layout.{lead}
 use Rattle.strided.specs.Weights.{weights}
 use Rattle.laws.specs.Base.Arrays.{length-padded}
-use Rattle.session.specs.Made.{purpose_in}
-use Rattle.session.proofs.Holding.{decides_as, decides_is, decides_nats}
+use Rattle.session.specs.Made.{TableOf, numbers_of, purpose_in, weights_in}
+use Rattle.session.proofs.Holding.{decides_for, decides_as, decides_is, decides_nats, laid_as}
 use Rattle.session.proofs.check.weights_right.Goals as goal
+
+pub weights_kept-w-requires : goal.weights_kept-w-requires
+weights_kept-w-requires c =
+    let q = c.laid-laid.ensures in
+    laid_as (λ n E Z S. TableOf (take (n.rank * n.operands) S) n.rank n.operands c.args.table.now) (sym q.numbers) (sym q.extents) (sym q.sizes) (sym q.strides) c.requires.table_of
 
 pub same-requires : goal.same-requires
 same-requires c =
+    let l = c.laid-laid.result in
     -- the fresh array has its places
-    let places : length c.weights_kept-w.result ≡ 64 = let a = c.args in
-    ap length c.weights_kept-w.ensures
-    ∙ length-padded 0 64 (weights (take a.numbers.rank a.extents.now) a.numbers.operands (take (a.numbers.rank * a.numbers.operands) a.strides.now) (lead (purpose_in a.numbers))) in
-    places ∙ sym c.told-weights
+    let places : length c.weights_kept-w.result ≡ 64 = ap length c.weights_kept-w.ensures
+    ∙ length-padded 0 64 (weights (take l.numbers.rank l.extents.now) l.numbers.operands (take (l.numbers.rank * l.numbers.operands) l.strides.now) (lead (purpose_in l.numbers))) in
+    places ∙ sym c.session.invariant.weights
 
 pub returns : goal.returns
 returns c =
-    let e = c.weights_kept-w.ensures in
-    decides_as (decides_is c.same.ensures (decides_nats _ _)) (λ q. sym q ∙ e) (λ q. e ∙ sym q)
+    let s = c.args.session.now in
+    let q = c.laid-laid.ensures in
+    let e : c.weights_kept-w.result ≡ weights_in (numbers_of c.args.session.now) c.args.session.now.extents c.args.session.now.strides =
+    c.weights_kept-w.ensures ∙ (λ i. weights_in (q.numbers i) (q.extents i) (q.strides i)) in
+    decides_for (λ x. x.weights ≡ weights_in (numbers_of s) s.extents s.strides) c.session.view_is
+    (decides_as (decides_is c.same.ensures (decides_nats _ _)) (λ w. sym w ∙ e) (λ w. e ∙ sym w))

@@ -1,5 +1,4 @@
 -- `states::starts::some_leave` meets its contract. Assumes nothing.
-use Rattle.states.proofs.Ways.{stands_at}
 use Rattle.laws.specs.Refusals.Operands.{some_of_empty, some_of_step, some_of_found}
 use Rattle.strided.specs.Base.{some_of}
 use Rattle.strided.specs.declared.Plan.{Plan}
@@ -13,7 +12,7 @@ pub loop-k-init : goal.loop-k-init
 loop-k-init c = (omega arith, some_of_empty _)
 
 pub leaves_at-requires : goal.leaves_at-requires
-leaves_at-requires c = stands_at _ _ _ _ c.requires (subst (λ (p : Plan). c.loop-k.k < p.operands) c.plan.view_is c.loop-k-test.true)
+leaves_at-requires c = record { standing = c.requires; there = subst (λ (p : Plan). c.loop-k.k < p.operands) c.plan.view_is c.loop-k-test.true }
 
 pub returns-then-leaves_at : goal.returns-then-leaves_at
 returns-then-leaves_at c =

@@ -15,49 +15,43 @@ use Rattle.states.proofs.starts.span_of.Goals as goal
 pub loop-i-init : goal.loop-i-init
 loop-i-init c = (omega arith, (zero-add _, zero-add _))
 
-pub way_along-way-requires : goal.way_along-way-requires
-way_along-way-requires c =
+pub invariant_of-axis : goal.invariant_of-axis
+invariant_of-axis c =
     let a = c.args in
     let i = c.loop-i.i in
-    let p = c.requires in
-    let t = c.loop-i-test.true in (
-      omega (arith, inside _ _ _ p i t),
-      subst (λ (z : ℤ). (get_or a.extents.now i 0 - 1) * nat_abs z < 2 ^ 63) (sym (elem_read a.strides.now i (search rules))) (way _ _ _ p i t),
-    )
+    record { near = subst (λ (z : ℤ). (get_or a.extents.now i 0 - 1) * nat_abs z < 2 ^ 63) (sym (elem_read a.strides.now i (search rules))) (way _ _ _ c.requires i c.loop-i-test.true) }
+
+pub way-way-requires : goal.way-way-requires
+way-way-requires c = omega (arith, inside _ _ _ c.requires c.loop-i.i c.loop-i-test.true)
 
 pub bounds-counters-i : goal.bounds-counters-i
 bounds-counters-i c =
     counter_there _ _ _ c.requires c.loop-i.i c.loop-i-test.true
 
-pub below_along-term-requires : goal.below_along-term-requires
-below_along-term-requires c =
-    let a = c.args in
-    let i = c.loop-i.i in
-    let p = c.requires in
-    let t = c.loop-i-test.true in
-    (inside _ _ _ p i t, subst (λ (z : ℤ). (get_or a.extents.now i 0 - 1) * nat_abs z < 2 ^ 63) (sym (elem_read a.strides.now i (search rules))) (way _ _ _ p i t))
+pub below_at-term-requires : goal.below_at-term-requires
+below_at-term-requires c = inside _ _ _ c.requires c.loop-i.i c.loop-i-test.true
 
 pub overflow_add-reach : goal.overflow_add-reach
 overflow_add-reach c =
     -- what a turn adds
-    let way-here : let a = c.args in c.way_along-way.result ≡ (get_or a.extents.now c.loop-i.i 0 - 1) * nat_abs (get_or a.strides.now c.loop-i.i (pos 0)) = let a = c.args in
-    c.way_along-way.ensures ∙ ap (λ (z : ℤ). (get_or a.extents.now c.loop-i.i 0 - 1) * nat_abs z) (elem_read a.strides.now c.loop-i.i (search rules)) in
+    let way-here : let a = c.args in c.way-way.result ≡ (get_or a.extents.now c.loop-i.i 0 - 1) * nat_abs (get_or a.strides.now c.loop-i.i (pos 0)) = let a = c.args in
+    c.way-way.ensures ∙ ap (λ (z : ℤ). (get_or a.extents.now c.loop-i.i 0 - 1) * nat_abs z) (elem_read a.strides.now c.loop-i.i (search rules)) in
     let l = c.loop-i in
     record { fits = further_fits _ _ _ c.requires l.reach l.i _ c.loop-i-test.true l.invariant.1.0 way-here }
 
 pub overflow_add-below : goal.overflow_add-below
 overflow_add-below c =
-    let below-here : let a = c.args in c.below_along-term.result ≡ below_term (get_or a.extents.now c.loop-i.i 0) (get_or a.counters.now c.loop-i.i 0) (get_or a.strides.now c.loop-i.i (pos 0)) = let a = c.args in
-    c.below_along-term.ensures ∙ ap (below_term (get_or a.extents.now c.loop-i.i 0) (get_or a.counters.now c.loop-i.i 0)) (elem_read a.strides.now c.loop-i.i (search rules)) in
+    let below-here : let a = c.args in c.below_at-term.result ≡ below_term (get_or a.extents.now c.loop-i.i 0) (get_or a.counters.now c.loop-i.i 0) (get_or a.strides.now c.loop-i.i (pos 0)) = let a = c.args in
+    c.below_at-term.ensures ∙ ap (below_term (get_or a.extents.now c.loop-i.i 0) (get_or a.counters.now c.loop-i.i 0)) (elem_read a.strides.now c.loop-i.i (search rules)) in
     let l = c.loop-i in
     record { fits = left_fits _ _ _ c.requires l.below l.i _ c.loop-i-test.true l.invariant.1.1 below-here }
 
 pub loop-i-preserved : goal.loop-i-preserved
 loop-i-preserved c =
-    let way-here : let a = c.args in c.way_along-way.result ≡ (get_or a.extents.now c.loop-i.i 0 - 1) * nat_abs (get_or a.strides.now c.loop-i.i (pos 0)) = let a = c.args in
-    c.way_along-way.ensures ∙ ap (λ (z : ℤ). (get_or a.extents.now c.loop-i.i 0 - 1) * nat_abs z) (elem_read a.strides.now c.loop-i.i (search rules)) in
-    let below-here : let a = c.args in c.below_along-term.result ≡ below_term (get_or a.extents.now c.loop-i.i 0) (get_or a.counters.now c.loop-i.i 0) (get_or a.strides.now c.loop-i.i (pos 0)) = let a = c.args in
-    c.below_along-term.ensures ∙ ap (below_term (get_or a.extents.now c.loop-i.i 0) (get_or a.counters.now c.loop-i.i 0)) (elem_read a.strides.now c.loop-i.i (search rules)) in
+    let way-here : let a = c.args in c.way-way.result ≡ (get_or a.extents.now c.loop-i.i 0 - 1) * nat_abs (get_or a.strides.now c.loop-i.i (pos 0)) = let a = c.args in
+    c.way-way.ensures ∙ ap (λ (z : ℤ). (get_or a.extents.now c.loop-i.i 0 - 1) * nat_abs z) (elem_read a.strides.now c.loop-i.i (search rules)) in
+    let below-here : let a = c.args in c.below_at-term.result ≡ below_term (get_or a.extents.now c.loop-i.i 0) (get_or a.counters.now c.loop-i.i 0) (get_or a.strides.now c.loop-i.i (pos 0)) = let a = c.args in
+    c.below_at-term.ensures ∙ ap (below_term (get_or a.extents.now c.loop-i.i 0) (get_or a.counters.now c.loop-i.i 0)) (elem_read a.strides.now c.loop-i.i (search rules)) in
     let l = c.loop-i in
     let p = c.requires in
     let t = c.loop-i-test.true in

@@ -4,49 +4,52 @@ use Rattle.std.proofs.lemmas.Result.{err_from_is_err_and}
 use Rattle.std.specs.Prelude.{Ok}
 use Rattle.strided.specs.Step.{stepped}
 use Rattle.strided.specs.declared.Plan.{Plan}
-use Rattle.laws.specs.Refusals.Rows.{served_none, refused_some}
-use Rattle.finding.proofs.Answers.{fitting, cells-few}
+use Rattle.layout.specs.Checked.{Laid}
+use Rattle.layout.proofs.Checks.{checked-laid, checked_some, laid_with}
+use Rattle.finding.proofs.Answers.{cells-few}
 use Rattle.walk.proofs.Stepping.{answers_at, running}
 use Rattle.views.specs.Visits.{visit_refused}
-use Rattle.views.proofs.Answers.{visit_layout, entry_refused, entry_state, entry_ended, entry_block}
+use Rattle.views.proofs.Answers.{visit_laid, entry_refused, entry_state, entry_ended, entry_block}
 use Rattle.views.proofs.memory.visit_into.Goals as goal
+use Rattle.views.proofs.memory.visit_into.Goals.{In_ok-layout}
 
-pub returns-in_err-check_visit : goal.returns-in_err-check_visit
-returns-in_err-check_visit c =
+-- the rows of a visit let the layout through, on the plan as it is lent and so on its value
+laid : (c : In_ok-layout) → let a = c.args in Laid (visit_refused a.extents.now a.sizes.now a.strides.now a.purpose a.plan.now.rank a.plan.now.operands) a.extents.now a.sizes.now a.strides.now c.in_ok-layout.layout
+laid c =
+    let a = c.args in
+    let l = checked-laid a.extents.now a.sizes.now a.strides.now c.check_visit.ensures c.in_ok-layout.was in
+    laid_with l (ap (λ (q : Plan). visit_refused a.extents.now a.sizes.now a.strides.now a.purpose q.rank q.operands) (sym c.plan.view_is) ∙ l.served)
+
+pub returns-in_err-layout : goal.returns-in_err-layout
+returns-in_err-layout c =
     let a = c.args in
     let p = err_from_is_err_and c.from_residual.result c.from_residual.ensures.1 in
     rw (p.1, p.2) (entry_refused a.extents.now a.sizes.now a.strides.now a.purpose a.plan.now _
     (ap (λ (q : Plan). visit_refused a.extents.now a.sizes.now a.strides.now a.purpose q.rank q.operands) (sym c.plan.view_is)
-    ∙ refused_some _ _ (sym c.check_visit.ensures ∙ c.in_err-check_visit.was)))
+    ∙ checked_some a.extents.now a.sizes.now a.strides.now c.check_visit.ensures c.in_err-layout.was))
 
 pub returns-in_err-answer_of : goal.returns-in_err-answer_of
 returns-in_err-answer_of c =
     let a = c.args in
-    let none = ap (λ (q : Plan). visit_refused a.extents.now a.sizes.now a.strides.now a.purpose q.rank q.operands) (sym c.plan.view_is) ∙ served_none _ _ (sym c.check_visit.ensures ∙ c.in_ok-check_visit.was) in
+    let l = laid (goal.at.returns-in_err-answer_of c).In_ok-layout in
     let p = err_from_is_err_and c.from_residual-in_err-answer_of.result c.from_residual-in_err-answer_of.ensures.1 in
-    rw (p.1, p.2) (entry_state a.extents.now a.sizes.now a.strides.now a.purpose a.plan.now _ none (answers_at _ _ c.answer_of.ensures c.in_err-answer_of.was))
-
-pub invariant_of-layout : goal.invariant_of-layout
-invariant_of-layout c =
-    let a = c.args in
-    let none = served_none _ _ (sym c.check_visit.ensures ∙ c.in_ok-check_visit.was) in
-    record { fits = fitting a.extents.now a.sizes.now a.strides.now a.purpose (visit_layout a.extents.now a.sizes.now a.strides.now a.purpose _ _ none) }
+    rw (p.1, p.2) (entry_state a.extents.now a.sizes.now a.strides.now a.purpose a.plan.now _ l (answers_at _ _ c.answer_of.ensures c.in_err-answer_of.was))
 
 pub found_into-requires-clause-total : goal.found_into-requires-clause-total
 found_into-requires-clause-total c =
     let a = c.args in
-    let none = served_none _ _ (sym c.check_visit.ensures ∙ c.in_ok-check_visit.was) in
-    cells-few a.extents.now a.sizes.now a.strides.now a.purpose (visit_layout a.extents.now a.sizes.now a.strides.now a.purpose _ _ none)
+    let l = laid (goal.at.found_into-requires-clause-total c).In_ok-layout in
+    cells-few a.extents.now a.sizes.now a.strides.now a.purpose (visit_laid a.extents.now a.sizes.now a.strides.now a.purpose _ _ l)
 
 pub returns-then-branch : goal.returns-then-branch
 returns-then-branch c =
     let a = c.args in
-    let none = ap (λ (q : Plan). visit_refused a.extents.now a.sizes.now a.strides.now a.purpose q.rank q.operands) (sym c.plan.view_is) ∙ served_none _ _ (sym c.check_visit.ensures ∙ c.in_ok-check_visit.was) in
+    let l = laid (goal.at.returns-then-branch c).In_ok-layout in
     let k = answers_at _ _ c.answer_of.ensures (c.in_ok-answer_of.was ∙ ap Ok c.if-branch.true) in
-    entry_block a.extents.now a.sizes.now a.strides.now a.purpose a.plan.now _ none (ap (stepped a.plan.now) (sym (running _ k.1))) c.found_into.ensures
+    entry_block a.extents.now a.sizes.now a.strides.now a.purpose a.plan.now _ l (ap (stepped a.plan.now) (sym (running _ k.1))) c.found_into.ensures
 
 pub returns : goal.returns
 returns c =
     let a = c.args in
-    let none = ap (λ (q : Plan). visit_refused a.extents.now a.sizes.now a.strides.now a.purpose q.rank q.operands) (sym c.plan.view_is) ∙ served_none _ _ (sym c.check_visit.ensures ∙ c.in_ok-check_visit.was) in
-    entry_ended a.extents.now a.sizes.now a.strides.now a.purpose a.plan.now _ none (answers_at _ _ c.answer_of.ensures (c.in_ok-answer_of.was ∙ ap Ok c.if-branch.false))
+    let l = laid (goal.at.returns c).In_ok-layout in
+    entry_ended a.extents.now a.sizes.now a.strides.now a.purpose a.plan.now _ l (answers_at _ _ c.answer_of.ensures (c.in_ok-answer_of.was ∙ ap Ok c.if-branch.false))

@@ -8,7 +8,7 @@ pub returns : goal.returns
 unfolding numbered
 returns c =
     let under = c.tiles_under-before in
-    let tile = c.tile_at in
+    let tile = c.quotient in
     let a = c.args in
     let t = a.tally in
     ap (λ (n : ℕ). n + tile.result * t.size + t.place) under.ensures

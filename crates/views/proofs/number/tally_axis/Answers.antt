@@ -8,6 +8,6 @@ use Rattle.views.proofs.number.tally_axis.Goals as goal
 pub returns : goal.returns
 unfolding tallied
 returns c =
-    let sized = c.min-len.ensures ∙ ap (len_at c.args.extent c.args.width) c.start_at-start.ensures in
+    let sized = c.min-len.ensures ∙ ap (len_at c.args.extent c.args.width) c.tile_start-start.ensures in
     let a = c.args in
-    λ i. record { before = a.extent * a.tally.before + c.start_at-start.ensures i * a.tally.size; size = sized i * a.tally.size; place = sized i * a.tally.place + (a.at - c.start_at-start.ensures i) }
+    λ i. record { before = a.extent * a.tally.before + c.tile_start-start.ensures i * a.tally.size; size = sized i * a.tally.size; place = sized i * a.tally.place + (a.at - c.tile_start-start.ensures i) }

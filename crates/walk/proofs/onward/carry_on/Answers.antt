@@ -19,8 +19,8 @@ loop-i-init c =
     let r = c.requires.roomy in
     (c.requires.last_le_rank, (_, begun_any r (tiled_any c.args.plan.now r.axes c.args.c.now c.args.o.now)))
 
-pub start_at-requires : goal.start_at-requires
-start_at-requires c =
+pub tile_start-requires : goal.tile_start-requires
+tile_start-requires c =
     let p = c.args.plan.now in
     let i = c.loop-i.i in
     let m = c.loop-i.invariant in
@@ -35,7 +35,7 @@ goal_of-goal-requires c =
     let h : i < p.rank = omega (arith, c.loop-i-test.true, m.0) in (
       subst (λ (n : ℕ). 0 < n) (sym (width_read p m.1.1.roomy.axes i h c.width_on-width.ensures)) (m.1.1.tiled.wide i h),
       subst (λ (q : Plan). get_or c.loop-i.c i 0 < get_or q.extents i 0) (sym c.plan.view_is) (m.1.1.roomy.within i h),
-      c.start_at.ensures,
+      c.tile_start.ensures,
     )
 
 pub shift-requires : goal.shift-requires

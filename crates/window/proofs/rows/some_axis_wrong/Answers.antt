@@ -15,18 +15,18 @@ loop-i-init c = (omega arith, some_of_empty _)
 pub returns-then-axis_wrong : goal.returns-then-axis_wrong
 returns-then-axis_wrong c =
     -- what was answered of axis i
-    let answer : let a = c.args in c.axis_wrong.result ≡ axis_wrong_at a.extents.now a.picks.firsts.now a.picks.counts.now a.picks.steps.now c.loop-i.i = let a = c.args in
+    let answer : let a = c.args in c.axis_wrong.result ≡ axis_wrong_at a.selection.layout.extents.now a.selection.picks.firsts.now a.selection.picks.counts.now a.selection.picks.steps.now c.loop-i.i = let a = c.args in
     let i = c.loop-i.i in
-    let s : ℤ = get_or a.picks.steps.now i (pos 0) in
+    let s : ℤ = get_or a.selection.picks.steps.now i (pos 0) in
     c.axis_wrong.ensures
-    ∙ ap (axis_wrong (get_or a.extents.now i 0) (get_or a.picks.firsts.now i 0) (get_or a.picks.counts.now i 0)) (back s (search rules)) in
+    ∙ ap (axis_wrong (get_or a.selection.layout.extents.now i 0) (get_or a.selection.picks.firsts.now i 0) (get_or a.selection.picks.counts.now i 0)) (back s (search rules)) in
     sym (some_of_found _ c.loop-i.i _ c.loop-i-test.true (sym answer ∙ c.if-axis_wrong.true))
 
 pub loop-i-preserved : goal.loop-i-preserved
 loop-i-preserved c =
-    let answer : let a = c.args in c.axis_wrong.result ≡ axis_wrong_at a.extents.now a.picks.firsts.now a.picks.counts.now a.picks.steps.now c.loop-i.i = let a = c.args in
+    let answer : let a = c.args in c.axis_wrong.result ≡ axis_wrong_at a.selection.layout.extents.now a.selection.picks.firsts.now a.selection.picks.counts.now a.selection.picks.steps.now c.loop-i.i = let a = c.args in
     let i = c.loop-i.i in
-    let s : ℤ = get_or a.picks.steps.now i (pos 0) in
+    let s : ℤ = get_or a.selection.picks.steps.now i (pos 0) in
     c.axis_wrong.ensures
-    ∙ ap (axis_wrong (get_or a.extents.now i 0) (get_or a.picks.firsts.now i 0) (get_or a.picks.counts.now i 0)) (back s (search rules)) in
+    ∙ ap (axis_wrong (get_or a.selection.layout.extents.now i 0) (get_or a.selection.picks.firsts.now i 0) (get_or a.selection.picks.counts.now i 0)) (back s (search rules)) in
     (omega arith, some_of_step _ c.loop-i.i c.loop-i.invariant.1 (sym answer ∙ c.if-axis_wrong.false))

@@ -6,9 +6,9 @@ use Rattle.window.proofs.shifts.shifts_into.Goals as goal
 pub returns-then-has_zero : goal.returns-then-has_zero
 returns-then-has_zero c =
     let a = c.args in
-    shifts_none a.picks.firsts.now a.picks.counts.now a.layout.strides.now a.layout.operands (sym c.has_zero.ensures ∙ c.if-has_zero.true) a.layout.fits.operands_few _ c.requires.shifts_value
+    shifts_none a.selection (sym c.has_zero.ensures ∙ c.if-has_zero.true) _ c.requires.shifts_value
 
 pub returns : goal.returns
 returns c =
     let a = c.args in
-    shifts_some a.picks.firsts.now a.picks.counts.now a.layout.strides.now a.layout.operands (sym c.has_zero.ensures ∙ c.if-has_zero.false) _ c.sums_into.ensures
+    shifts_some a.selection (sym c.has_zero.ensures ∙ c.if-has_zero.false) _ c.sums_into.ensures

@@ -1,12 +1,14 @@
--- The invariants of `strides::strides_into`.
+-- The invariants of `strides::strides_into`: the strides before the place that is written stand in the table, and zeros behind.
 use mathlib.Core.Path.{◌≡◌}
-use Prim.Native.Nat.{◌≤◌, ◌%◌}
+use Prim.Native.Nat.{◌+◌, ◌*◌}
 use lib.IntN.{pos}
 use lib.ListN.{length, take}
 use Rattle.strided.specs.Base.{padded}
-use Rattle.window.specs.Window.{window_strides}
+use Rattle.window.specs.Selected.{new_strides}
 use Rattle.window.proofs.strides.strides_into.Given as goal
 
-abbrev pub invariant-loop-j : goal.invariant-loop-j
-invariant-loop-j l =
-    (l.j ≤ length l.layout.strides.now) × (l.table ≡ padded 512 (pos 0) (take l.j (window_strides l.picks.counts.now l.picks.steps.now l.layout.strides.now (length l.layout.extents.now) l.layout.operands))) × (l.i ≡ l.j % (length l.layout.extents.now))
+abbrev pub invariant-loop-i : goal.invariant-loop-i
+invariant-loop-i l = l.table ≡ padded 512 (pos 0) (take (l.k * length l.selection.layout.extents.now + l.i) (new_strides l.selection))
+
+abbrev pub invariant-loop-k : goal.invariant-loop-k
+invariant-loop-k l = l.table ≡ padded 512 (pos 0) (take (l.k * length l.selection.layout.extents.now) (new_strides l.selection))

@@ -8,7 +8,7 @@ use Rattle.writing.proofs.plan.walk_len.Given as goal
 
 abbrev pub invariant-loop-more : goal.invariant-loop-more
 invariant-loop-more l =
-    Walks l.plan l.y l.w l.blocks l.cells l.more l.at
+    Walks l.plan l.course.way l.course.widths l.blocks l.cells l.more l.at
     × (l.total + length (rest_from l.plan l.blocks) ≡ l.used + length (rest_from l.plan 0))
     × (l.total ≤ l.limit)
 

@@ -6,6 +6,19 @@ use lib.ListN.{length, get_or, take}
 use Rattle.finding.proofs.Kept.{extents-few}
 use Rattle.finding.proofs.Turns.{Done, done_none, done_end, done_fits, done_one, done_left, done_other, axis_there, index_long, fused_counted}
 use Rattle.finding.proofs.radix.LentMap.ravel_index.Goals as goal
+use Rattle.finding.proofs.radix.LentMap.ravel_index.Goals.{In-loop-i, Then-self-i-ne1}
+
+-- the axis of a turn is there
+there : (c : In-loop-i) → get_or c.args.self.order.now (c.loop-i.i - 1) 0 < length c.args.self.extents.now
+there c = axis_there c.args.self.sound (c.loop-i.i - 1) (omega (arith, c.loop-i-test, c.loop-i.invariant.0))
+
+-- the sum of a turn
+sum_fits : (c : In-loop-i) → let a = c.args in let i = get_or a.self.order.now (c.loop-i.i - 1) 0 in c.loop-i.z * get_or a.self.extents.now i 0 + get_or a.index.now i 0 < 2 ^ 64
+sum_fits c = done_fits c.args.self.sound c.args.index.now c.requires.inside c.loop-i.i c.loop-i.j c.loop-i.z c.loop-i.out c.loop-i-test.true c.loop-i.invariant.0 c.loop-i.invariant.2
+
+-- a counter is left to store
+left_one : (c : Then-self-i-ne1) → 0 < c.loop-i.j
+left_one c = done_left c.args.self.sound c.args.index.now c.requires.inside c.loop-i.i c.loop-i.j c.loop-i.z c.loop-i.out c.loop-i-test.true c.loop-i.invariant.0 c.loop-i.invariant.2 c.if-self-i-ne1.true
 
 pub loop-i-init : goal.loop-i-init
 loop-i-init c =
@@ -23,35 +36,27 @@ bounds-self-i-in-loop-i c = omega (arith, c.loop-i.invariant.0, c.args.self.soun
 
 pub offset_bounds-self-a : goal.offset_bounds-self-a
 offset_bounds-self-a c =
-    -- the axis of a turn is there
-    let there : get_or c.args.self.order.now (c.loop-i.i - 1) 0 < length c.args.self.extents.now = axis_there c.args.self.sound (c.loop-i.i - 1) (omega (arith, c.loop-i-test, c.loop-i.invariant.0)) in
-    omega (arith, there, c.args.self.sound.few-axes)
+    omega (arith, there (goal.at.offset_bounds-self-a c).In-loop-i, c.args.self.sound.few-axes)
 
 pub bounds-self-a : goal.bounds-self-a
 bounds-self-a c =
-    let there : get_or c.args.self.order.now (c.loop-i.i - 1) 0 < length c.args.self.extents.now = axis_there c.args.self.sound (c.loop-i.i - 1) (omega (arith, c.loop-i-test, c.loop-i.invariant.0)) in
-    there
+    there (goal.at.bounds-self-a c).In-loop-i
 
 pub offset_bounds-index-a : goal.offset_bounds-index-a
 offset_bounds-index-a c =
-    let there : get_or c.args.self.order.now (c.loop-i.i - 1) 0 < length c.args.self.extents.now = axis_there c.args.self.sound (c.loop-i.i - 1) (omega (arith, c.loop-i-test, c.loop-i.invariant.0)) in
-    omega (arith, there, c.args.self.sound.few-axes)
+    omega (arith, there (goal.at.offset_bounds-index-a c).In-loop-i, c.args.self.sound.few-axes)
 
 pub bounds-index-a : goal.bounds-index-a
 bounds-index-a c =
-    let there : get_or c.args.self.order.now (c.loop-i.i - 1) 0 < length c.args.self.extents.now = axis_there c.args.self.sound (c.loop-i.i - 1) (omega (arith, c.loop-i-test, c.loop-i.invariant.0)) in
-    omega (arith, there, index_long c.args.self.sound c.args.index.now c.requires.inside)
+    omega (arith, there (goal.at.bounds-index-a c).In-loop-i, index_long c.args.self.sound c.args.index.now c.requires.inside)
 
 pub overflow_mul-z : goal.overflow_mul-z
 overflow_mul-z c =
-    -- the sum of a turn
-    let sum_fits_lem : let a = c.args in let i = c.loop-i.i in c.loop-i.z * get_or a.self.extents.now (get_or a.self.order.now (i - 1) 0) 0 + get_or a.index.now (get_or a.self.order.now (i - 1) 0) 0 < 2 ^ 64 = done_fits c.args.self.sound c.args.index.now c.requires.inside c.loop-i.i c.loop-i.j c.loop-i.z c.loop-i.out c.loop-i-test.true c.loop-i.invariant.0 c.loop-i.invariant.2 in
-    record { fits = omega (arith, sum_fits_lem) }
+    record { fits = omega (arith, sum_fits (goal.at.overflow_mul-z c).In-loop-i) }
 
 pub overflow_add-z : goal.overflow_add-z
 overflow_add-z c =
-    let sum_fits_lem : let a = c.args in let i = c.loop-i.i in c.loop-i.z * get_or a.self.extents.now (get_or a.self.order.now (i - 1) 0) 0 + get_or a.index.now (get_or a.self.order.now (i - 1) 0) 0 < 2 ^ 64 = done_fits c.args.self.sound c.args.index.now c.requires.inside c.loop-i.i c.loop-i.j c.loop-i.z c.loop-i.out c.loop-i-test.true c.loop-i.invariant.0 c.loop-i.invariant.2 in
-    record { fits = sum_fits_lem }
+    record { fits = sum_fits (goal.at.overflow_add-z c).In-loop-i }
 
 pub offset_bounds-self-i : goal.offset_bounds-self-i
 offset_bounds-self-i c = omega (arith, c.loop-i.invariant.0, c.args.self.sound.few-axes)
@@ -61,17 +66,14 @@ bounds-self-i c = omega (arith, c.loop-i.invariant.0, c.args.self.sound.few-axes
 
 pub overflow_sub-j : goal.overflow_sub-j
 overflow_sub-j c =
-    -- a counter is left to store
-    let left_one : 0 < c.loop-i.j = done_left c.args.self.sound c.args.index.now c.requires.inside c.loop-i.i c.loop-i.j c.loop-i.z c.loop-i.out c.loop-i-test.true c.loop-i.invariant.0 c.loop-i.invariant.2 c.if-self-i-ne1.true in
-    left_one
+    left_one (goal.at.overflow_sub-j c).Then-self-i-ne1
 
 pub offset_bounds-out-j : goal.offset_bounds-out-j
 offset_bounds-out-j c = omega (arith, c.loop-i.invariant.1)
 
 pub bounds-out-j : goal.bounds-out-j
 bounds-out-j c =
-    let left_one : 0 < c.loop-i.j = done_left c.args.self.sound c.args.index.now c.requires.inside c.loop-i.i c.loop-i.j c.loop-i.z c.loop-i.out c.loop-i-test.true c.loop-i.invariant.0 c.loop-i.invariant.2 c.if-self-i-ne1.true in
-    omega (arith, left_one, c.loop-i.invariant.1)
+    omega (arith, left_one (goal.at.bounds-out-j c).Then-self-i-ne1, c.loop-i.invariant.1)
 
 pub loop-i-preserved-then-self-i-ne1 : goal.loop-i-preserved-then-self-i-ne1
 loop-i-preserved-then-self-i-ne1 c = (

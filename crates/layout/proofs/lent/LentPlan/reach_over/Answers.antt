@@ -16,7 +16,7 @@ reach_over-requires c =
     let i = c.self.inside in
     let w : Whole (plan_of i.rank i.operands i.extents.now i.blocks.now i.strides.now) = c.self.invariant in
     let l : length c.axes.result.now ≡ i.rank = c.axes.ensures.long ∙ ap (λ (p : Plan). p.rank) (sym c.self.view_is) in
-    record { apart = omega (arith, w.axes, l); all = omega (arith, w.few, w.strides_all) }
+    omega (arith, w.axes, l)
 
 pub returns : goal.returns
 returns c =

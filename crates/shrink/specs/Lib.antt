@@ -1,0 +1,2 @@
+-- What a way to shorten blocks follows (`Rules`). Assumes nothing.
+pub mod Rules
