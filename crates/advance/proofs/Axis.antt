@@ -9,7 +9,7 @@ use lib.Arith.{digits_div}
 use lib.ListN.{get_or}
 use lib.Dec.{ltb}
 use borrow.Author.Tests.{ltb-true, lt-ltb, le-ltb, ne_eqb}
-use Rattle.advance.specs.declared.Goal.{Goal}
+use Rattle.advance.specs.declared.place.Goal.{Goal}
 use Rattle.advance.specs.Axis.{start_of, inside_goal, tile_goal, goal_of, ahead, back}
 use Rattle.strided.specs.declared.Plan.{Plan}
 use Rattle.advance.specs.Blocks.{length_by}

@@ -11,11 +11,12 @@ use lib.ListN.{length, get_or, set, length-set}
 use lib.Seq.{get_or-set_same, get_or-set_other, set-get_or}
 use borrow.Author.Tests.{le-ltb}
 use Rattle.strided.specs.declared.Plan.{Plan}
-use Rattle.advance.specs.declared.Goal.{Goal}
+use Rattle.advance.specs.declared.place.Goal.{Goal}
+use Rattle.advance.specs.declared.place.Place.{Place}
 use Rattle.advance.specs.declared.State.{State}
 use Rattle.advance.specs.Axis.{start_of, back, inside_goal, goal_of}
 use Rattle.advance.specs.Moves.{shifted, moved_at, Shifts}
-use Rattle.advance.specs.Carry.{Carried, carry_of, start_at, next_of, state_of, Roomy, Tiled, Single, CarriedTo, WentAhead, AdvancedTo}
+use Rattle.advance.specs.Carry.{Carried, carry_of, start_at, next_of, state_of, Standing, PlaceOn, Roomy, Tiled, Single, CarriedTo, WentAhead, AdvancedTo}
 use Rattle.advance.specs.Filled.{by_lt, filled_above}
 use Rattle.advance.proofs.Axis.{start_one, Lands, goal_lands}
 use Rattle.advance.proofs.Dot.{roomy_shifts, roomy_moved, start_stays}
@@ -46,6 +47,10 @@ tiled_set p w at lc a d i v s o h e =
 
     here : (j : ℕ) → i ≡ j → get_or (set t i s) j 0 ≡ start_of (get_or w j 0) (get_or (set c i v) j 0)
     here j q = subst (λ (k : ℕ). get_or (set t i s) k 0 ≡ start_of (get_or w k 0) (get_or (set c i v) k 0)) q here_at
+
+-- what `place` asks of an axis
+pub stands_on : {p : Plan} {w : List ℕ} {at : State} → Roomy p at → Tiled p w at → (i : ℕ) → i < p.rank → Standing p w i at
+stands_on r d i h = record { wide = d.wide i h; within = r.within i h; start = d.start i h }
 
 module _ (inside : Bool) (first last : ℕ) (p : Plan) (w : List ℕ) (at₀ : State) where
   abbrev goal_at : ℕ → List ℕ → Goal
@@ -88,8 +93,7 @@ module _ (inside : Bool) (first last : ℕ) (p : Plan) (w : List ℕ) (at₀ : S
         lands_at : Lands (get_or p.extents i 0) (get_or w i 0) a
         lands_at = subst (Lands (get_or p.extents i 0) (get_or w i 0)) (sym is-goal) lands
 
-        -- what `shift` asks
-        pub shifts_at : Shifts p i (get_or at.counters i 0) a.to at.offsets
+        shifts_at : Shifts p i (get_or at.counters i 0) a.to at.offsets
         shifts_at = roomy_shifts p at b.roomy i a.to turn lands_at.below
 
         abbrev o' : List ℤ
@@ -121,7 +125,7 @@ module _ (inside : Bool) (first last : ℕ) (p : Plan) (w : List ℕ) (at₀ : S
         roomy' = roomy_moved p at b.roomy i a.to turn lands_at.below (set at.tile_starts i a.start)
 
         module _ (l : List ℤ) (is-shifted : l ≡ o') where
-          pub stops_at : a.more ≡ true → CarriedTo inside first last p w at₀ true (at' l)
+          stops_at : a.more ≡ true → CarriedTo inside first last p w at₀ true (at' l)
           stops_at h =
               let z : record { more = true; counters = set at.counters i a.to } ≡ carry_of inside p.extents w (last - first) first at₀.counters = carry_more true h ∙ b.same in
               subst (λ (m : List ℤ). CarriedTo inside first last p w at₀ true (at' m)) (sym is-shifted)
@@ -134,7 +138,7 @@ module _ (inside : Bool) (first last : ℕ) (p : Plan) (w : List ℕ) (at₀ : S
                 others = others';
               })
 
-          pub goes_on_at : a.more ≡ false → Before (i + 1) (at' l)
+          goes_on_at : a.more ≡ false → Before (i + 1) (at' l)
           goes_on_at h =
               subst (λ (m : List ℤ). Before (i + 1) (at' m)) (sym is-shifted)
               (record {
@@ -146,22 +150,41 @@ module _ (inside : Bool) (first last : ℕ) (p : Plan) (w : List ℕ) (at₀ : S
                     ap (λ (n : ℕ). carry_of inside p.extents w (last - (i + 1)) n (set at.counters i a.to)) (add-one i) ∙ carry_more false h ∙ b.same;
               })
 
+      -- as the code has it: the axis aims from the place where it stands
+      module _ {x : Place} (on : PlaceOn p w i at.counters x) {a : Goal} (is-aim : a ≡ goal_of inside x.extent x.width x.at) where
+        aim : a ≡ goal_at i at.counters
+        aim = is-aim ∙ (λ j. goal_of inside (on.extent j) (on.width j) (on.here j))
+
+        -- what `shift` asks
+        pub shifts_on : Shifts p i x.at a.to at.offsets
+        shifts_on = subst (λ (n : ℕ). Shifts p i n a.to at.offsets) (sym on.here) (shifts_at a aim)
+
+        module _ {l : List ℤ} (is-shifted : l ≡ shifted p i x.at a.to at.offsets) where
+          there : l ≡ shifted p i (get_or at.counters i 0) a.to at.offsets
+          there = is-shifted ∙ ap (λ (n : ℕ). shifted p i n a.to at.offsets) on.here
+
+          pub stops_on : a.more ≡ true → CarriedTo inside first last p w at₀ true (state_of (set at.tile_starts i a.start) (set at.counters i a.to) l)
+          stops_on = stops_at a aim l there
+
+          pub goes_on : a.more ≡ false → Before (i + 1) (state_of (set at.tile_starts i a.start) (set at.counters i a.to) l)
+          goes_on = goes_on_at a aim l there
+
 -- ---- one axis alone
 
 module _ {axis : ℕ} {p : Plan} {w : List ℕ} {at : State} (r : Roomy p at) (d : Tiled p w at) (h : axis < p.rank)
-    {a : Goal} (is-goal : a ≡ inside_goal (get_or p.extents axis 0) (get_or w axis 0) (get_or at.counters axis 0)) where
-  aims : a ≡ goal_of true (get_or p.extents axis 0) (get_or w axis 0) (get_or at.counters axis 0)
+    {x : Place} (on : PlaceOn p w axis at.counters x) {a : Goal} (is-goal : a ≡ inside_goal x.extent x.width x.at) where
+  aims : a ≡ goal_of true x.extent x.width x.at
   unfolding goal_of
   aims = is-goal
 
   -- what `shift` asks
-  pub shifts_ahead : Shifts p axis (get_or at.counters axis 0) a.to at.offsets
-  shifts_ahead = shifts_at true axis (axis + 1) p w at axis at (begins true axis (axis + 1) p w at r d) (omega (arith, h)) (omega arith) a aims
+  pub shifts_ahead : Shifts p axis x.at a.to at.offsets
+  shifts_ahead = shifts_on true axis (axis + 1) p w at axis at (begins true axis (axis + 1) p w at r d) (omega (arith, h)) (omega arith) on aims
 
-  pub went_ahead : {l : List ℤ} → l ≡ shifted p axis (get_or at.counters axis 0) a.to at.offsets → a.more ≡ true
+  pub went_ahead : {l : List ℤ} → l ≡ shifted p axis x.at a.to at.offsets → a.more ≡ true
       → WentAhead axis p w at true (state_of (set at.tile_starts axis a.start) (set at.counters axis a.to) l)
   went_ahead {l} f g = record {
-    ahead = λ q last m n. stops_at true axis last p w at axis at (begins true axis last p w at r d) n m a aims l f g;
+    ahead = λ q last m n. stops_on true axis last p w at axis at (begins true axis last p w at r d) n m on aims f g;
     kept = λ q. absurd (false≢true (sym q));
   }
 

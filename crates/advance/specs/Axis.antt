@@ -1,9 +1,9 @@
 -- One axis of the walk on arrays: the block size in force, the start of a tile, and where the counter goes next.
 -- Assumes nothing.
-use Rattle.std.specs.Prelude.{Bool, true, false, cond, List, ℕ, ◌+◌, ◌-◌, ◌*◌, ◌/◌, ltb, leb, eqb, get_or, replicate}
+use Rattle.std.specs.Prelude.{◌≡◌, Bool, true, false, cond, List, ℕ, ◌+◌, ◌-◌, ◌*◌, ◌/◌, ltb, leb, eqb, get_or, replicate}
 use Rattle.strided.specs.Walk.{effective}
 use Rattle.strided.specs.declared.Plan.{Plan}
-use Rattle.advance.specs.declared.Goal.{Goal}
+use Rattle.advance.specs.declared.place.Goal.{Goal}
 use Rattle.advance.specs.Filled.{filled_to}
 
 -- from rank 9 only axis 0 is cut
@@ -19,6 +19,10 @@ widths_to p n = filled_to (replicate 64 0) (width_at p) n
 
 abbrev pub widths : Plan → List ℕ
 widths p = widths_to p p.rank
+
+-- block sizes are a plan's, as they act
+abbrev pub Acting : List ℕ → Plan → Type 0
+Acting w p = w ≡ widths p
 
 -- where the tile starts that a counter is in
 abbrev pub start_of : ℕ → ℕ → ℕ

@@ -4,7 +4,8 @@ use Rattle.std.specs.Prelude.{◌≡◌, List, Bool, true, false, cond, ℕ, zer
 use Rattle.std.specs.Int.{w64}
 use Rattle.std.proofs.Common.{SFits}
 use Rattle.strided.specs.declared.Plan.{Plan}
-use Rattle.advance.specs.declared.Goal.{Goal}
+use Rattle.advance.specs.declared.place.Goal.{Goal}
+use Rattle.advance.specs.declared.place.Place.{Place}
 use Rattle.advance.specs.declared.State.{State}
 use Rattle.advance.specs.Axis.{start_of, goal_of}
 
@@ -59,6 +60,18 @@ pub record Tiled (p : Plan) (w : List ℕ) (at : State) : Type 0 where
   pub placed : length at.tile_starts ≡ 64
   pub wide : (i : ℕ) → i < p.rank → 0 < get_or w i 0
   pub start : (i : ℕ) → i < p.rank → get_or at.tile_starts i 0 ≡ start_of (get_or w i 0) (get_or at.counters i 0)
+
+-- a state stands on one axis of a plan: its counter is below the extent, and the tile's start is that of the tile that it is in
+pub record Standing (p : Plan) (w : List ℕ) (axis : ℕ) (at : State) : Type 0 where
+  pub wide : 0 < get_or w axis 0
+  pub within : get_or at.counters axis 0 < get_or p.extents axis 0
+  pub start : get_or at.tile_starts axis 0 ≡ start_of (get_or w axis 0) (get_or at.counters axis 0)
+
+-- and where: its tile starts as the counter says
+pub record PlaceOn (p : Plan) (w : List ℕ) (axis : ℕ) (c : List ℕ) (x : Place) : Type 0 where
+  pub extent : x.extent ≡ get_or p.extents axis 0
+  pub width : x.width ≡ get_or w axis 0
+  pub here : x.at ≡ get_or c axis 0
 
 -- the axes from n on have blocks of 1
 pub record Single (n : ℕ) (p : Plan) (w : List ℕ) : Type 0 where

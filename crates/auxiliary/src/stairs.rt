@@ -1,14 +1,13 @@
 // Ranks of strides that grow in size from axis to axis, or fall, and of which none is 0: they count from 1 up, or down to 1. Most arrays lie so.
 // "A branch on every comparison costs more than the sum" (ask 4): each stride is compared with the next one, what that gives is added up, and
 // the sum is looked at once.
-ghost use Rattle.std.specs.Prelude.{◌≡◌, map, ◌-◌, ◌≤◌, ◌<◌, nat_abs, length, IfSome};
+ghost use Rattle.std.specs.Prelude.{◌≡◌, cond, map, ◌-◌, ◌≤◌, ◌<◌, nat_abs, length, replicate};
 ghost use Rattle.strided.specs.Base.{padded, run};
 ghost use Rattle.strided.specs.Ranks.{ranks};
 ghost use Rattle.auxiliary.specs.Stairs.{step_of, steps_to, stair_of};
 
 use super::contributes;
 use layout::Row;
-use strided::MAX_RANK;
 
 // 1 if of two neighbours the second is larger, or, of falling ones, the first, and the smaller is not 0. Else 0.
 fn step(one: i64, next: i64, falling: bool) -> u64
@@ -41,16 +40,15 @@ fn stair(row: Row, axis: usize, falling: bool) -> usize
     if falling { axes - axis } else { axis + 1 }
 }
 
-// The ranks on the stairs.
-fn climb(row: Row, falling: bool) -> [u8; 64]
+// The ranks on the stairs, written into a row of zeros.
+fn climb_into(row: Row, falling: bool, order: &mut [u8; 64])
+    requires { order.old ≡ replicate 64 0 }
     ensures { let axes = length row.entry.strides.now in
-        result ≡ padded 64 0 (map (stair_of falling axes) (run 0 axes)) }
+        order.new ≡ padded 64 0 (map (stair_of falling axes) (run 0 axes)) }
 {
-    let mut order = [0; MAX_RANK];
     for i in 0..row.strides.len() {
         order[i] = stair(row, i, falling) as u8;
     }
-    order
 }
 
 // Whether the middle one of three strides or more is off the way from the first to the last: then they are no stairs.
@@ -63,19 +61,22 @@ fn astray(row: Row, first: i64, last: i64, falling: bool) -> bool {
     step(first, middle, falling) + step(middle, last, falling) < 2
 }
 
-// The ranks of strides that are stairs. They are tried in the way that the first and the last stride go.
-pub fn ranks_on(row: Row) -> Option<[u8; 64]>
-    ensures { IfSome result (λ order. order ≡ padded 64 0 (ranks row.entry.strides.now)) }
+// The ranks of strides that are stairs, written into a row of zeros. They are tried in the way that the first and the last stride go. Where
+// they are none, it answers false, and the row is as it was.
+pub fn stairs_into(row: Row, order: &mut [u8; 64]) -> bool
+    requires { order.old ≡ replicate 64 0 }
+    ensures { order.new ≡ cond result (padded 64 0 (ranks row.entry.strides.now)) (replicate 64 0) }
 {
-    let first = *row.strides.first()?;
-    let last = *row.strides.last()?;
+    let (Some(&first), Some(&last)) = (row.strides.first(), row.strides.last()) else {
+        return false;
+    };
     let falling = contributes(last, first) == 1;
     if astray(row, first, last, falling) {
-        return None;
+        return false;
     }
     if steps(row, falling) + 1 == row.strides.len() as u64 {
-        Some(climb(row, falling))
-    } else {
-        None
+        climb_into(row, falling, order);
+        return true;
     }
+    false
 }

@@ -74,12 +74,7 @@ fn keeps_first(ranks: &[[u8; 64]; 8], some: NonEmptyTail) -> bool
 {
     let m = least_in(ranks, some);
     let first = some.tail.offset;
-    for k in 0..some.tail.operands {
-        if ranks.at(k, first) != m {
-            return false;
-        }
-    }
-    true
+    (0..some.tail.operands).all(|k| ranks.at(k, first) == m)
 }
 
 // The blocks of the tail become 1.
@@ -110,6 +105,7 @@ pub fn compute_blocks_at<'a>(
     let some = NonEmptyTail { tail };
     if keeps_first(ranks, some) {
         let offset = tail.offset + 1;
+        // Kept: every field. Rattle takes no `..tail` in a literal of a struct with ghost fields.
         let rest = Tail {
             machine: tail.machine,
             bytes: tail.bytes,

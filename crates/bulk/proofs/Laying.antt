@@ -1,14 +1,17 @@
 -- A lent slice that is written from a place on, one place after another or some at once.
 -- Assumes nothing.
 use mathlib.Core.Path.{◌≡◌, sym, ap, ap₂, ◌∙◌, subst}
-use mathlib.Core.List.{List, [], ◌++◌, append_assoc}
-use Prim.Native.Nat.{ℕ, zero, suc, ◌+◌, ◌*◌, ◌^◌, ◌≤◌, ◌<◌}
+use mathlib.Core.List.{List, [], ◌++◌}
+use Prim.Native.Nat.{ℕ, zero, suc, ◌+◌, ◌-◌, ◌*◌, ◌^◌, ◌≤◌, ◌<◌}
 use native.Mathlib.Nat.{zero-add, zero-mul, mul-le-mul_right}
-use native.Mathlib.Numerals.{add-one}
 use native.Mathlib.Omega.{arith}
 use lib.IntN.{ℤ, pos, ◌+ℤ◌, ◌*ℤ◌}
-use lib.ListN.{length, get_or, take, drop, set, length-append}
-use lib.Seq.{paste, paste-zero, paste-suc, take-paste, drop-paste, length-paste, length-take-le, take_all, drop-drop, take-append_seam, drop-append-add, get_or-take}
+use Rattle.std.proofs.lemmas.List.{append-nil, drop_all}
+use Rattle.std.proofs.lemmas.List.Edits.{paste_more, paste-paste}
+use Rattle.std.proofs.lemmas.Slice.{put_mid-paste}
+use borrow.Rule.Slice.PartMut.{put_mid}
+use lib.ListN.{length, get_or, take, drop, set, length-append, length-drop}
+use lib.Seq.{paste, paste-zero, length-paste, length-take-le, take_all, drop-drop, take-append_seam, drop-append-add, get_or-take}
 use mir.Facts.{to_z-of_z, to_z_pos}
 use mir.Syntax.{w64}
 use mir.Val.{SFits, to_z, of_z}
@@ -20,21 +23,18 @@ use Rattle.walker.proofs.Rows.{length_moved, moved_at_lem}
 use Rattle.bulk.specs.Blocks.{row_at, rows_for, RowFits, MayPut}
 
 module _ {A : Type 0} where
-  -- one place more
-  pub paste_next : (d d₀ : List A) (at : ℕ) (ys : List A) (k : ℕ) (z : A) {x : A} → d ≡ paste d₀ at ys k → x ≡ get_or ys k z → at + k < length d₀ → k < length ys
-      → set d (at + k) x ≡ paste d₀ at ys (k + 1)
-  paste_next d d₀ at ys k z e q h l = rw (e, q, add-one k) (paste-suc d₀ at ys k z h l)
+  -- one place more of a row
+  pub row_next : (d d₀ ys : List A) (k : ℕ) (z : A) {x : A} → d ≡ paste d₀ 0 ys k → x ≡ get_or ys k z → k < length d₀ → k < length ys
+      → set d k x ≡ paste d₀ 0 ys (k + 1)
+  row_next d d₀ ys k z {x} e q h l =
+      let p : 0 + k ≡ k = omega arith in
+      ap₂ (λ (r : List A) (y : A). set r k y) e q
+      ∙ subst (λ (i : ℕ). set (paste d₀ 0 ys k) i (get_or ys k z) ≡ paste d₀ 0 ys (k + 1)) p (paste_more d₀ 0 ys k z (omega (arith, h)) l)
 
-  -- m places more, behind those of xs
-  paste_behind : (d : List A) (at : ℕ) (xs ys : List A) (k m : ℕ) → length xs ≡ k → at ≤ length d → m ≤ length ys → paste (paste d at xs k) (at + k) ys m ≡ paste d at (xs ++ take m ys) (k + m)
-  paste_behind d at xs ys k m e h l =
-      let all : take k xs ≡ xs = take_all k xs (omega (arith, e)) in
-      let t : take (at + k) (paste d at xs k) ≡ take at d ++ xs = take-paste d at xs k h (omega (arith, e)) ∙ ap (λ (r : List A). take at d ++ r) all in
-      let b : drop (at + k + m) (paste d at xs k) ≡ drop (at + k + m) d = sym (drop-drop m (at + k) (paste d at xs k)) ∙ ap (drop m) (drop-paste d at xs k h (omega (arith, e))) ∙ drop-drop m (at + k) d in
-      let n : length (xs ++ take m ys) ≡ k + m = length-append xs (take m ys) ∙ ap₂ (λ (i j : ℕ). i + j) e (length-take-le m ys l) in
-      let g : at + k + m ≡ at + (k + m) = omega arith in
-      ap₂ (λ (u v : List A). u ++ take m ys ++ v) t b
-      ∙ ap₂ (λ (u : List A) (j : ℕ). u ++ drop j d) (append_assoc (take at d) xs (take m ys) ∙ ap (λ (r : List A). take at d ++ r) (sym (take_all (k + m) (xs ++ take m ys) (omega (arith, n))))) g
+  -- all of it
+  pub paste_whole : (d ys : List A) → length ys ≡ length d → paste d 0 ys (length d) ≡ ys
+  paste_whole d ys e =
+      ap₂ (λ (u v : List A). u ++ v) (take_all (length d) ys (omega (arith, e))) (drop_all (0 + length d) d (omega arith)) ∙ append-nil ys
 
   -- behind what was written from the first place on
   pub laid_paste : (xs old ys : List A) (n k : ℕ) → length xs ≡ n → length ys ≡ k → paste (laid_on xs old) n ys k ≡ laid_on (xs ++ ys) old
@@ -91,22 +91,21 @@ module _ {n operands at : ℕ} {d o₀ os₀ : List ℤ} (f : MayPut n operands 
     pub rows_as_long : j ≤ n → length os ≡ length os₀
     rows_as_long h = let l = rows_long f.rows j in ap length w ∙ length-paste os₀ (at * operands) (rows_for j operands d o₀) (j * operands) (within j h) (omega (arith, l))
 
-    pub rows_next : j < n → {os' : List ℤ} → os' ≡ paste os ((at + j) * operands) (row_at operands d o₀ j) operands → Rows (j + 1) os'
+    rows_next : j < n → {os' : List ℤ} → os' ≡ paste os ((at + j) * operands) (row_at operands d o₀ j) operands → Rows (j + 1) os'
     rows_next h {os'} e =
         let R : List ℤ = rows_for j operands d o₀ in
         let long : length (row_at operands d o₀ j) ≡ operands = row_long f.rows j in
         let b = within 0 (let g : 0 ≤ n = omega arith in g) in
-        let more : rows_for (j + 1) operands d o₀ ≡ R ++ take operands (row_at operands d o₀ j) =
+        let more : rows_for (j + 1) operands d o₀ ≡ R ++ row_at operands d o₀ j =
         ap (λ (l : List ℕ). over l (row_at operands d o₀)) (run-append j 1 0) ∙ over_last (run 0 j) (0 + j) (row_at operands d o₀)
-        ∙ ap (λ (i : ℕ). R ++ row_at operands d o₀ i) (zero-add j) ∙ ap (λ (l : List ℤ). R ++ l) (sym (take_all operands (row_at operands d o₀ j) (omega (arith, long)))) in
+        ∙ ap (λ (i : ℕ). R ++ row_at operands d o₀ i) (zero-add j) in
         let place : (at + j) * operands ≡ at * operands + j * operands = omega arith in
         let count : j * operands + operands ≡ (j + 1) * operands = omega arith in
         e ∙ ap₂ (λ (l : List ℤ) (i : ℕ). paste l i (row_at operands d o₀ j) operands) w place
-        ∙ paste_behind os₀ (at * operands) R (row_at operands d o₀ j) (j * operands) operands (rows_long f.rows j) (omega (arith, b)) (omega (arith, long))
+        ∙ paste-paste os₀ (at * operands) R (row_at operands d o₀ j) (j * operands) operands (sym (rows_long f.rows j)) (sym long) (omega (arith, b))
         ∙ ap₂ (λ (l : List ℤ) (i : ℕ). paste os₀ (at * operands) l i) (sym more) count
 
-    -- what `put_row` asks
-    pub row_fits : j < n → RowFits j operands d o₀
+    row_fits : j < n → RowFits j operands d o₀
     row_fits h = record {
       few = f.rows.few;
       moves = f.rows.moves;
@@ -115,6 +114,29 @@ module _ {n operands at : ℕ} {d o₀ os₀ : List ℤ} (f : MayPut n operands 
       steps = λ k g. f.steps j k h g;
       fits = λ k g. f.rows.fits j h k g;
     }
+
+    -- the row's part of the slice, as the code lends it; m is the number of operands
+    module _ (h : j < n) {m : ℕ} (m-is : m ≡ operands) where
+      abbrev from : ℕ
+      from = (at + j) * m
+
+      part_long : length (take (from + m - from) (drop from os)) ≡ operands
+      part_long =
+          let b = within (j + 1) (let g : j + 1 ≤ n = omega (arith, h) in g) in
+          let l = rows_as_long (let g : j ≤ n = omega (arith, h) in g) in
+          let k : from + m - from ≡ operands = omega (arith, m-is) in
+          let at-is : from ≡ (at + j) * operands = ap (λ (x : ℕ). (at + j) * x) m-is in
+          let g = length-drop from os in
+          ap (λ (x : ℕ). length (take x (drop from os))) k ∙ length-take-le operands (drop from os) (omega (arith, b, l, g, at-is))
+
+      pub row_part : RowFits j (length (take (from + m - from) (drop from os))) d o₀
+      row_part = subst (λ (x : ℕ). RowFits j x d o₀) (sym part_long) (row_fits h)
+
+      pub row_put : {row : List ℤ} → row ≡ row_at (length (take (from + m - from) (drop from os))) d o₀ j → Rows (j + 1) (put_mid from (from + m - from) os row)
+      row_put {row} e =
+          let R : List ℤ = row_at operands d o₀ j in
+          rows_next h (put_mid-paste from (from + m - from) os row R operands (e ∙ ap (λ (x : ℕ). row_at x d o₀ j) part_long) (omega (arith, m-is)) (sym (row_long f.rows j))
+          ∙ ap (λ (x : ℕ). paste os ((at + j) * x) R operands) m-is)
 
 -- ---- a place of a row, as the code works it out: o + j * d
 

@@ -29,7 +29,7 @@ use Rattle.advance.specs.Blocks.{length_of}
 use Rattle.strided.specs.Memory.{walk_of}
 use Rattle.walk.specs.Lent.{Taken}
 use Rattle.walk.proofs.Stepping.{block_here}
-use Rattle.walker.specs.declared.Way.{Way}
+use Rattle.walker.specs.declared.way.Way.{Way}
 use Rattle.walker.specs.declared.Next.{Next}
 use Rattle.walker.specs.Stretch.{block_in, told}
 use Rattle.walker.specs.Way.{Leads, left_of, moves_of, Strides, Passed, Strode}
@@ -42,13 +42,13 @@ laid_long : {A : Type 0} (xs old : List A) → length xs ≤ length old → leng
 laid_long xs old h = let a = length-append xs (drop (length xs) old) in let b = length-drop (length xs) old in omega (arith, a, b, h)
 
 -- n blocks are written: where the walk stands, and the slices. They were ls₀ and os₀
-pub record Turned (p : Plan) (u : Walk) (y : Way) (w ls₀ : List ℕ) (os₀ : List ℤ) (n : ℕ) (at : State) (ls : List ℕ) (os : List ℤ) : Type 0 where
+pub record Turned (p : Plan) (u : Walk) (y : Option Way) (w ls₀ : List ℕ) (os₀ : List ℤ) (n : ℕ) (at : State) (ls : List ℕ) (os : List ℤ) : Type 0 where
   pub walked : Walked p u y w n true at
   pub long : length (offsets_of p.operands (next_blocks n p u)) ≡ n * p.operands
   pub lengths : ls ≡ laid_on (lengths_of (next_blocks n p u)) ls₀
   pub offsets : os ≡ laid_on (offsets_of p.operands (next_blocks n p u)) os₀
 
-pub turned_none : {p : Plan} {y : Way} {w ls : List ℕ} {os : List ℤ} → w ≡ widths p → Leads y p w → {c : List ℕ} {o : List ℤ} → Taken p (walk_of false c o)
+pub turned_none : {p : Plan} {y : Option Way} {w ls : List ℕ} {os : List ℤ} → w ≡ widths p → Leads y p w → {c : List ℕ} {o : List ℤ} → Taken p (walk_of false c o)
     → {t : List ℕ} → t ≡ starts_to w c p.rank → Turned p (walk_of false c o) y w ls os 0 (state_of t c o) ls os
 turned_none {p} is l k e = record { walked = walked_none is l k e; long = omega arith; lengths = refl; offsets = refl }
 
@@ -66,7 +66,7 @@ returned {p} {u} room n {v} k h e l f =
     (λ i. Ok (record { blocks = Some (c i); walk = g i }))
     ∙ sym (several_some (stepped p u) (block_here p u k h) (length (next_blocks room p u)) (walk_after p (length (next_blocks room p u)) u))
 
-module _ {p : Plan} {u : Walk} {y : Way} {w ls₀ : List ℕ} {os₀ : List ℤ} {n : ℕ} {at : State} {ls : List ℕ} {os : List ℤ} (d : Turned p u y w ls₀ os₀ n at ls os)
+module _ {p : Plan} {u : Walk} {y : Option Way} {w ls₀ : List ℕ} {os₀ : List ℤ} {n : ℕ} {at : State} {ls : List ℕ} {os : List ℤ} (d : Turned p u y w ls₀ os₀ n at ls os)
     {room : ℕ} (fits : HasRoom room p.operands ls₀ os₀) where
   module _ (h : n ≤ room) where
     pub turned_long : length os ≡ length os₀
@@ -191,14 +191,14 @@ module _ {p : Plan} {u : Walk} {y : Way} {w ls₀ : List ℕ} {os₀ : List ℤ}
 
 -- ---- past a stretch: at once, or after a hop that was none
 
-module _ {y : Way} {limit : ℕ} {p : Plan} {w : List ℕ} {at : State} {left len count : ℕ} (a : left ≡ left_of y p w at.counters) (b : len ≡ length_of p w at.counters) (n : count ≡ min limit left)
+module _ {y : Option Way} {limit : ℕ} {p : Plan} {w : List ℕ} {at : State} {left len count : ℕ} (a : left ≡ left_of y p w at.counters) (b : len ≡ length_of p w at.counters) (n : count ≡ min limit left)
     {more : Bool} {at' : State} where
   pub strode_past : Passed y limit p w at more at' → Strode y limit p w at (record { count = count; length = len; more = more }) at.offsets at'
   strode_past h = strode_of a b n refl h
 
 module _ {p : Plan} {w : List ℕ} {at at₁ : State} (k : at₁ ≡ at) where
-  pub kept_asks : (y : Way) → Strides p w at → {left : ℕ} → left ≡ left_of y p w at.counters → Strides p w at₁ × (left ≡ left_of y p w at₁.counters)
+  pub kept_asks : (y : Option Way) → Strides p w at → {left : ℕ} → left ≡ left_of y p w at.counters → Strides p w at₁ × (left ≡ left_of y p w at₁.counters)
   kept_asks y m a = (subst (Strides p w) (sym k) m, a ∙ ap (λ (x : State). left_of y p w x.counters) (sym k))
 
-  pub kept_passed : {y : Way} {limit : ℕ} {more : Bool} {at' : State} → Passed y limit p w at₁ more at' → Passed y limit p w at more at'
+  pub kept_passed : {y : Option Way} {limit : ℕ} {more : Bool} {at' : State} → Passed y limit p w at₁ more at' → Passed y limit p w at more at'
   kept_passed {y} {limit} {more} {at'} h = subst (λ (x : State). Passed y limit p w x more at') k h

@@ -35,22 +35,15 @@ fn room_for(plan: &LentPlan, lengths: usize, offsets: usize) -> usize
     lengths.min(blocks)
 }
 
-// The offsets of block j of a stretch, operand by operand, from place `at` on: each is its place of `o` and j times its place of `d`.
-fn put_row<'a>(
-    plan: &LentPlan,
-    at: usize,
-    j: usize,
-    d: &'a [i64; 8],
-    o: &'a [i64; 8],
-    offsets: &mut [i64],
-)
-    requires row_fits { RowFits j plan.now.operands d.now o.now }
-    requires operands_in_bounds { at + plan.now.operands ≤ length offsets.old }
-    ensures { offsets.new ≡ paste offsets.old at (row_at plan.now.operands d.now o.now j) plan.now.operands }
+// The offsets of block j of a stretch, operand by operand: each is its place of `o` and j times its place of `d`.
+// Kept: a range, for the reason at walker's move_by.
+fn put_row<'a>(j: usize, d: &'a [i64; 8], o: &'a [i64; 8], row: &mut [i64])
+    requires { RowFits j (length row.old) d.now o.now }
+    ensures { row.new ≡ row_at (length row.old) d.now o.now j }
 {
     let times = j as i64;
-    for k in 0..plan.operands {
-        offsets[at + k] = o[k] + times * d[k];
+    for k in 0..row.len() {
+        row[k] = o[k] + times * d[k];
     }
 }
 
@@ -76,7 +69,8 @@ fn put_rows<'a>(
         offsets.new ≡ paste offsets.old (at * m) (rows_for blocks m d.now o.now) (blocks * m) }
 {
     for j in 0..blocks {
-        put_row(plan, (at + j) * plan.operands, j, d, o, &mut *offsets);
+        let from = (at + j) * plan.operands;
+        put_row(j, d, o, &mut offsets[from..from + plan.operands]);
     }
 }
 
@@ -122,7 +116,7 @@ pub fn step_many_on(
 ) -> Result<Several, Refusal>
     ensures { many_of result lengths.new offsets.new ≡ stepped_many plan.now walk lengths.old offsets.old }
 {
-    if answer_of(plan, &LentWalk::of(&walk))? {
+    if answer_of(plan, &LentWalk::from(&walk))? {
         let room = room_for(plan, lengths.len(), offsets.len());
         return Ok(put_blocks(
             room,
@@ -145,5 +139,5 @@ pub fn step_many(
 ) -> Result<Several, Refusal>
     ensures { many_of result lengths.new offsets.new ≡ stepped_many plan walk lengths.old offsets.old }
 {
-    step_many_on(&LentPlan::of_plan(&plan)?, walk, lengths, offsets)
+    step_many_on(&LentPlan::try_from(&plan)?, walk, lengths, offsets)
 }

@@ -1,3 +1,5 @@
+pub mod Moving
+pub mod Steps
 pub mod Running
 pub mod Crossing
 pub mod Patching

@@ -3,17 +3,22 @@
 use mathlib.Core.Path.{◌≡◌, refl, sym, ap, ap₂, ◌∙◌, subst}
 use mathlib.Core.List.{List}
 use Prim.Native.Nat.{ℕ, zero, suc, ◌+◌, ◌-◌, ◌*◌, ◌≤◌, ◌<◌}
-use native.Mathlib.Nat.{zero-mul}
+use native.Mathlib.Nat.{zero-mul, mul_comm}
 use native.Mathlib.Numerals.{add-one}
 use native.Mathlib.Omega.{arith}
 use lib.Dec.{T}
 use lib.IntN.{ℤ, pos, negsuc, nat_abs, ◌+ℤ◌, ◌*ℤ◌}
+use lib.ListN.{length, take, drop}
 use lib.Signed.{non_neg}
+use borrow.Rule.Slice.PartMut.{put_mid}
 use Rattle.cells.specs.declared.Side.{Side}
+use Rattle.cells.specs.declared.patch.Patch.{Patch}
 use Rattle.cells.specs.Copy.{moved, copied}
 use Rattle.cells.specs.Patch.{place, run_cells, patch_cells}
+use Rattle.cells.specs.Patched.{cells_of, copy_of, ReachIn, Packed}
 use Rattle.cells.specs.Reaching.{run_spot, PatchIn}
 use Rattle.cells.specs.Meaning.{moved_none, moved-add}
+use Rattle.cells.proofs.Moving.{moved_slice}
 use Rattle.cells.proofs.Running.{none_copied, cell_more, run_more}
 use Rattle.cells.proofs.Patching.{patch_cell, patch_start}
 
@@ -103,3 +108,27 @@ module _ (w len n0 n1 : ℕ) (o : Side) (p : PatchIn w len n0 n1 o) (h0 : 0 < n0
       let q : begin o (n1 - 1) ≡ o.first + (n1 - 1) * (n0 * w) = packed-begin o (n0 * w) (n1 - 1) g in
       let r : (n1 - 1) * (n0 * w) + n0 * w ≡ n1 * (n0 * w) = last_one n1 (n0 * w) h1 in
       omega (arith, c, q, r)
+
+-- ---- a patch without gaps, as the code takes it
+
+module _ (p : Patch) {dst src : List ℕ} (k : Packed p) (r : ReachIn p dst src) where
+  pub run-long : p.n0 * p.width ≤ length dst
+  run-long = omega (arith, run-bytes _ _ p.n0 p.n1 p.to r.to k.cells k.to 0 k.runs)
+
+  module _ (f : (p.to.step1 ≡ pos (p.n0 * p.width)) × (p.from.step1 ≡ pos (p.n0 * p.width))) where
+    turned : p.n0 * p.width * p.n1 ≡ p.n1 * (p.n0 * p.width)
+    turned = mul_comm (p.n0 * p.width) p.n1
+
+    pub whole-to : p.to.first + p.n0 * p.width * p.n1 ≤ length dst
+    whole-to = omega (arith, turned, patch-bytes _ _ p.n0 p.n1 p.to r.to k.cells k.to k.runs f.0)
+
+    pub whole-from : p.from.first + p.n0 * p.width * p.n1 ≤ length src
+    whole-from = omega (arith, turned, patch-bytes _ _ p.n0 p.n1 p.from r.from k.cells k.from k.runs f.1)
+
+    -- one move of bytes copies it
+    pub whole-copied : {new : List ℕ} → new ≡ take (p.from.first + p.n0 * p.width * p.n1 - p.from.first) (drop p.from.first src)
+        → put_mid p.to.first (p.to.first + p.n0 * p.width * p.n1 - p.to.first) dst new ≡ copy_of p (cells_of p) dst src
+    whole-copied {new} e =
+        moved_slice dst p.to.first src p.from.first (p.n0 * p.width * p.n1) whole-to whole-from new e
+        ∙ ap (moved dst p.to.first src p.from.first) turned
+        ∙ sym (packed-patch p.width p.n0 p.to p.from dst src k.to k.from f.0 f.1 p.n1)

@@ -6,10 +6,10 @@ ghost use Rattle.std.specs.Prelude.{◌≡◌};
 ghost use Rattle.cells.specs.Copy.{Apart};
 ghost use Rattle.cells.specs.Patched.{cells_of, copy_of, LieIn};
 
-pub use bytes::move_pieces;
-use packed::{both_down, both_step, copy_down, copy_packed};
+pub use bytes::move_bytes;
+use packed::{both, copy_down, copy_packed};
 pub use patch::Patch;
-use widths::{copy_fours_by_width, copy_runs_by_width};
+use widths::copy_by_width;
 
 mod bytes;
 mod fours;
@@ -28,13 +28,6 @@ pub struct Side {
     pub step1: i64,
 }
 
-// Whether four runs are better copied at once: they are long, and the lines that a run touches share few sets of the cache.
-fn crowded(patch: Patch) -> bool {
-    16 <= patch.n0
-        && (patch.to.step0.unsigned_abs().is_multiple_of(512)
-            || patch.from.step0.unsigned_abs().is_multiple_of(512))
-}
-
 // THE COPY OF A PATCH, from where its cells lie in the source to where they lie in the destination.
 // Kept: that a patch lies in its buffers, as a clause, here and in the modules below. It is about both lent buffers, and a struct with the
 // destination would hold a `&mut`.
@@ -46,17 +39,14 @@ pub fn copy_patch(destination: &mut [u8], source: &[u8], patch: Patch)
     if patch.n0 == 0 || patch.n1 == 0 {
         return;
     }
-    if both_step(patch.width, patch.to.step0, patch.from.step0) {
+    let width = patch.width as i64;
+    if both(width, patch.to.step0, patch.from.step0) {
         copy_packed(destination, source, patch);
         return;
     }
-    if both_down(patch.width, patch.to.step0, patch.from.step0) {
+    if both(-width, patch.to.step0, patch.from.step0) {
         copy_down(destination, source, patch);
         return;
     }
-    if crowded(patch) {
-        copy_fours_by_width(destination, source, patch);
-        return;
-    }
-    copy_runs_by_width(destination, source, patch);
+    copy_by_width(destination, source, patch);
 }

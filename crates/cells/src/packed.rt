@@ -5,17 +5,15 @@ ghost use Rattle.cells.specs.Copy.{Apart};
 ghost use Rattle.cells.specs.Patched.{cells_of, copy_of, LieIn, ReachIn, Packed, PackedDown};
 ghost use Rattle.cells.specs.Reaching.{Reaches, turned};
 
-use super::bytes::move_pieces;
+use super::bytes::move_bytes;
 use super::runs::place_of;
 use super::{Patch, Side};
 
-// Whether two steps are both of so many bytes.
-pub fn both_step(step: usize, a: i64, b: i64) -> bool
-    requires { step < 2 ^ 63 }
-    ensures { result ≡ true → (a ≡ pos step) × (b ≡ pos step) }
+// Whether two steps are both this one.
+pub fn both(step: i64, a: i64, b: i64) -> bool
+    ensures { result ≡ true → (a ≡ step) × (b ≡ step) }
 {
-    let n = step as i64;
-    a == n && b == n
+    a == step && b == step
 }
 
 // Run after run, each at once.
@@ -28,7 +26,7 @@ fn move_runs(destination: &mut [u8], source: &[u8], patch: Patch)
     for j in 0..patch.n1 {
         let d = place_of(patch.to, 0, j);
         let s = place_of(patch.from, 0, j);
-        move_pieces(&mut destination[d..d + bytes], &source[s..s + bytes]);
+        move_bytes(&mut destination[d..d + bytes], &source[s..s + bytes]);
     }
 }
 
@@ -39,23 +37,14 @@ pub fn copy_packed(destination: &mut [u8], source: &[u8], patch: Patch)
     ensures { destination.new ≡ copy_of patch (cells_of patch) destination.old source.now }
 {
     let bytes = (patch.n0 as usize) * patch.width;
-    if both_step(bytes, patch.to.step1, patch.from.step1) {
+    if both(bytes as i64, patch.to.step1, patch.from.step1) {
         let all = bytes * (patch.n1 as usize);
         let d = patch.to.first;
         let s = patch.from.first;
-        move_pieces(&mut destination[d..d + all], &source[s..s + all]);
+        move_bytes(&mut destination[d..d + all], &source[s..s + all]);
         return;
     }
     move_runs(destination, source, patch);
-}
-
-// Whether two steps are both of so many bytes downwards.
-pub fn both_down(step: usize, a: i64, b: i64) -> bool
-    requires { step < 2 ^ 63 }
-    ensures { result ≡ true → (a ≡ neg_ℤ (pos step)) × (b ≡ neg_ℤ (pos step)) }
-{
-    let down = -(step as i64);
-    a == down && b == down
 }
 
 // A side whose runs go down, taken from the last cell of each run on.

@@ -21,6 +21,7 @@ impl Patch {
         requires { width ≡ self.width }
         ensures { result ≡ self }
     {
+        // Kept: each field, since a literal of a struct with ghost facts takes no `..self`.
         Patch {
             n0: self.n0,
             n1: self.n1,

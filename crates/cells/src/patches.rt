@@ -7,7 +7,7 @@ use super::fours::copy_four;
 use super::runs::copy_run;
 
 // Run after run.
-pub fn copy_runs(destination: &mut [u8], source: &[u8], patch: Patch)
+fn copy_runs(destination: &mut [u8], source: &[u8], patch: Patch)
     requires { ReachIn patch destination.old source.now }
     ensures { destination.new ≡ copy_of patch (cells_of patch) destination.old source.now }
 {
@@ -17,18 +17,35 @@ pub fn copy_runs(destination: &mut [u8], source: &[u8], patch: Patch)
 }
 
 // Four runs at once, and those that are left one by one.
-pub fn copy_fours(destination: &mut [u8], source: &[u8], patch: Patch)
+fn copy_fours(destination: &mut [u8], source: &[u8], patch: Patch)
     requires { ApartIn patch destination.old source.now }
     ensures { destination.new ≡ copy_of patch (cells_of patch) destination.old source.now }
 {
-    let mut j: u64 = 0;
-    while j < patch.n1 {
-        if 4 <= patch.n1 - j {
-            copy_four(destination, source, patch, j);
-            j += 4;
-        } else {
-            copy_run(destination, source, patch, j);
-            j += 1;
-        }
+    let fours = patch.n1 / 4;
+    for four in 0..fours {
+        copy_four(destination, source, patch, 4 * four);
     }
+    for j in 4 * fours..patch.n1 {
+        copy_run(destination, source, patch, j);
+    }
+}
+
+// Whether four runs are better copied at once: they are long, and the lines that a run touches share few sets of the cache.
+fn crowded(patch: Patch) -> bool {
+    16 <= patch.n0
+        && (patch.to.step0.unsigned_abs().is_multiple_of(512)
+            || patch.from.step0.unsigned_abs().is_multiple_of(512))
+}
+
+// A patch, in whichever of the two ways. Inlined, so that the width at a call is known in the loops.
+#[inline(always)]
+pub fn copy_cells(destination: &mut [u8], source: &[u8], patch: Patch)
+    requires { ApartIn patch destination.old source.now }
+    ensures { destination.new ≡ copy_of patch (cells_of patch) destination.old source.now }
+{
+    if crowded(patch) {
+        copy_fours(destination, source, patch);
+        return;
+    }
+    copy_runs(destination, source, patch);
 }

@@ -8,7 +8,7 @@ ghost use Rattle.cells.specs.Patch.{place};
 ghost use Rattle.cells.specs.Patched.{copy_of, run_of};
 ghost use Rattle.cells.specs.Reaching.{Reaches, CellIn, RunIn};
 
-use super::bytes::move_bytes;
+use super::bytes::move_piece;
 use super::{Patch, Side};
 
 // k steps on from z.
@@ -40,7 +40,7 @@ pub fn copy_cell(destination: &mut [u8], source: &[u8], patch: Patch, i: u64, j:
     let d = place_of(patch.to, i, j);
     let s = place_of(patch.from, i, j);
     let w = patch.width;
-    move_bytes(&mut destination[d..d + w], &source[s..s + w]);
+    move_piece(&mut destination[d..d + w], &source[s..s + w]);
 }
 
 // The cells of run j.

@@ -1,57 +1,31 @@
 // Each width has loops of its own, with the width a literal in them.
 ghost use Rattle.std.specs.Prelude.{◌≡◌};
-ghost use Rattle.cells.specs.Calls.{TakesBytes, LeavesBytes};
-ghost use Rattle.cells.specs.Patched.{cells_of, copy_of, ReachIn, ApartIn};
+ghost use Rattle.cells.specs.Patched.{cells_of, copy_of, ApartIn};
 
 use super::Patch;
-use super::patches::{copy_fours, copy_runs};
+use super::patches::copy_cells;
 
-// Hands the destination to `f` with the width, which is a literal at each call.
-fn by_width<F: FnOnce(&mut [u8], usize)>(destination: &mut [u8], width: usize, f: F)
-    requires { TakesBytes F.FnOnce f destination.old width }
-    ensures { LeavesBytes F.FnOnce f destination.old width destination.new }
-{
-    match width {
-        1 => f(destination, 1),
-        2 => f(destination, 2),
-        3 => f(destination, 3),
-        4 => f(destination, 4),
-        5 => f(destination, 5),
-        6 => f(destination, 6),
-        7 => f(destination, 7),
-        8 => f(destination, 8),
-        9 => f(destination, 9),
-        10 => f(destination, 10),
-        11 => f(destination, 11),
-        12 => f(destination, 12),
-        13 => f(destination, 13),
-        14 => f(destination, 14),
-        15 => f(destination, 15),
-        16 => f(destination, 16),
-        _ => f(destination, width),
-    }
-}
-
-// Run after run.
-pub fn copy_runs_by_width(destination: &mut [u8], source: &[u8], patch: Patch)
-    requires { ReachIn patch destination.old source.now }
-    ensures { destination.new ≡ copy_of patch (cells_of patch) destination.old source.now }
-{
-    by_width(
-        destination,
-        patch.width,
-        |d, w| copy_runs(d, source, patch.of_width(w)),
-    );
-}
-
-// Four runs at once.
-pub fn copy_fours_by_width(destination: &mut [u8], source: &[u8], patch: Patch)
+// A patch of 1 to 16 bytes a cell.
+pub fn copy_by_width(destination: &mut [u8], source: &[u8], patch: Patch)
     requires { ApartIn patch destination.old source.now }
     ensures { destination.new ≡ copy_of patch (cells_of patch) destination.old source.now }
 {
-    by_width(
-        destination,
-        patch.width,
-        |d, w| copy_fours(d, source, patch.of_width(w)),
-    );
+    match patch.width {
+        1 => copy_cells(destination, source, patch.of_width(1)),
+        2 => copy_cells(destination, source, patch.of_width(2)),
+        3 => copy_cells(destination, source, patch.of_width(3)),
+        4 => copy_cells(destination, source, patch.of_width(4)),
+        5 => copy_cells(destination, source, patch.of_width(5)),
+        6 => copy_cells(destination, source, patch.of_width(6)),
+        7 => copy_cells(destination, source, patch.of_width(7)),
+        8 => copy_cells(destination, source, patch.of_width(8)),
+        9 => copy_cells(destination, source, patch.of_width(9)),
+        10 => copy_cells(destination, source, patch.of_width(10)),
+        11 => copy_cells(destination, source, patch.of_width(11)),
+        12 => copy_cells(destination, source, patch.of_width(12)),
+        13 => copy_cells(destination, source, patch.of_width(13)),
+        14 => copy_cells(destination, source, patch.of_width(14)),
+        15 => copy_cells(destination, source, patch.of_width(15)),
+        _ => copy_cells(destination, source, patch.of_width(16)),
+    }
 }

@@ -16,17 +16,13 @@ use Rattle.strided.specs.Decline.{first_cut, passes}
 use Rattle.strided.specs.declared.Machine.{Machine}
 use Rattle.laws.specs.Base.Ranges.{below_or}
 use Rattle.laws.specs.Cut.Ranges.{seek_le, seek_cong}
-use Rattle.laws.specs.Cut.Elements.{slab, passes_elements}
+use Rattle.laws.specs.Cut.Elements.{passes_elements}
 use Rattle.laws.specs.Cut.Tables.{stride_size, byte_at_lem}
-use Rattle.decline.specs.Slabs.{share_none}
+use Rattle.decline.specs.Slabs.{clear_at}
 use Rattle.region.specs.declared.tail.Axes.{Axes}
 
 module _ (mc : Machine) (a : Axes) (cut k : ℕ) where
-  -- operand k's slabs share no line
-  abbrev pub unshared : Bool
-  unshared = share_none mc a k cut (slab (stride_size a.strides.now k) a.extents.now cut)
-
-  pub passes_is : cut ≤ a.rank → passes mc (byte_table a.sizes.now a.strides.now) a.sizes.now a.extents.now cut a.rank k ≡ unshared
+  pub passes_is : cut ≤ a.rank → passes mc (byte_table a.sizes.now a.strides.now) a.sizes.now a.extents.now cut a.rank k ≡ clear_at mc a cut k
   unfolding passes
   passes_is h = ⊎_elim
       (λ (some : 0 < get_or a.sizes.now k 0).

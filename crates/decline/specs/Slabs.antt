@@ -4,7 +4,7 @@ use Rattle.std.specs.Prelude.{Bool, ◌&&◌, ◌||◌, ℕ, ◌+◌, ◌-◌, e
 use Rattle.strided.specs.Base.{sum, every}
 use Rattle.strided.specs.declared.Machine.{Machine}
 use Rattle.laws.specs.Cut.Rising.{adds}
-use Rattle.laws.specs.Cut.Elements.{whole_lines, separates}
+use Rattle.laws.specs.Cut.Elements.{whole_lines, slab, separates}
 use Rattle.laws.specs.Cut.Tables.{stride_size}
 use Rattle.region.specs.declared.tail.Axes.{Axes}
 
@@ -22,3 +22,7 @@ apart_to j mc a k cut w = every (apart_at mc a k cut w) cut (j - cut)
 abbrev pub share_none : Machine → Axes → ℕ → ℕ → ℕ → Bool
 share_none mc a k cut w =
     eqb (get_or a.sizes.now k 0) 0 || (whole_lines mc (get_or a.sizes.now k 0) w && apart_to a.rank mc a k cut w)
+
+-- those at a cut, whose width is what the axes before it span
+abbrev pub clear_at : Machine → Axes → ℕ → ℕ → Bool
+clear_at mc a cut k = share_none mc a k cut (slab (stride_size a.strides.now k) a.extents.now cut)

@@ -3,14 +3,14 @@
 // and for whole lines look at it, and everything stays within 1 + reach, which row 6 bounds.
 #![tactic(auto)]
 
-ghost use Rattle.std.specs.Prelude.{◌≡◌, ◌^◌, ◌<◌, ◌≤◌, length, get_or};
+ghost use Rattle.std.specs.Prelude.{◌≡◌, ◌^◌, ◌<◌, ◌≤◌, length};
 ghost use Rattle.strided.specs.Region.{byte_table};
 ghost use Rattle.strided.specs.Decline.{declined};
 ghost use Rattle.laws.specs.Cut.Rising.{before, way_of};
 ghost use Rattle.laws.specs.Cut.Elements.{whole_lines, slab};
 ghost use Rattle.laws.specs.Cut.Tables.{stride_size};
 ghost use Rattle.decline.specs.Reach.{WithinReach};
-ghost use Rattle.decline.specs.Slabs.{span_to, apart_at, apart_to, share_none};
+ghost use Rattle.decline.specs.Slabs.{span_to, apart_at, apart_to, share_none, clear_at};
 
 use layout::first_below;
 use region::{AllowedMachine, Axes, Operand};
@@ -28,22 +28,12 @@ fn whole_lines(machine: AllowedMachine, n: u64, size: u64) -> bool
     ((n & low) * (size & low)) & low == 0
 }
 
-// The size of an operand's stride on axis i.
-// Kept: `i < 64` here, below and in l1. That an axis is one of the arrays' is a fact about a number alone, and a type of such numbers would be
-// taken off again at each place where the number is used.
-fn stride_size(operand: Operand, i: usize) -> u64
-    requires { i < 64 }
-    ensures { let o = operand.entry in result ≡ stride_size o.axes.strides.now o.k i }
-{
-    operand.axes.strides[operand.k * 64 + i].unsigned_abs()
-}
-
-// What it spans along axis i.
+// What an operand spans along axis i.
 fn way_at(operand: Operand, i: usize) -> u64
     requires { (i < 64) × (way_of (stride_size operand.axes.strides.now operand.k) operand.axes.extents.now i ≤ 2 ^ 63) }
     ensures { let o = operand.entry in result ≡ way_of (stride_size o.axes.strides.now o.k) o.axes.extents.now i }
 {
-    operand.axes.extents[i].saturating_sub(1) * stride_size(operand, i)
+    operand.axes.extents[i].saturating_sub(1) * operand.stride_size(i)
 }
 
 // The elements that a slab of it spans: the axes before the cut.
@@ -63,8 +53,8 @@ fn comes_before(operand: Operand, i: usize, j: usize) -> bool
     requires { (i < 64) × (j < 64) }
     ensures { let o = operand.entry in result ≡ before (stride_size o.axes.strides.now o.k) i j }
 {
-    let a = stride_size(operand, j);
-    let b = stride_size(operand, i);
+    let a = operand.stride_size(j);
+    let b = operand.stride_size(i);
     if a == b { j < i } else { a < b }
 }
 
@@ -82,40 +72,46 @@ fn span_so_far(slabs: Slabs, i: usize) -> u64
     s
 }
 
-// The size of its elements.
-fn size_of(operand: Operand) -> u64
-    ensures { let o = operand.entry in result ≡ get_or o.axes.sizes.now o.k 0 }
-{
-    operand.axes.sizes[operand.k]
-}
-
 // Whether axis i steps by whole lines and by no less than the span so far.
 fn keeps_apart(slabs: Slabs, i: usize) -> bool
     requires { i < 64 }
     ensures { let s = slabs.entry in let o = s.operand in result ≡ apart_at s.machine.numbers o.axes o.k s.cut s.width i }
 {
-    let s = stride_size(slabs.operand, i);
-    whole_lines(slabs.machine, s, size_of(slabs.operand)) && span_so_far(slabs, i) <= s
+    let s = slabs.operand.stride_size(i);
+    whole_lines(slabs.machine, s, slabs.operand.size()) && span_so_far(slabs, i) <= s
 }
 
 // Whether every axis from the cut on keeps the slabs apart.
 fn tail_separated(slabs: Slabs) -> bool
     ensures { let s = slabs.entry in let o = s.operand in result ≡ apart_to o.axes.rank s.machine.numbers o.axes o.k s.cut s.width }
 {
-    for i in slabs.cut..slabs.operand.axes.rank {
-        if !keeps_apart(slabs, i) {
-            return false;
-        }
-    }
-    true
+    (slabs.cut..slabs.operand.axes.rank).all(|i| keeps_apart(slabs, i))
 }
 
 // Whether no two slabs share a line.
 fn slabs_share_no_line(slabs: Slabs) -> bool
     ensures { let s = slabs.entry in let o = s.operand in result ≡ share_none s.machine.numbers o.axes o.k s.cut s.width }
 {
-    let size = size_of(slabs.operand);
+    let size = slabs.operand.size();
     size == 0 || whole_lines(slabs.machine, slabs.width, size) && tail_separated(slabs)
+}
+
+// Whether operand k's slabs at the cut share no line.
+fn clear_at(machine: AllowedMachine, axes: Axes, cut: usize, k: usize) -> bool
+    requires reach { WithinReach axes }
+    requires inside { cut ≤ axes.rank }
+    requires there { k < length axes.sizes.now }
+    ensures { let a = axes.entry in result ≡ clear_at machine.numbers a cut k }
+{
+    let operand = Operand { axes, k };
+    let width = slab_width(operand, cut);
+    let slabs = Slabs {
+        machine,
+        operand,
+        cut,
+        width,
+    };
+    slabs_share_no_line(slabs)
 }
 
 // Whether every operand's slabs at the first cut, which is not axis 0, share no line.
@@ -131,18 +127,5 @@ pub fn declines_tiles(machine: AllowedMachine, axes: Axes, blocks: &[u64; 64]) -
     if cut == 0 {
         return false;
     }
-    for k in 0..axes.sizes.len() {
-        let operand = Operand { axes, k };
-        let width = slab_width(operand, cut);
-        let slabs = Slabs {
-            machine,
-            operand,
-            cut,
-            width,
-        };
-        if !slabs_share_no_line(slabs) {
-            return false;
-        }
-    }
-    true
+    (0..axes.sizes.len()).all(|k| clear_at(machine, axes, cut, k))
 }

@@ -39,6 +39,8 @@ fn extend(list: &mut [u64; 64], n: usize, extent: usize, size: u64) -> bool
 }
 
 // Whether two indices share an offset, the total being at most 64. The list is extended over the axes, the last first.
+// Kept: extent and stride by the axis's number, here and in `many_repeat`: what holds in the loop is about the axes from i on, and a `zip` of the
+// two slices would be numbered only to be turned round: no plainer.
 pub fn few_repeat(operand: Operand) -> bool
     requires { total operand.extents.now ≤ 64 }
     ensures { (result ≡ true) ↔ Shared operand.entry.extents.now operand.entry.strides.now }

@@ -35,7 +35,7 @@ times_fits w len t f h =
 
 -- ---- one operand
 
-module _ (w len n0 n1 : ℕ) (z t u : ℤ) (some : 1 ≤ w) (most : w ≤ 16) (fits : len < 2 ^ 63) (one : 0 < n0) (row : 0 < n1)
+module _ (w len n0 n1 : ℕ) (z t u : ℤ) (some : 1 ≤ w) (fits : len < 2 ^ 63) (one : 0 < n0) (row : 0 < n1)
     (cells : (i j : ℕ) → i < n0 → j < n1 → in_cells (len / w) ((z +ℤ pos j *ℤ u) +ℤ pos i *ℤ t) ≡ true) where
   first_cell : in_cells (len / w) z ≡ true
   first_cell = ap (in_cells (len / w)) (sym (none_time (z +ℤ pos 0 *ℤ u) t ∙ none_time z u)) ∙ cells 0 0 one row
@@ -43,7 +43,6 @@ module _ (w len n0 n1 : ℕ) (z t u : ℤ) (some : 1 ≤ w) (most : w ≤ 16) (f
   pub in_bytes : Bytes w n0 n1 z t u
   in_bytes =
       record {
-        most = most;
         sign = cell_sign (len / w) z first_cell;
         first = let h = cell_in_lem w len z (omega (arith, some)) first_cell in omega (arith, h, some, fits);
         along = λ h.
@@ -98,26 +97,26 @@ module _ {w n0 n1 : ℕ} {z t u z' t' u' : ℤ} (p : z' ≡ z) (q : t' ≡ t) (r
 
 -- ---- a stretch, both operands
 
-module _ {w to from : ℕ} {x : Next} {ss d first : List ℤ} (h : Stretching w to from x ss d first) (f : to < 2 ^ 63) (g : from < 2 ^ 63) where
+module _ {w to from : ℕ} {x : Next} {ss d first : List ℤ} (h : Stretching w to from x ss d first) (s : 1 ≤ w) (f : to < 2 ^ 63) (g : from < 2 ^ 63) where
   pub into_bytes : Bytes w x.length x.count (get_or first 0 (pos 0)) (get_or ss 0 (pos 0)) (get_or d 0 (pos 0))
-  into_bytes = in_bytes w to x.length x.count (get_or first 0 (pos 0)) (get_or ss 0 (pos 0)) (get_or d 0 (pos 0)) h.some h.most f h.one h.row h.into
+  into_bytes = in_bytes w to x.length x.count (get_or first 0 (pos 0)) (get_or ss 0 (pos 0)) (get_or d 0 (pos 0)) s f h.one h.row h.into
 
   pub from_bytes : Bytes w x.length x.count (get_or first 1 (pos 0)) (get_or ss 64 (pos 0)) (get_or d 1 (pos 0))
-  from_bytes = in_bytes w from x.length x.count (get_or first 1 (pos 0)) (get_or ss 64 (pos 0)) (get_or d 1 (pos 0)) h.some h.most g h.one h.row h.out
+  from_bytes = in_bytes w from x.length x.count (get_or first 1 (pos 0)) (get_or ss 64 (pos 0)) (get_or d 1 (pos 0)) s g h.one h.row h.out
 
   module _ {a b : Side} (p : InBytes w x.length x.count (get_or first 0 (pos 0)) (get_or ss 0 (pos 0)) (get_or d 0 (pos 0)) a)
       (q : InBytes w x.length x.count (get_or first 1 (pos 0)) (get_or ss 64 (pos 0)) (get_or d 1 (pos 0)) b) where
     pub into_lies : Lies w to x.length x.count a
-    into_lies = lies w to x.length x.count (get_or first 0 (pos 0)) (get_or ss 0 (pos 0)) (get_or d 0 (pos 0)) h.some h.most f h.one h.row h.into a p
+    into_lies = lies w to x.length x.count (get_or first 0 (pos 0)) (get_or ss 0 (pos 0)) (get_or d 0 (pos 0)) s f h.one h.row h.into a p
 
     pub from_lies : Lies w from x.length x.count b
-    from_lies = lies w from x.length x.count (get_or first 1 (pos 0)) (get_or ss 64 (pos 0)) (get_or d 1 (pos 0)) h.some h.most g h.one h.row h.out b q
+    from_lies = lies w from x.length x.count (get_or first 1 (pos 0)) (get_or ss 64 (pos 0)) (get_or d 1 (pos 0)) s g h.one h.row h.out b q
 
     pub same-cells : patch_cells x.length x.count a b ≡ stretch_cells w x.length x.count ss d first
     same-cells =
         patch_is w x.length x.count ss d first a b
-        (place_is w to x.length x.count (get_or first 0 (pos 0)) (get_or ss 0 (pos 0)) (get_or d 0 (pos 0)) h.some h.most f h.one h.row h.into a p)
-        (place_is w from x.length x.count (get_or first 1 (pos 0)) (get_or ss 64 (pos 0)) (get_or d 1 (pos 0)) h.some h.most g h.one h.row h.out b q)
+        (place_is w to x.length x.count (get_or first 0 (pos 0)) (get_or ss 0 (pos 0)) (get_or d 0 (pos 0)) s f h.one h.row h.into a p)
+        (place_is w from x.length x.count (get_or first 1 (pos 0)) (get_or ss 64 (pos 0)) (get_or d 1 (pos 0)) s g h.one h.row h.out b q)
 
     pub cells-apart : Apart w (patch_cells x.length x.count a b)
     cells-apart = subst (Apart w) (sym same-cells) h.apart

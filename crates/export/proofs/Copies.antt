@@ -23,10 +23,10 @@ use Rattle.laws.specs.Walk.Steps.{Ready, ready_sized, wide}
 use Rattle.advance.specs.Axis.{widths, starts_to}
 use Rattle.advance.specs.Carry.{state_of}
 use Rattle.advance.specs.declared.State.{State}
-use Rattle.advance.proofs.Reached.{widths_pos}
+use Rattle.std.specs.Prelude.{Option}
 use Rattle.walk.specs.Lent.{Taken}
 use Rattle.walk.proofs.Stepping.{begun_taken, running}
-use Rattle.walker.specs.declared.Way.{Way}
+use Rattle.walker.specs.declared.way.Way.{Way}
 use Rattle.walker.specs.declared.Next.{Next}
 use Rattle.walker.specs.Stretch.{Stretch, moved_on, block_in, laid, told}
 use Rattle.walker.specs.Way.{Leads, moves_of, Strode}
@@ -77,15 +77,16 @@ module _ {p : Plan} {zs : List ℤ} {w to from : ℕ} (h : Copyable p zs w to fr
   pub copy_ready : Ready p zs
   copy_ready = ready_sized p zs h.sized.extents-all h.begins
 
--- ---- the walk before block n: `now` is the destination, from which what is left makes what all of it makes from `old`
+-- ---- the walk before some block n: `now` is the destination, from which what is left makes what all of it makes from `old`
 
-pub record Copies (p : Plan) (zs : List ℤ) (wd : ℕ) (y : Way) (w : List ℕ) (old src : List ℕ) (n : ℕ) (more : Bool) (at : State) (now : List ℕ) : Type 0 where
+pub record Copies (p : Plan) (zs : List ℤ) (wd : ℕ) (y : Option Way) (w : List ℕ) (old src : List ℕ) (more : Bool) (at : State) (now : List ℕ) : Type 0 where
+  pub n : ℕ
   pub walking : Walking p zs y w n more at
   pub long : length now ≡ length old
   pub left : copied wd (over (drop n (placed_walk p zs)) (block_cells wd p.strides)) now src ≡ copied wd (walk_cells wd p zs) old src
 
-pub copies_while : {p : Plan} {zs : List ℤ} {wd : ℕ} {y : Way} {w old src : List ℕ} {n : ℕ} {more b : Bool} {at : State} {now : List ℕ}
-    → Copies p zs wd y w old src n more at now → more ≡ b → Copies p zs wd y w old src n b at now
+pub copies_while : {p : Plan} {zs : List ℤ} {wd : ℕ} {y : Option Way} {w old src : List ℕ} {more b : Bool} {at : State} {now : List ℕ}
+    → Copies p zs wd y w old src more at now → more ≡ b → Copies p zs wd y w old src b at now
 copies_while k e = rw e at k
 
 -- at its beginning
@@ -104,22 +105,23 @@ module _ {p : Plan} {zs : List ℤ} {wd to from : ℕ} (h : Copyable p zs wd to 
     pub first_taken : Taken p (walk_of false u.counters u.offsets)
     first_taken = subst (Taken p) (sym running_is) (begun_taken p zs (copy_ready h) h.sized)
 
-    pub widths_some : {w : List ℕ} → w ≡ widths p → (i : ℕ) → i < p.rank → 0 < get_or w i 0
-    widths_some is i l = rw is (widths_pos p zs (copy_ready h) h.sized i l)
-
-    pub copies_start : {w : List ℕ} → w ≡ widths p → {y : Way} → Leads y p w
-        → {t : List ℕ} → t ≡ starts_to w u.counters p.rank → (dst src : List ℕ) → Copies p zs wd y w dst src 0 true (state_of t u.counters u.offsets) dst
+    pub copies_start : {w : List ℕ} → w ≡ widths p → {y : Option Way} → Leads y p w
+        → {t : List ℕ} → t ≡ starts_to w u.counters p.rank → (dst src : List ℕ) → Copies p zs wd y w dst src true (state_of t u.counters u.offsets) dst
     unfolding walk_cells
     copies_start ws l f dst src =
         record {
+          n = 0;
           walking = record { ready = copy_ready h; first = walk_of false u.counters u.offsets; begins = running_is; walked = walked_none ws l first_taken f };
           long = refl;
           left = refl;
         }
 
 -- while it runs
-module _ {p : Plan} {zs : List ℤ} {wd : ℕ} {y : Way} {w old src : List ℕ} (h : Copyable p zs wd (length old) (length src)) {n : ℕ} {at : State} {now : List ℕ}
-    (k : Copies p zs wd y w old src n true at now) where
+module _ {p : Plan} {zs : List ℤ} {wd : ℕ} {y : Option Way} {w old src : List ℕ} (h : Copyable p zs wd (length old) (length src)) {at : State} {now : List ℕ}
+    (k : Copies p zs wd y w old src true at now) where
+  abbrev n : ℕ
+  n = k.n
+
   -- a stretch of it
   module _ {limit : ℕ} (some : 1 ≤ limit) (most : limit < 2 ^ 63) {r : Next} {first : List ℤ} {at' : State}
       (x : Strode y limit p w at r first at') {d : List ℤ} (d-is : d ≡ moves_of y p) where
@@ -169,8 +171,6 @@ module _ {p : Plan} {zs : List ℤ} {wd : ℕ} {y : Way} {w old src : List ℕ} 
           strides = h.sized.strides_all;
           moves = many;
           offered = all;
-          some = h.some;
-          most = h.most;
           one = omega (arith, e, z);
           row = omega (arith, stretch_some);
           cells = omega (arith, e, s);
@@ -202,9 +202,10 @@ module _ {p : Plan} {zs : List ℤ} {wd : ℕ} {y : Way} {w old src : List ℕ} 
 
     -- it is copied, and the walk is behind it
     pub copies_next : {new : List ℕ} → new ≡ copied wd (stretch_cells wd r.length r.count p.strides d first) now src
-        → Copies p zs wd y w old src (n + r.count) r.more at' new
+        → Copies p zs wd y w old src r.more at' new
     copies_next {new} e =
         record {
+          n = n + r.count;
           walking = walking_next k.walking x;
           long = ap length e ∙ copied-length wd (stretch_cells wd r.length r.count p.strides d first) now src ∙ k.long;
           left =
@@ -218,8 +219,8 @@ module _ {p : Plan} {zs : List ℤ} {wd : ℕ} {y : Way} {w old src : List ℕ} 
         rest = over (drop (n + r.count) W) (block_cells wd p.strides)
 
 -- at its end nothing is left
-pub copies_end : {p : Plan} {zs : List ℤ} {wd : ℕ} {y : Way} {w old src : List ℕ} → Copyable p zs wd (length old) (length src) → {n : ℕ} {at : State} {now : List ℕ}
-    → Copies p zs wd y w old src n false at now → now ≡ copied wd (walk_cells wd p zs) old src
+pub copies_end : {p : Plan} {zs : List ℤ} {wd : ℕ} {y : Option Way} {w old src : List ℕ} → Copyable p zs wd (length old) (length src) → {at : State} {now : List ℕ}
+    → Copies p zs wd y w old src false at now → now ≡ copied wd (walk_cells wd p zs) old src
 unfolding copied
-copies_end {p} {zs} {wd} {y} {w} {old} {src} h {n} {at} {now} k =
+copies_end {p} {zs} {wd} {y} {w} {old} {src} h {at} {now} k =
     sym (ap (λ (l : List Placed). copied wd (over l (block_cells wd p.strides)) now src) (walking_over k.walking)) ∙ k.left

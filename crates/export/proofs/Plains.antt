@@ -299,24 +299,30 @@ module _ {es sizes : List ℕ} {ss zs : List ℤ} {to from r : ℕ} (p : Plain e
       go true e = absurd (none_leaves ((row9-leaves es (length sizes) (stride_row ss (length es)) zs rows).0 e))
       go false e = e
 
-  -- the bytes of both operands lie in their buffers
   pub into_sign : T (non_neg (get_or zs 0 (pos 0)))
   into_sign = p.into.from
 
   pub out_sign : T (non_neg (get_or zs 1 (pos 0)))
   out_sign = p.out.from
 
-  pub into_bytes : place_at w (get_or zs 0 (pos 0)) + r * w ≤ to
-  into_bytes = bytes_in (nat_abs (get_or zs 0 (pos 0))) r w to plain_clean.some p.into.to
+  -- cells of the width b
+  module _ {b : ℕ} (q : b ≡ width_of sizes) where
+    -- the bytes of both operands lie in their buffers
+    pub into_bytes : place_at b (get_or zs 0 (pos 0)) + r * b ≤ to
+    into_bytes =
+        subst (λ (n : ℕ). place_at n (get_or zs 0 (pos 0)) + r * n ≤ to) (sym q)
+        (bytes_in (nat_abs (get_or zs 0 (pos 0))) r w to plain_clean.some p.into.to)
 
-  pub out-bytes : place_at w (get_or zs 1 (pos 0)) + r * w ≤ from
-  out-bytes =
-      bytes_in (nat_abs (get_or zs 1 (pos 0))) r w from plain_clean.some
-      (subst (λ (n : ℕ). nat_abs (get_or zs 1 (pos 0)) + r ≤ from / n) (sym plain_clean.same) p.out.to)
+    pub out-bytes : place_at b (get_or zs 1 (pos 0)) + r * b ≤ from
+    out-bytes =
+        subst (λ (n : ℕ). place_at n (get_or zs 1 (pos 0)) + r * n ≤ from) (sym q)
+        (bytes_in (nat_abs (get_or zs 1 (pos 0))) r w from plain_clean.some
+        (subst (λ (n : ℕ). nat_abs (get_or zs 1 (pos 0)) + r ≤ from / n) (sym plain_clean.same) p.out.to))
 
-  -- THE COPY of such operands
-  pub plain_exported : (dst src : List ℕ) → exported es sizes ss zs dst src ≡ moved dst (place_at w (get_or zs 0 (pos 0))) src (place_at w (get_or zs 1 (pos 0))) (r * w)
-  plain_exported dst src =
-      packed-exported es sizes ss zs plain_clean.same p.gapless.to p.gapless.from (nat_abs (get_or zs 0 (pos 0))) (nat_abs (get_or zs 1 (pos 0)))
-      (sym (pos-nat_abs (get_or zs 0 (pos 0)) into_sign)) (sym (pos-nat_abs (get_or zs 1 (pos 0)) out_sign)) dst src
-      ∙ ap (λ (n : ℕ). moved dst (place_at w (get_or zs 0 (pos 0))) src (place_at w (get_or zs 1 (pos 0))) (n * w)) (sym p.gapless.cells)
+    -- THE COPY of such operands
+    pub plain_exported : (dst src : List ℕ) → exported es sizes ss zs dst src ≡ moved dst (place_at b (get_or zs 0 (pos 0))) src (place_at b (get_or zs 1 (pos 0))) (r * b)
+    plain_exported dst src =
+        packed-exported es sizes ss zs plain_clean.same p.gapless.to p.gapless.from (nat_abs (get_or zs 0 (pos 0))) (nat_abs (get_or zs 1 (pos 0)))
+        (sym (pos-nat_abs (get_or zs 0 (pos 0)) into_sign)) (sym (pos-nat_abs (get_or zs 1 (pos 0)) out_sign)) dst src
+        ∙ ap (λ (n : ℕ). moved dst (place_at w (get_or zs 0 (pos 0))) src (place_at w (get_or zs 1 (pos 0))) (n * w)) (sym p.gapless.cells)
+        ∙ ap (λ (n : ℕ). moved dst (place_at n (get_or zs 0 (pos 0))) src (place_at n (get_or zs 1 (pos 0))) (r * n)) (sym q)

@@ -3,7 +3,7 @@
 use mathlib.Core.Path.{◌≡◌, sym, ap, ◌∙◌, subst}
 use mathlib.Core.Bool.{false, not}
 use mathlib.Core.List.{List}
-use Rattle.std.specs.Prelude.{Option, None, Ok, Err, Result}
+use Rattle.std.specs.Prelude.{Option, None, Some, Ok, Err, Result}
 use Prim.Native.Nat.{ℕ, ◌*◌, ◌^◌, ◌≤◌, ◌<◌}
 use native.Mathlib.Nat.{zero-mul, mul-one}
 use native.Mathlib.Omega.{arith}
@@ -17,13 +17,19 @@ use Rattle.strided.specs.Refusals.{row5, served_unless}
 use Rattle.strided.specs.Mark.{mark_of, mark_rows, mark_refused, marked}
 use Rattle.strided.specs.declared.Refusal.{Refusal}
 use Rattle.laws.specs.Base.Refusals.{NoneApplies}
-use Rattle.laws.specs.Base.Rows.{row_fits}
-use Rattle.laws.specs.Refusals.Accepted.{Accepted}
+use Rattle.laws.specs.Base.Rows.{row_fits, length_strides}
+use Rattle.laws.specs.Refusals.Accepted.{Accepted, accepted}
+use Rattle.laws.specs.Refusals.Record.{planning_layout}
+use Rattle.strided.specs.Refusals.{planning_refused}
+use Rattle.strided.specs.declared.Machine.{Machine}
+use Rattle.span.specs.Span.{Spans}
+use Rattle.export.specs.Width.{Passed}
+use Rattle.export.specs.declared.width.Width.{Width}
 use Rattle.strided.specs.declared.Purpose.{Purpose}
 use Rattle.laws.specs.Refusals.Operands.{some_of_none}
 use Rattle.laws.specs.Refusals.Rows.{none_refuses, passes-unless}
 use Rattle.laws.specs.Refusals.Zeros.{row5-total}
-use Rattle.export.specs.Export.{row18, is_no}
+use Rattle.export.specs.Export.{row18, is_no, width_of}
 use Rattle.strided.specs.declared.Mark.{Mark}
 
 -- ---- the mark of operand 0
@@ -89,3 +95,21 @@ module _ {es sizes : List ℕ} {ss : List ℤ} {u : Purpose} (a : Accepted es si
       let f = row_fits 0 (length es) (length sizes) o in
       let s = a.strides in
       record { axes = a.axes; there = omega (arith, f, s); cells = a.cells; near = λ q. a.near q 0 o }
+
+-- and so of what a copy is asked for
+pub served_accepted : (mc : Machine) (es sizes : List ℕ) (ss : List ℤ) (u : Purpose) → planning_refused mc es sizes ss u ≡ None → Accepted es sizes ss u
+served_accepted mc es sizes ss u h = accepted es sizes ss u (planning_layout mc es sizes ss u h)
+
+-- the test of row 17 asks so much
+pub served_spans : (mc : Machine) (es sizes : List ℕ) (ss : List ℤ) (u : Purpose) → planning_refused mc es sizes ss u ≡ None → (k : ℕ) → k < length sizes
+    → Spans es (stride_row ss (length es) k)
+served_spans mc es sizes ss u h k l =
+    let a = served_accepted mc es sizes ss u h in record { long = length_strides ss (length es) (length sizes) k a.strides l; near = λ q. a.near q k l }
+
+-- what the rows of the cells let through, and what they refuse
+module _ (refused : Option Refusal) (sizes : List ℕ) {r : Result Width Refusal} (p : Passed refused sizes r) where
+  pub passed_width : {w : Width} → r ≡ Ok w → (refused ≡ None) × (w.bytes ≡ width_of sizes)
+  passed_width e = subst (Passed refused sizes) e p
+
+  pub passed_none : {q : Refusal} → r ≡ Err q → refused ≡ Some q
+  passed_none e = subst (Passed refused sizes) e p

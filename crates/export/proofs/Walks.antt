@@ -282,8 +282,6 @@ module _ (mc : Machine) (es sizes : List ℕ) (ss : List ℤ) (hp : planning_ref
             sized = whole_sized plan_lent;
             begins = b;
             two = planned_operands mc es sizes ss (PointwiseInto 0) hp ∙ c.two;
-            some = c.some;
-            most = c.most;
             into = into_block;
             out = from_block;
             short = block_short f;

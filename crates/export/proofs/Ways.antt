@@ -10,7 +10,7 @@ use lib.IntN.{ℤ, pos}
 use lib.ListN.{length, get_or, take}
 use borrow.Author.Tests.{eq-eqb, ne_eqb}
 use Rattle.strided.specs.Layout.{stride_row}
-use Rattle.strided.specs.Refusals.{Row, refused_by, answered, row8, row9, planning_refused}
+use Rattle.strided.specs.Refusals.{Row, refused_by, row8, row9, planning_refused}
 use Rattle.strided.specs.Plan.{the_plan}
 use Rattle.strided.specs.Begin.{begin_refused, begun_at, started}
 use Rattle.strided.specs.Memory.{plan_of}
@@ -65,12 +65,12 @@ module _ (mc : Machine) (es sizes : List ℕ) (ss zs : List ℤ) (dst src : List
     eight : length zs ≡ length sizes → copy_refused mc es sizes ss zs (length dst) (length src) ≡ refused_by (nine ∷ cells)
     eight many = rest ∙ ap (λ (b : Bool). cond (not b) (Some StartCount) (refused_by (nine ∷ cells))) (eq-eqb (length zs) (length sizes) many)
 
-    -- nothing is refused, and the cells lie without gaps
-    pub plain_done : {r : ℕ} → Plain es sizes ss zs (length dst) (length src) r → (out : List ℕ)
-        → out ≡ moved dst (place_at (width_of sizes) (get_or zs 0 (pos 0))) src (place_at (width_of sizes) (get_or zs 1 (pos 0))) (r * width_of sizes)
+    -- nothing is refused, and the cells, of the width b, lie without gaps
+    pub plain_done : {r b : ℕ} → Plain es sizes ss zs (length dst) (length src) r → b ≡ width_of sizes → (out : List ℕ)
+        → out ≡ moved dst (place_at b (get_or zs 0 (pos 0))) src (place_at b (get_or zs 1 (pos 0))) (r * b)
         → Done (copy_done mc es sizes ss zs dst src) dst out (Ok tt)
-    plain_done p out o =
-        served_done (eight p.starts ∙ ap (λ (b : Bool). cond b (Some Offsets) (refused_by cells)) (plain_row9 p) ∙ plain_passes p) (o ∙ sym (plain_exported p dst src))
+    plain_done p q out o =
+        served_done (eight p.starts ∙ ap (λ (b : Bool). cond b (Some Offsets) (refused_by cells)) (plain_row9 p) ∙ plain_passes p) (o ∙ sym (plain_exported p q dst src))
 
     module _ (many : length zs ≡ length sizes) (rank : ℕ) (E B : List ℕ) (S : List ℤ) (made : Made mc es sizes ss (PointwiseInto 0) rank E B S) where
       abbrev P : Plan
@@ -106,36 +106,33 @@ module _ (mc : Machine) (es sizes : List ℕ) (ss zs : List ℤ) (dst src : List
           passes : copy_refused mc es sizes ss zs (length dst) (length src) ≡ refused_by cells
           passes = eight many ∙ ap (λ (b : Bool). cond b (Some Offsets) (refused_by cells)) (begins_to mc es sizes ss (PointwiseInto 0) hp P.blocks zs begins).1
 
-          module _ (x : Result (Unit {0}) Refusal) (says : x ≡ answered (refused_by (cell_rows es sizes ss zs (length dst) (length src)))) where
-            -- rows 16 to 18
-            pub cells_refuse : (r : Refusal) → x ≡ Err r → Done (copy_done mc es sizes ss zs dst src) dst dst (Err r)
-            cells_refuse r e = refused_done (passes ∙ refused_some (refused_by cells) tt (sym says ∙ e))
+          -- rows 16 to 18
+          pub cells_refuse : {r : Refusal} → refused_by (cell_rows es sizes ss zs (length dst) (length src)) ≡ Some r → Done (copy_done mc es sizes ss zs dst src) dst dst (Err r)
+          cells_refuse e = refused_done (passes ∙ e)
 
-            -- nothing is refused
-            module _ (e : x ≡ Ok tt) where
-              none_refuse : refused_by (cell_rows es sizes ss zs (length dst) (length src)) ≡ None
-              none_refuse = served_none (refused_by cells) tt (sym says ∙ e)
+          -- nothing is refused, and the cells have the width b
+          module _ {b : ℕ} (e : (refused_by (cell_rows es sizes ss zs (length dst) (length src)) ≡ None) × (b ≡ width_of sizes)) where
+            pub cells_clean : Clean es sizes ss zs (length dst) (length src)
+            cells_clean = clean es sizes ss zs (length dst) (length src) e.0
 
-              pub cells_clean : Clean es sizes ss zs (length dst) (length src)
-              cells_clean = clean es sizes ss zs (length dst) (length src) none_refuse
+            starts_back : starts_of w ≡ zs
+            starts_back = ap (λ (v : Walk). take 2 v.offsets) walk_is ∙ take_counted (pos 0) 8 2 zs (many ∙ cells_clean.two) (omega arith)
 
-              starts_back : starts_of w ≡ zs
-              starts_back = ap (λ (v : Walk). take 2 v.offsets) walk_is ∙ take_counted (pos 0) 8 2 zs (many ∙ cells_clean.two) (omega arith)
+            -- what the walk's copy asks
+            pub walk_copyable : length dst < 2 ^ 63 → Copyable (plan_of rank (length sizes) E B S) (starts_of w) b (length dst) (length src)
+            walk_copyable f =
+                subst (λ (p : Plan). Copyable p (starts_of w) b (length dst) (length src)) (sym made.is)
+                (subst (λ (l : List ℤ). Copyable P l b (length dst) (length src)) (sym starts_back)
+                (subst (λ (n : ℕ). Copyable P zs n (length dst) (length src)) (sym e.1) (plan_copyable mc es sizes ss hp zs begins (length dst) (length src) cells_clean f)))
 
-              -- what the walk's copy asks
-              pub walk_copyable : length dst < 2 ^ 63 → Copyable (plan_of rank (length sizes) E B S) (starts_of w) (width_of sizes) (length dst) (length src)
-              walk_copyable f =
-                  subst (λ (p : Plan). Copyable p (starts_of w) (width_of sizes) (length dst) (length src)) (sym made.is)
-                  (subst (λ (l : List ℤ). Copyable P l (width_of sizes) (length dst) (length src)) (sym starts_back)
-                  (plan_copyable mc es sizes ss hp zs begins (length dst) (length src) cells_clean f))
+            pub walk-begun : w ≡ started (plan_of rank (length sizes) E B S) (starts_of w)
+            walk-begun = walk_is ∙ ap₂ started (sym made.is) (sym starts_back)
 
-              pub walk-begun : w ≡ started (plan_of rank (length sizes) E B S) (starts_of w)
-              walk-begun = walk_is ∙ ap₂ started (sym made.is) (sym starts_back)
-
-              -- and what it leaves
-              pub all_done : (out : List ℕ) → out ≡ copied (width_of sizes) (walk_cells (width_of sizes) (plan_of rank (length sizes) E B S) (starts_of w)) dst src
-                  → Done (copy_done mc es sizes ss zs dst src) dst out (Ok tt)
-              all_done out o =
-                  served_done (passes ∙ none_refuse)
-                  (o ∙ ap₂ (λ (p : Plan) (l : List ℤ). copied (width_of sizes) (walk_cells (width_of sizes) p l) dst src) made.is starts_back
-                  ∙ walk-exported mc es sizes ss hp zs begins dst src cells_clean)
+            -- and what it leaves
+            pub all_done : (out : List ℕ) → out ≡ copied b (walk_cells b (plan_of rank (length sizes) E B S) (starts_of w)) dst src
+                → Done (copy_done mc es sizes ss zs dst src) dst out (Ok tt)
+            all_done out o =
+                served_done (passes ∙ e.0)
+                (o ∙ ap₂ (λ (p : Plan) (l : List ℤ). copied b (walk_cells b p l) dst src) made.is starts_back
+                ∙ ap (λ (n : ℕ). copied n (walk_cells n P zs) dst src) e.1
+                ∙ walk-exported mc es sizes ss hp zs begins dst src cells_clean)

@@ -1,6 +1,6 @@
 -- The cells of a plan's blocks, in the plan's order; and what the functions that copy them ask.
 -- Assumes nothing.
-use Rattle.std.specs.Prelude.{◌≡◌, true, List, map, ℕ, ◌*◌, ◌/◌, ◌^◌, ◌≤◌, ◌<◌, T, ℤ, pos, nat_abs, ◌+ℤ◌, ◌*ℤ◌, length, get_or, take, None}
+use Rattle.std.specs.Prelude.{◌≡◌, true, List, map, ℕ, ◌*◌, ◌/◌, ◌^◌, ◌<◌, T, ℤ, pos, nat_abs, ◌+ℤ◌, ◌*ℤ◌, length, get_or, take, None}
 use Rattle.std.specs.Int.Signed.{non_neg}
 use Rattle.std.specs.Int.{w64}
 use Rattle.std.proofs.Common.{SFits}
@@ -46,8 +46,6 @@ pub record Copyable (p : Plan) (zs : List ℤ) (w to from : ℕ) : Type 0 where
   pub sized : Sized p
   pub begins : begin_refused p zs ≡ None
   pub two : p.operands ≡ 2
-  pub some : 1 ≤ w
-  pub most : w ≤ 16
   -- each cell is one of those that the buffers have room for
   pub into : (c : List ℕ) → In c (counters (plan_cut_axes p)) → (i : ℕ) → i < length_at (plan_cut_axes p) c → in_cells (to / w) (offset_in p.strides (placed_from p zs c) 0 i) ≡ true
   pub out : (c : List ℕ) → In c (counters (plan_cut_axes p)) → (i : ℕ) → i < length_at (plan_cut_axes p) c → in_cells (from / w) (offset_in p.strides (placed_from p zs c) 1 i) ≡ true
@@ -73,8 +71,6 @@ pub record Stretching (w to from : ℕ) (x : Next) (ss d first : List ℤ) : Typ
   pub strides : length ss ≡ 512
   pub moves : length d ≡ 8
   pub offered : length first ≡ 8
-  pub some : 1 ≤ w
-  pub most : w ≤ 16
   pub one : 0 < x.length
   pub row : 0 < x.count
   pub cells : x.length < 2 ^ 63
@@ -87,7 +83,6 @@ pub record Stretching (w to from : ℕ) (x : Next) (ss d first : List ℤ) : Typ
 
 -- what it asks: no number is too large
 pub record Bytes (w n0 n1 : ℕ) (z t u : ℤ) : Type 0 where
-  pub most : w ≤ 16
   pub sign : T (non_neg z)
   pub first : nat_abs z * w < 2 ^ 63
   pub along : 1 < n0 → SFits w64 (t *ℤ pos w)

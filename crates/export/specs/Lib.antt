@@ -10,6 +10,7 @@ pub mod Export
 pub mod Memory
 pub mod Indices
 pub mod Rows
+pub mod Width
 pub mod Zeros
 pub mod Blocks
 pub mod Steps

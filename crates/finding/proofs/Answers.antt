@@ -18,8 +18,8 @@ use Rattle.strided.specs.declared.Refusal.TheVariants.{Index}
 use Rattle.strided.specs.declared.Told.{Told}
 use Rattle.laws.specs.Refusals.Accepted.{accepted}
 use Rattle.layout.specs.declared.slices.Layout.{Layout}
-use Rattle.layout.specs.Checked.{Laid}
-use Rattle.layout.proofs.Checks.{laid_is}
+use Rattle.layout.specs.Checked.{LetThrough}
+use Rattle.layout.proofs.Checks.{through_is}
 use Rattle.finding.specs.Memory.{Leaves}
 use Rattle.finding.specs.Mapped.{Fused, Sound, unraveled_by, raveled_by, unraveled, found_original}
 use Rattle.finding.proofs.Maps.{extents_are, unraveled_is, raveled_is}
@@ -53,18 +53,18 @@ module _ {es : List ℕ} {m : ℕ} {ss : List ℤ} {u : Purpose} {order fused : 
 
 -- ---- the entries: planning's rows first
 
-module _ (es sizes : List ℕ) (ss : List ℤ) (u : Purpose) {l : Layout} (c : Laid (layout_refused es sizes ss u) es sizes ss l) where
+module _ (es sizes : List ℕ) (ss : List ℤ) (u : Purpose) {l : Layout} (c : LetThrough (layout_refused es sizes ss u) es sizes ss l) where
   pub cells-few : total l.extents.now < 2 ^ 64
   cells-few = rw c.extents ((accepted es sizes ss u c.served).cells)
 
   module _ (x : List ℕ) where
     pub original_passed : found_original l.extents.now l.operands l.strides.now u x ≡ told_original es sizes ss u x
     unfolding told_original
-    original_passed = laid_is c (λ e m s. found_original e m s u x) ∙ rw c.served
+    original_passed = through_is c (λ e m s. found_original e m s u x) ∙ rw c.served
 
     pub plan_passed : served_unless (refused_by (row11 l.extents.now x ∷ [])) (told (index_in_plan l.extents.now l.operands l.strides.now u x)) ≡ told_plan es sizes ss u x
     unfolding told_plan
-    plan_passed = laid_is c (λ e m s. served_unless (refused_by (row11 e x ∷ [])) (told (index_in_plan e m s u x))) ∙ rw c.served
+    plan_passed = through_is c (λ e m s. served_unless (refused_by (row11 e x ∷ [])) (told (index_in_plan e m s u x))) ∙ rw c.served
 
 module _ (es sizes : List ℕ) (ss : List ℤ) (u : Purpose) (x : List ℕ) where
   module _ (r : Refusal) (h : layout_refused es sizes ss u ≡ Some r) {c i : List ℕ} where

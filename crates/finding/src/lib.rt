@@ -2,7 +2,7 @@
 // alone, so a caller needs no plan at hand. What they need of the plan is a map, which is made once.
 #![tactic(auto)]
 
-ghost use Rattle.std.specs.Prelude.{◌≡◌, ◌^◌, ◌<◌, length, take};
+ghost use Rattle.std.specs.Prelude.{◌≡◌, ◌^◌, ◌<◌, length, take, replicate};
 ghost use Rattle.strided.specs.Layout.{total};
 ghost use Rattle.strided.specs.Index.{told_original, told_plan};
 ghost use Rattle.finding.specs.Mapped.{Fused, Mapped, Usable, kept_extents, unraveled_by, raveled_by, found_original, TellsOriginal, TellsPlan};
@@ -10,7 +10,7 @@ ghost use Rattle.finding.specs.Memory.{Leaves};
 
 use fuse::fused_into;
 use layout::{Layout, check_layout, within};
-use radix::LentMap;
+use radix::{LentMap, plan_rank, plan_within};
 use strided::{Purpose, Refusal, Told};
 
 pub mod radix;
@@ -26,8 +26,23 @@ pub struct Map {
     pub fused: [u64; 64],
 }
 
-// The map's arrays. The weights that the order goes by are made where the fused extents come to stand.
+impl Map {
+    // The same, lent with the extents of its layout.
+    pub fn lent<'a>(&'a self, extents: &'a [u64]) -> LentMap<'a>
+        requires { Usable extents.now self.now }
+        ensures { (result.extents.now ≡ extents.now) × (result.order.now ≡ self.now.order) × (result.fused.now ≡ self.now.fused) }
+    {
+        LentMap {
+            extents,
+            order: &self.order,
+            fused: &self.fused,
+        }
+    }
+}
+
+// The map's arrays, written into arrays of zeros. The weights that the order goes by are made where the fused extents come to stand.
 pub fn map_into(layout: Layout, purpose: Purpose, order: &mut [usize; 64], fused: &mut [u64; 64])
+    requires { (order.old ≡ replicate 64 0) × (fused.old ≡ replicate 64 0) }
     ensures { Fused layout.entry.extents.now layout.entry.operands layout.entry.strides.now purpose order.new fused.new }
 {
     let rank = layout.extents.len();
@@ -44,7 +59,7 @@ pub fn index_map(layout: Layout, purpose: Purpose) -> Map
     let mut order = [0usize; 64];
     let mut fused = [0u64; 64];
     map_into(layout, purpose, &mut order, &mut fused);
-    let rank = radix::plan_rank(&fused[..layout.extents.len()]);
+    let rank = plan_rank(&fused[..layout.extents.len()]);
     Map { rank, order, fused }
 }
 
@@ -60,35 +75,29 @@ fn original_by_into(
     ensures { Leaves (unraveled_by map.entry.extents.now map.entry.order.now map.entry.fused.now counters.now)
         count.old index.old count.new index.new result }
 {
-    let rank = map.extents.len();
-    let fused = map.fused;
-    if !radix::plan_within(&fused[..rank], counters) {
+    if !plan_within(map.plan_fused(), counters) {
         return Err(Refusal::Index);
     }
     *count = [map.extents.len()];
-    *index = [0u64; 64];
     map.unravel_index(counters, index);
     Ok(())
 }
 
 // The plan index of an original index, with its count: row 11 is judged on the layout's extents.
-// Kept: `rank`, the plan's, beside the lent map: this way alone needs it, and the other would pay a pass over the extents for it.
 fn plan_by_into(
     map: LentMap,
-    rank: usize,
     original: &[u64],
     count: &mut [usize; 1],
     index: &mut [u64; 64],
 ) -> Result<(), Refusal>
-    requires { rank ≡ length (kept_extents (take (length map.extents.now) map.fused.now)) }
     ensures { Leaves (raveled_by map.entry.extents.now map.entry.order.now map.entry.fused.now original.now)
         count.old index.old count.new index.new result }
 {
     if !within(map.extents, original) {
         return Err(Refusal::Index);
     }
+    let rank = plan_rank(map.plan_fused());
     *count = [rank];
-    *index = [0u64; 64];
     map.ravel_index(rank, original, index);
     Ok(())
 }
@@ -105,12 +114,7 @@ pub fn original_into(
     ensures { TellsOriginal extents.now map counters.now
         count.old index.old count.new index.new result }
 {
-    let lent = LentMap {
-        extents,
-        order: &map.order,
-        fused: &map.fused,
-    };
-    original_by_into(lent, counters, count, index)
+    original_by_into(map.lent(extents), counters, count, index)
 }
 
 // The plan index of an original index, by the map.
@@ -125,15 +129,13 @@ pub fn in_plan_into(
     ensures { TellsPlan extents.now map original.now
         count.old index.old count.new index.new result }
 {
-    let lent = LentMap {
-        extents,
-        order: &map.order,
-        fused: &map.fused,
-    };
-    plan_by_into(lent, map.rank, original, count, index)
+    plan_by_into(map.lent(extents), original, count, index)
 }
 
 // ---- the entries
+
+// Kept: a `LentMap` on the two arrays in each. A `Map`, as `index_map` hands it out, has the plan's rank counted, for which finding an original
+// index has no use.
 
 // The original index of a plan index, for whoever has checked the layout: row 11 alone is judged.
 pub fn original_of_into(
@@ -192,13 +194,12 @@ pub fn plan_index_into<'a>(
     let mut order = [0usize; 64];
     let mut fused = [0u64; 64];
     map_into(layout, purpose, &mut order, &mut fused);
-    let rank = radix::plan_rank(&fused[..layout.extents.len()]);
     let map = LentMap {
         extents: layout.extents,
         order: &order,
         fused: &fused,
     };
-    plan_by_into(map, rank, original, count, index)
+    plan_by_into(map, original, count, index)
 }
 
 // The original index of a plan index: rows 1 to 6, then 11.

@@ -1,6 +1,6 @@
 // Mixed radix on arrays: the index that a plan's counters tell, along the axes in the order they were fused in, and the counters of such an
 // index. An axis whose fused extent is 1 has joined the one before it, or is dropped.
-ghost use Rattle.std.specs.Prelude.{◌≡◌, ◌&&◌, ◌/◌, ◌%◌, ◌≤◌, ◌<◌, ltb, length, get_or, take, replicate};
+ghost use Rattle.std.specs.Prelude.{◌≡◌, ◌&&◌, ◌/◌, ◌%◌, ◌≤◌, ◌<◌, ltb, length, get_or, take};
 ghost use Rattle.strided.specs.Base.{padded};
 ghost use Rattle.strided.specs.Layout.{NoZero, Within, within};
 ghost use Rattle.finding.specs.Mapped.{kept_extents, unraveled, raveled, Sound, sound_prop};
@@ -34,6 +34,7 @@ pub fn plan_within(fused: &[u64], counters: &[u64]) -> bool
 }
 
 // How many axes the plan has.
+// Kept: tried as `filter(..).count()`. `count` tells of the runs of its iterator, and that such a run is `kept_extents` was not proved.
 pub fn plan_rank(fused: &[u64]) -> usize
     ensures { result ≡ length (kept_extents fused.now) }
 {
@@ -83,12 +84,20 @@ pub struct LentMap<'a> {
 }
 
 impl<'a> LentMap<'a> {
-    // The index that the counters tell, quickest the axis that came first, written into an array of zeros.
+    // The fused extents, in the order of fusing.
+    pub fn plan_fused(self) -> &'a [u64]
+        ensures { result.now ≡ take (length self.entry.extents.now) self.entry.fused.now }
+    {
+        let fused = self.fused;
+        &fused[..self.extents.len()]
+    }
+
+    // The index that the counters tell, quickest the axis that came first, written into an array.
     pub fn unravel_index(self, counters: &[u64], out: &mut [u64; 64])
-        requires extents { NoZero self.extents.now }
-        requires zeros { out.old ≡ replicate 64 0 }
+        requires { NoZero self.extents.now }
         ensures { out.new ≡ padded 64 0 (unraveled self.entry.extents.now self.entry.order.now self.entry.fused.now counters.now) }
     {
+        *out = [0u64; 64];
         let mut x: u64 = 0;
         let mut j: usize = 0;
         for i in 0..self.extents.len() {
@@ -102,14 +111,14 @@ impl<'a> LentMap<'a> {
         }
     }
 
-    // The counters of an index, from the last axis down, written into an array of zeros: what an axis leaves goes to the one that it joined.
-    // Kept: `rank`, the plan's, beside the map: the other way goes without it.
+    // The counters of an index, from the last axis down, written into an array: what an axis leaves goes to the one that it joined.
+    // Kept: `rank`, the plan's, beside the map: who calls has counted it for the answer, and would pay a second pass.
     pub fn ravel_index(self, rank: usize, index: &[u64], out: &mut [u64; 64])
         requires rank { rank ≡ length (kept_extents (take (length self.extents.now) self.fused.now)) }
         requires inside { Within self.extents.now index.now }
-        requires zeros { out.old ≡ replicate 64 0 }
         ensures { out.new ≡ padded 64 0 (raveled self.entry.extents.now self.entry.order.now self.entry.fused.now index.now) }
     {
+        *out = [0u64; 64];
         let mut z: u64 = 0;
         let mut j = rank;
         for i in (0..self.extents.len()).rev() {

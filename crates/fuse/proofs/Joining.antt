@@ -1,17 +1,24 @@
--- Two signed numbers are compared by their bits; and a turn of `all_join`. Assumes nothing.
-use mathlib.Core.Path.{◌≡◌, refl, sym, ap, ◌∙◌}
-use mathlib.Core.List.{List}
-use mathlib.Core.Bool.{Bool, true, false, false≢true, ◌&&◌, and-true, and_assoc}
-use Prim.Native.Nat.{ℕ, zero, suc, ◌+◌, ◌*◌, ◌-◌, ◌<◌}
+-- Two signed numbers are compared by their bits; and the operands of `all_join` one by one. Assumes nothing.
+use mathlib.Core.Path.{◌≡◌, refl, sym, ap, ap₂, subst, ◌∙◌}
+use mathlib.Core.List.{List, [], ◌∷◌}
+use mathlib.Core.Bool.{Bool, true, false, false≢true, ◌&&◌, and-true, and_assoc, and_comm}
+use Prim.Native.Nat.{ℕ, zero, suc, ◌+◌, ◌*◌, ◌-◌}
 use native.Mathlib.Nat.{add-zero}
 use native.Mathlib.Omega.{arith}
 use lib.Dec.{eqb}
 use lib.IntN.{ℤ, pos, negsuc}
-use lib.ListN.{get_or}
+use lib.ListN.{length, get_or}
 use mir.Syntax.{w64}
 use mir.Val.{SFits, to_z, of_z}
 use mir.Facts.{to_z-of_z}
 use borrow.Author.Tests.{eq-eqb, ne_eqb}
+use Rattle.std.specs.List.{list_all}
+use Rattle.std.proofs.lemmas.Iterator.{YieldsList}
+use Rattle.std.proofs.lemmas.Iterator.Consumers.{YieldsList-from_shown}
+use Rattle.std.specs.declared.ops.Range.{Range}
+use Rattle.std.specs.declared.iter.Rev.{Rev}
+use Rattle.std.specs.Iterator.Adapters.{rev_source, rev_steps}
+use Rattle.std.proofs.iter.runs.Sources.{nat_range_steps_back}
 use Rattle.strided.specs.Layout.{stride_column}
 use Rattle.strided.specs.Fuse.{eq_z, joins, all_join}
 use Rattle.laws.specs.Fuse.Fused.{eq_z_true}
@@ -59,11 +66,27 @@ join_more e p i h o (suc n) s =
     rw (join_more e p i h (suc o) n s, g)
     (sym (and_assoc (joins e (get_or s (o * p + h) (pos 0)) (get_or s (o * p + i) (pos 0))) (all_join e (stride_column s p h (suc o) n) (stride_column s p i (suc o) n)) (joins e (get_or s ((suc o + n) * p + h) (pos 0)) (get_or s ((suc o + n) * p + i) (pos 0)))))
 
--- the first k operands: the test at the last of them, and those before it
-pub join_turn : (e p i h k : ℕ) (s : List ℤ) (v : Bool) → 0 < k → v ≡ joins e (get_or s ((k - 1) * p + h) (pos 0)) (get_or s ((k - 1) * p + i) (pos 0))
-    → all_join e (stride_column s p h 0 k) (stride_column s p i 0 k) ≡ (all_join e (stride_column s p h 0 (k - 1)) (stride_column s p i 0 (k - 1)) && v)
-join_turn e p i h zero s v l q = absurd (omega arith)
-join_turn e p i h (suc k) s v l q =
-    let g : suc k - 1 ≡ k = omega arith in
-    let g' : 0 + k ≡ k = omega arith in
-    join_more e p i h 0 k s ∙ rw (g', q, g)
+-- the operands from the last one down, as a range that is reversed yields them
+abbrev pub downwards : ℕ → ℕ → List ℕ
+downwards a zero = []
+downwards a (suc n) = (a + n) ∷ downwards a n
+
+down_turn : (a n b m x : ℕ) → n ≡ suc m → b ≡ a → x ≡ a + m → downwards a n ≡ x ∷ downwards b m
+down_turn a n b m x e f g = ap (downwards a) e ∙ ap₂ (λ (w k : ℕ). w ∷ downwards k m) (sym g) (sym f)
+
+pub yields_downwards : {s : Rev (Range ℕ)} (n : ℕ) → rev_source s ≡ record { start = 0; end = n } → YieldsList (rev_steps nat_range_steps_back) (λ x. x) s (downwards 0 n)
+yields_downwards {s} n e =
+    let z : n - 0 ≡ n = omega arith in
+    subst (λ (k : ℕ). YieldsList (rev_steps nat_range_steps_back) (λ x. x) s (downwards 0 k)) z
+    (subst (λ (k : Range ℕ). YieldsList (rev_steps nat_range_steps_back) (λ x. x) s (downwards k.start (k.end - k.start))) e
+    (YieldsList-from_shown (rev_steps nat_range_steps_back) (λ x. x) (λ u. downwards (rev_source u).start ((rev_source u).end - (rev_source u).start))
+    (λ u t p. ap (λ (k : ℕ). length (downwards (rev_source u).start k)) p.1.0)
+    (λ u x t p. down_turn _ _ _ _ x (omega (arith, p.0, p.1.0, p.1.1, p.1.2)) p.0 (omega (arith, p.0, p.1.0, p.1.1, p.1.2))) s))
+
+pub all_joined : (e p i h n : ℕ) (s : List ℤ) → list_all (λ k. joins e (get_or s (k * p + h) (pos 0)) (get_or s (k * p + i) (pos 0))) (downwards 0 n)
+    ≡ all_join e (stride_column s p h 0 n) (stride_column s p i 0 n)
+all_joined e p i h zero s = refl
+all_joined e p i h (suc n) s =
+    and_comm (joins e (get_or s ((0 + n) * p + h) (pos 0)) (get_or s ((0 + n) * p + i) (pos 0))) _
+    ∙ ap (λ (b : Bool). b && joins e (get_or s ((0 + n) * p + h) (pos 0)) (get_or s ((0 + n) * p + i) (pos 0))) (all_joined e p i h n s)
+    ∙ sym (join_more e p i h 0 n s)

@@ -3,4 +3,3 @@ pub mod Fusing
 pub mod Keeping
 pub mod Costing
 pub mod Planning
-pub mod Given

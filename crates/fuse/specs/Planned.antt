@@ -1,13 +1,8 @@
 -- The axes of a layout's plan, by the order that they are fused in. Assumes nothing.
 use Rattle.std.specs.Prelude.{List, ℕ, ℤ}
-use Rattle.strided.specs.Base.{run}
 use Rattle.strided.specs.Layout.{Axis, axes_of, no_axis, extents}
 use Rattle.strided.specs.Order.{pick}
 use Rattle.strided.specs.Fuse.{fuse, fused_axes}
-
--- the order that names each axis at its own place
-abbrev pub given : ℕ → List ℕ
-given rank = run 0 rank
 
 -- the extents of a layout's axes in an order, fused: an axis that joined another has extent 1
 abbrev pub extents_in : List ℕ → ℕ → List ℤ → List ℕ → List ℕ

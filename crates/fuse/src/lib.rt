@@ -10,15 +10,15 @@ ghost use Rattle.strided.specs.Order.{pick};
 ghost use Rattle.strided.specs.Fuse.{joins as joins_at, all_join, fuse as fuseAxes, compress};
 ghost use Rattle.strided.specs.Plan.{stride_table};
 ghost use Rattle.strided.specs.Step.{blank};
-ghost use Rattle.strided.specs.Costs.{still, cost_of, cost_number, costs};
+ghost use Rattle.strided.specs.Costs.{still, cost_of, costs};
 ghost use Rattle.laws.specs.Fuse.Places.{axes_by};
-ghost use Rattle.arrange.specs.Axes.{InOrder, Named};
+ghost use Rattle.arrange.specs.Axes.{InOrder};
 ghost use Rattle.fuse.specs.Kept.{stays};
-ghost use Rattle.fuse.specs.Planned.{given, extents_in, fused_in};
+ghost use Rattle.fuse.specs.Planned.{extents_in, fused_in};
 ghost use Rattle.fuse.specs.Sizes.{size_at};
 
-use arrange::{Picked, pick_strides_into};
-use layout::{Layout, Rows, lay_into};
+use arrange::{Order, Ordered, pick_into, pick_strides_into};
+use layout::{Layout, Rows};
 
 // ---- which axes join
 
@@ -39,13 +39,10 @@ fn all_join(e: u64, rows: Rows, h: usize, i: usize) -> bool
     ensures { result ≡ all_join e (stride_column rows.entry.strides.now rows.entry.pitch h 0 rows.entry.operands)
         (stride_column rows.entry.strides.now rows.entry.pitch i 0 rows.entry.operands) }
 {
-    for k in (0..rows.operands).rev() {
+    (0..rows.operands).rev().all(|k| {
         let p = k * rows.pitch;
-        if !joins(e, rows.strides[p + h], rows.strides[p + i]) {
-            return false;
-        }
-    }
-    true
+        joins(e, rows.strides[p + h], rows.strides[p + i])
+    })
 }
 
 // Whether axis i, of extent b, joins axis h, of extent a.
@@ -55,61 +52,6 @@ fn can_fuse(a: u64, b: u64, rows: Rows, h: usize, i: usize) -> bool
         (stride_column rows.entry.strides.now rows.entry.pitch i 0 rows.entry.operands) && ltb (a * b) (2 ^ 64)) }
 {
     all_join(a, rows, h, i) && a.checked_mul(b).is_some()
-}
-
-// ---- the order
-
-// Which axis stands at each place: a lent order names it, or each axis stands at its own place.
-pub trait Order: Copy {
-    // The axes' numbers, place by place.
-    ghost names: { Self → List ℕ };
-
-    fn len(self) -> usize
-        ensures { result ≡ length (names self) };
-
-    // The axis at a place.
-    fn axis(self, place: usize) -> usize
-        requires { place < length (names self) }
-        ensures { result ≡ get_or (names self) place 0 };
-}
-
-impl<'a> Order for &'a [usize] {
-    ghost names = { λ o. o.now };
-
-    fn len(self) -> usize {
-        <[usize]>::len(self)
-    }
-
-    fn axis(self, place: usize) -> usize {
-        self[place]
-    }
-}
-
-// As many axes as are given, each at its own place.
-#[derive(Clone, Copy)]
-struct AsGiven {
-    rank: usize,
-}
-
-impl Order for AsGiven {
-    ghost names = { λ g. given g.rank };
-
-    fn len(self) -> usize {
-        self.rank
-    }
-
-    fn axis(self, place: usize) -> usize {
-        place
-    }
-}
-
-// The axes that an order names, at most 64, and the strides of at most 8 operands that are read along them.
-// It is no Copy: a ghost field that speaks of a type parameter has none derived.
-#[derive(Drop)]
-pub struct Ordered<'a, O: Order> {
-    pub rows: Rows<'a>,
-    pub order: O,
-    pub ghost named: { Named rows.pitch rows.operands (O.names order) },
 }
 
 // ---- fusing
@@ -136,13 +78,13 @@ pub fn fuse_dims<O: Order>(extents: &mut [u64; 64], axes: Ordered<O>)
 }
 
 // The extents of a layout's axes in the order, fused, written into an array that is 0 behind them.
-pub fn fused_into(layout: Layout, order: &[usize], fused: &mut [u64; 64])
-    requires order { InOrder (length layout.extents.now) order.now }
-    requires out { blank (drop (length order.now) fused.old) ≡ true }
-    ensures { fused.new ≡ padded 64 0 (extents_in layout.entry.extents.now layout.entry.operands layout.entry.strides.now order.now) }
+pub fn fused_into<O: Order>(layout: Layout, order: O, fused: &mut [u64; 64])
+    requires order { InOrder (length layout.extents.now) (O.names order) }
+    requires out { blank (drop (length (O.names order)) fused.old) ≡ true }
+    ensures { fused.new ≡ padded 64 0 (extents_in layout.entry.extents.now layout.entry.operands layout.entry.strides.now (O.names order)) }
 {
     let rows = layout.rows();
-    arrange::pick_into(layout.extents, order, &mut *fused);
+    pick_into(layout.extents, order, &mut *fused);
     fuse_dims(&mut *fused, Ordered { rows, order });
 }
 
@@ -198,7 +140,7 @@ pub fn compress_dims<O: Order>(
 {
     let mut kept = [0u8; 64];
     let count = kept_axes_into(fused, axes.order, extents, &mut kept);
-    let picked = Picked {
+    let picked = Ordered {
         rows: axes.rows,
         order: &kept[..count],
     };
@@ -208,43 +150,24 @@ pub fn compress_dims<O: Order>(
 
 // The axes of a layout's plan, written into arrays of zeros: put into the order, fused, those of extent 1 dropped. Answers how many axes
 // there are.
-pub fn plan_axes_into(
+pub fn plan_axes_into<O: Order>(
     layout: Layout,
-    order: &[usize],
+    order: O,
     es: &mut [u64; 64],
     table: &mut [i64; 512],
 ) -> usize
-    requires order { InOrder (length layout.extents.now) order.now }
+    requires order { InOrder (length layout.extents.now) (O.names order) }
     requires zeros { (es.old ≡ replicate 64 0) × (table.old ≡ replicate 512 (pos 0)) }
-    ensures rank { result ≡ length (fused_in layout.entry.extents.now layout.entry.operands layout.entry.strides.now order.now) }
+    ensures rank { result ≡ length (fused_in layout.entry.extents.now layout.entry.operands layout.entry.strides.now (O.names order)) }
     ensures extents { es.new ≡ padded 64 0 (extents_of
-        (fused_in layout.entry.extents.now layout.entry.operands layout.entry.strides.now order.now)) }
+        (fused_in layout.entry.extents.now layout.entry.operands layout.entry.strides.now (O.names order))) }
     ensures strides { table.new ≡ stride_table
-        (fused_in layout.entry.extents.now layout.entry.operands layout.entry.strides.now order.now) layout.entry.operands }
+        (fused_in layout.entry.extents.now layout.entry.operands layout.entry.strides.now (O.names order)) layout.entry.operands }
 {
     let rows = layout.rows();
     let mut fused = [0u64; 64];
     fused_into(layout, order, &mut fused);
     compress_dims(&fused[..order.len()], Ordered { rows, order }, es, table)
-}
-
-// As `plan_axes_into`, where the axes are fused as they are given: there is no order to make, and none to read.
-pub fn given_axes_into(layout: Layout, es: &mut [u64; 64], table: &mut [i64; 512]) -> usize
-    requires zeros { (es.old ≡ replicate 64 0) × (table.old ≡ replicate 512 (pos 0)) }
-    ensures rank { result ≡ length
-        (fused_in layout.entry.extents.now layout.entry.operands layout.entry.strides.now (given (length layout.entry.extents.now))) }
-    ensures extents { es.new ≡ padded 64 0 (extents_of
-        (fused_in layout.entry.extents.now layout.entry.operands layout.entry.strides.now (given (length layout.entry.extents.now)))) }
-    ensures strides { table.new ≡ stride_table
-        (fused_in layout.entry.extents.now layout.entry.operands layout.entry.strides.now (given (length layout.entry.extents.now))) layout.entry.operands }
-{
-    let rank = layout.extents.len();
-    let rows = layout.rows();
-    let mut fused = [0u64; 64];
-    lay_into(layout.extents, &mut fused);
-    let order = AsGiven { rank };
-    fuse_dims(&mut fused, Ordered { rows, order });
-    compress_dims(&fused[..rank], Ordered { rows, order }, es, table)
 }
 
 // ---- costs
@@ -282,23 +205,18 @@ impl<'a> Column<'a> {
     fn stays(self) -> bool
         ensures { let r = self.entry.rows in result ≡ still (size_at r.strides.now r.pitch self.entry.axis) r.operands }
     {
-        for k in 0..self.rows.operands {
-            if self.size(k) != 0 {
-                return false;
-            }
-        }
-        true
+        (0..self.rows.operands).all(|k| self.size(k) == 0)
     }
 
-    // The cost of the axis, 0 where it has none. It only ranks axes, so it saturates.
-    fn cost(self) -> u64
-        ensures { let r = self.entry.rows in result ≡ cost_number (cost_of (size_at r.strides.now r.pitch self.entry.axis) r.operands) }
+    // The cost of the axis, if it has one. It only ranks axes, so it saturates.
+    fn cost(self) -> Option<u64>
+        ensures { let r = self.entry.rows in result ≡ cost_of (size_at r.strides.now r.pitch self.entry.axis) r.operands }
     {
         let size = self.least_size();
         if size == 0 {
-            return u64::from(!self.stays());
+            return (!self.stays()).then_some(1);
         }
-        size.saturating_mul(2).min(i64::MAX as u64)
+        Some(size.saturating_mul(2).min(i64::MAX as u64))
     }
 }
 
@@ -310,9 +228,10 @@ pub fn compute_costs(rows: Rows, rank: usize) -> [u64; 64]
     ensures { result ≡ padded 64 0 (costs rows.entry.strides.now rows.entry.operands rank) }
 {
     let mut found = [0u64; 64];
+    // Kept: an index, which is the column's axis, too.
     for i in 0..rank {
         let column = Column { rows, axis: i };
-        found[i] = column.cost();
+        found[i] = column.cost().unwrap_or(0);
     }
     found
 }

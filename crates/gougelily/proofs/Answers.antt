@@ -1,10 +1,12 @@
 -- The answers of the C entries, put together from what the entry called answered. Assumes nothing.
 use mathlib.Core.Path.{◌≡◌, refl, sym, ap, ◌∙◌, subst}
 use mathlib.Core.List.{List}
-use Prim.Native.Nat.{ℕ, ◌≤◌}
+use Prim.Native.Nat.{ℕ, ◌<◌, ◌≤◌, ◌^◌}
 use native.Mathlib.Omega.{arith}
 use lib.IntN.{ℤ, pos}
 use lib.ListN.{length}
+use mir.Syntax.{w64}
+use mir.Val.{of_z, to_z}
 use Rattle.strided.specs.Refusals.{negated}
 use Rattle.strided.specs.Step.{stepped, handed_block, walk_after}
 use Rattle.strided.specs.Bulk.{next_blocks, lengths_of, offsets_of, room_for, laid_on, written, several_by, SteppedMany, stepped_many}
@@ -17,9 +19,15 @@ use Rattle.strided.specs.declared.Block.{Block}
 use Rattle.strided.specs.declared.Stepped.{Stepped}
 use Rattle.strided.specs.declared.Several.{Several}
 use Rattle.strided.specs.declared.Told.{Told}
+use Rattle.std.specs.Int.Signed.{mag}
+use Rattle.laws.specs.Base.Bits.{read_back}
 use Rattle.laws.specs.Walk.Bulk.{blocks_few, blocks_none}
 use Rattle.finding.specs.Memory.{Leaves}
 use Rattle.std.specs.Prelude.{Option, None, Some, Ok, Err, Result}
+
+-- the signed number z that a call answers, read back from its bits, is what the call ensures
+pub read_code : {z n : ℤ} → mag z < 2 ^ 63 → z ≡ n → to_z w64 (of_z w64 z) ≡ n
+read_code {z} fits e = read_back z fits ∙ e
 
 -- a call's result x at an argument u, which is v
 pub called : {U X : Type 0} (f : U → X) {u v : U} {x : X} → x ≡ f u → u ≡ v → x ≡ f v

@@ -12,10 +12,7 @@ pub fn code<T, F: FnOnce(T) -> i64>(answer: Result<T, Refusal>, f: F) -> i64
     requires { ForOk answer (F.pre f) }
     ensures { Coded (F.post f) answer result }
 {
-    match answer {
-        Ok(value) => f(value),
-        Err(refusal) => negated(refusal),
-    }
+    answer.map_or_else(negated, f)
 }
 
 // 0, or the refusal's number negated.

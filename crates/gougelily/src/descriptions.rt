@@ -4,7 +4,6 @@ ghost use Rattle.numpy.specs.Numpy.{to_numpy};
 ghost use Rattle.numpy.specs.Memory.{described_at, FromNumpyMemory};
 
 use super::codes::length_code;
-use layout::negated;
 use numpy::{from_numpy, to_numpy};
 
 // What a text says: the size of an element, the rank, and extents and element strides in our order.
@@ -21,18 +20,14 @@ pub extern "C" fn gougelily_from_numpy(
         (described_at size.new rank.new extents.new strides.new)
         result }
 {
-    match from_numpy(text) {
-        Ok(said) => {
-            let es = said.extents;
-            let ss = said.strides;
-            *size = [said.size];
-            *rank = [said.rank];
-            *extents = es;
-            *strides = ss;
-            0
-        }
-        Err(refusal) => negated(refusal),
-    }
+    let said = served!(from_numpy(text));
+    let es = said.extents;
+    let ss = said.strides;
+    *size = [said.size];
+    *rank = [said.rank];
+    *extents = es;
+    *strides = ss;
+    0
 }
 
 // The text of our numbers, with its T line. It answers its length; bytes of the room behind it stay.

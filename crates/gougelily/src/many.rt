@@ -3,9 +3,8 @@ ghost use Rattle.strided.specs.Bulk.{stepped_many};
 ghost use Rattle.strided.specs.Memory.{plan_of, walk_at, walk_in, many_at, StepsMany};
 
 use bulk::step_many_on;
-use layout::{LentPlan, negated};
-use strided::Walk;
-use walk::memory::flag;
+use layout::LentPlan;
+use walk::memory::{put_walk, walk_of};
 
 // Many steps of a lent walk: as many of its next blocks as both slices have room for.
 #[unsafe(no_mangle)]
@@ -29,32 +28,13 @@ pub extern "C" fn gougelily_step_many<'a>(
         (many_at w' block_lengths.new block_offsets.new)
         result }
 {
-    let plan = match LentPlan::of(rank, operands, extents, blocks, strides) {
-        Ok(plan) => plan,
-        Err(refusal) => return negated(refusal),
-    };
-    let over = ended[0] != 0;
-    let c = *counters;
-    let o = *offsets;
-    let walk = Walk {
-        ended: over,
-        counters: c,
-        offsets: o,
-    };
-    let several = match step_many_on(&plan, walk, &mut *block_lengths, &mut *block_offsets) {
-        Ok(several) => several,
-        Err(refusal) => return negated(refusal),
-    };
+    let plan = served!(LentPlan::of(rank, operands, extents, blocks, strides));
+    let walk = walk_of(ended, counters, offsets);
+    let several = served!(step_many_on(&plan, walk, block_lengths, block_offsets));
     match several.blocks {
         None => 0,
         Some(count) => {
-            let next = several.walk;
-            let e = flag(next.ended);
-            let nc = next.counters;
-            let no = next.offsets;
-            *ended = [e];
-            *counters = nc;
-            *offsets = no;
+            put_walk(several.walk, ended, counters, offsets);
             count as i64
         }
     }

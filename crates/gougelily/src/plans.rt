@@ -5,7 +5,7 @@ ghost use Rattle.strided.specs.Plan.{planned};
 ghost use Rattle.strided.specs.Memory.{purpose_of, plan_at, Plans};
 
 use kernel::{Aim, clear_axes, plan_into};
-use layout::{check_planning, negated, purpose_of};
+use layout::{check_planning, purpose_of};
 use strided::Machine;
 
 // The plan of a layout for a purpose, on a machine of these four numbers.
@@ -39,23 +39,13 @@ pub extern "C" fn gougelily_plan<'a>(
         way,
         live,
     };
-    let layout = match check_planning(extents, sizes, strides, wanted, machine) {
-        Ok(layout) => layout,
-        Err(refusal) => return negated(refusal),
-    };
-    clear_axes(&mut *plan_extents, &mut *plan_strides);
+    let layout = served!(check_planning(extents, sizes, strides, wanted, machine));
+    clear_axes(plan_extents, plan_strides);
     let aim = Aim {
         purpose: wanted,
         machine,
     };
-    let axes = plan_into(
-        aim,
-        layout,
-        sizes,
-        &mut *plan_extents,
-        &mut *blocks,
-        &mut *plan_strides,
-    );
+    let axes = plan_into(aim, layout, sizes, plan_extents, blocks, plan_strides);
     *rank = [axes];
     *operands = [sizes.len()];
     0

@@ -3,7 +3,6 @@ ghost use Rattle.strided.specs.Machine.{machine_of};
 ghost use Rattle.summary.specs.Rows.{summarized};
 ghost use Rattle.summary.specs.Memory.{summary_at, Summarizes};
 
-use layout::negated;
 use strided::Machine;
 use summary::summarize;
 use walk::memory::flag;
@@ -38,16 +37,12 @@ pub extern "C" fn gougelily_summary<'a, 'b>(
         way,
         live,
     };
-    match summarize(extents, strides, machine, start, cells) {
-        Ok(s) => {
-            *sum = [s.sum];
-            *least = [s.least];
-            *greatest = [s.greatest];
-            *count = [s.count];
-            *nans = [s.nans];
-            *extremes = [flag(s.extremes)];
-            0
-        }
-        Err(refusal) => negated(refusal),
-    }
+    let s = served!(summarize(extents, strides, machine, start, cells));
+    *sum = [s.sum];
+    *least = [s.least];
+    *greatest = [s.greatest];
+    *count = [s.count];
+    *nans = [s.nans];
+    *extremes = [flag(s.extremes)];
+    0
 }

@@ -6,7 +6,7 @@ ghost use Rattle.views.specs.Visits.{visited};
 ghost use Rattle.views.specs.Memory.{visit_at, VisitsMemory, record_of, engineer_at, engineer_memory, student_at, student_memory};
 
 use super::codes::code;
-use layout::{negated, purpose_of};
+use layout::purpose_of;
 use views::lend;
 use views::memory::visit_into;
 use views::readers::{LentVisit, engineer_into, student_into};
@@ -45,18 +45,14 @@ pub extern "C" fn gougelily_visit<'a>(
         let u = purpose_of purpose chosen in
         VisitsMemory (visited extents.now sizes.now strides.now u p (walk_in w)) old new result }
 {
-    let lent = lend(
+    let plan = served!(lend(
         extents.len(),
         rank,
         operands,
         plan_extents,
         blocks,
-        plan_strides,
-    );
-    let plan = match lent {
-        Ok(plan) => plan,
-        Err(refusal) => return negated(refusal),
-    };
+        plan_strides
+    ));
     let some = visit_into(
         extents,
         sizes,

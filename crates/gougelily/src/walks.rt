@@ -5,25 +5,9 @@ ghost use Rattle.strided.specs.Step.{stepped};
 ghost use Rattle.strided.specs.Memory.{plan_of, walk_at, walk_in, step_at, Steps, Begins};
 
 use super::codes::code;
-use layout::{LentPlan, negated};
+use layout::LentPlan;
 use states::begin_on;
-use strided::{Refusal, Walk};
-use walk::memory::{flag, step_into};
-
-// A walk begins on the plan, once it is lent.
-fn begun(
-    rank: usize,
-    operands: usize,
-    extents: &[u64; 64],
-    blocks: &[u64; 64],
-    strides: &[i64; 512],
-    starts: &[i64],
-) -> Result<Walk, Refusal>
-    ensures { result ≡ begun_at (plan_of rank operands extents.now blocks.now strides.now) starts.now }
-{
-    let plan = LentPlan::of(rank, operands, extents, blocks, strides)?;
-    begin_on(&plan, starts)
-}
+use walk::memory::{put_walk, step_into};
 
 // A walk's beginning.
 #[unsafe(no_mangle)]
@@ -43,17 +27,10 @@ pub extern "C" fn gougelily_begin<'a>(
         (walk_at ended.new counters.new offsets.new)
         result }
 {
-    match begun(rank, operands, extents, blocks, strides, starts) {
-        Ok(walk) => {
-            let first = walk.counters;
-            let starts = walk.offsets;
-            *ended = [flag(walk.ended)];
-            *counters = first;
-            *offsets = starts;
-            0
-        }
-        Err(refusal) => negated(refusal),
-    }
+    let plan = served!(LentPlan::of(rank, operands, extents, blocks, strides));
+    let walk = served!(begin_on(&plan, starts));
+    put_walk(walk, ended, counters, offsets);
+    0
 }
 
 // One step of a lent walk.
@@ -79,10 +56,7 @@ pub extern "C" fn gougelily_step<'a>(
         let new = step_at w' block_counters.new length.new block_offsets.new block_strides.new in
         Steps (stepped p (walk_in w)) old new result }
 {
-    let plan = match LentPlan::of(rank, operands, extents, blocks, strides) {
-        Ok(plan) => plan,
-        Err(refusal) => return negated(refusal),
-    };
+    let plan = served!(LentPlan::of(rank, operands, extents, blocks, strides));
     let some = step_into(
         &plan,
         ended,

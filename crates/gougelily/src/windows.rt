@@ -2,7 +2,6 @@
 ghost use Rattle.window.specs.Window.{windowed};
 ghost use Rattle.window.specs.Memory.{Windows};
 
-use layout::negated;
 use window::{Picks, check_window, window_into};
 
 // A window of a layout: its own layout, and a shift of each operand's start.
@@ -29,19 +28,10 @@ pub extern "C" fn gougelily_window<'a>(
         counts,
         steps,
     };
-    let layout = match check_window(extents, sizes, strides, picks) {
-        Ok(layout) => layout,
-        Err(refusal) => return negated(refusal),
-    };
+    let layout = served!(check_window(extents, sizes, strides, picks));
     *window_extents = [0u64; 64];
     *window_strides = [0i64; 512];
     *shifts = [0i64; 8];
-    window_into(
-        layout,
-        picks,
-        &mut *window_extents,
-        &mut *window_strides,
-        &mut *shifts,
-    );
+    window_into(layout, picks, window_extents, window_strides, shifts);
     0
 }

@@ -1,5 +1,4 @@
 pub mod Checks
-pub mod Lightness
 pub mod Adding
 pub mod Trying
 pub mod Inserting

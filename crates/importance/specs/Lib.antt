@@ -1,2 +1,3 @@
 pub mod Checked
 pub mod Tried
+pub mod Tries

@@ -1,11 +1,11 @@
 -- Places of an array that are cleared, and a row that is taken out where it stands. Assumes nothing.
-use mathlib.Core.Path.{◌≡◌, sym, ap, ap₂, ◌∙◌}
+use mathlib.Core.Path.{◌≡◌, refl, sym, ap, ap₂, ◌∙◌}
 use mathlib.Core.List.{List, [], ◌∷◌, ◌++◌}
 use Prim.Native.Nat.{ℕ, zero, suc, ◌+◌, ◌-◌, ◌*◌, ◌≤◌, ◌<◌}
 use native.Mathlib.Nat.{zero-mul, mul_comm}
 use native.Mathlib.Omega.{arith}
-use lib.ListN.{length, take, drop, set, replicate, length-drop, take-append-drop}
-use Rattle.std.proofs.lemmas.List.Edits.{fill_from_more}
+use lib.ListN.{length, take, drop, replicate, length-drop, take-append-drop}
+use Rattle.std.specs.List.{FoldsTo}
 use lib.Seq.{paste, length-paste, take-paste, drop-paste, drop-drop, take-add, length-take-le}
 use borrow.Author.Tests.{lt-ltb, le-ltb}
 use Rattle.strided.specs.Base.{padded, over, run}
@@ -15,12 +15,13 @@ use Rattle.laws.specs.Base.Rows.{row_fits}
 use Rattle.session.specs.Session.{old_place}
 use Rattle.session.proofs.Tabling.{over_agree}
 
--- the next place that is cleared, and all of them
-module _ {A : Type 0} (z : A) (O : List A) (i : ℕ) {now : List A} where
-  pub clear_next : i < length O → now ≡ paste O 0 (replicate i z) i → set now i z ≡ paste O 0 (replicate (i + 1) z) (i + 1)
-  clear_next l e =
-      let q : i ≡ 0 + i = omega arith in
-      ap₂ (λ (o : List A) (j : ℕ). set o j z) e q ∙ fill_from_more O 0 i z (omega (arith, l))
+-- calls of what gives z each time make z at every place
+pub folds_same : {P A : Type 0} {R : P → A → P → Type 0} (z : A) (I : P → Type 0) → ((p : P) (x : A) (q : P) → I p → R p x q → (x ≡ z) × I q)
+    → (p : P) (xs : List A) (q : P) → I p → FoldsTo R p xs q → xs ≡ replicate (length xs) z
+folds_same z I next p [] q i f = refl
+folds_same z I next p (x ∷ xs) q i f =
+    let n = next p x f.0 i f.1 in
+    ap₂ (λ a r. a ∷ r) n.0 (folds_same z I next f.0 xs q n.1 f.2)
 
 -- places cleared in an array that is z from place e on
 pub cleared : {A : Type 0} (z : A) (n s e : ℕ) (l : List A) → length l ≡ n → s ≤ e → e ≤ n → l ≡ padded n z (take e l)

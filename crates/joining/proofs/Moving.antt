@@ -26,8 +26,8 @@ use Rattle.session.specs.Tables.{rows_agree, table_joined}
 use Rattle.session.specs.Made.{rows_of, ranks_in, TableOf, KeptIn, LayoutRight, Standing, given_in, begun_with, session_at, with_plan}
 use Rattle.joining.proofs.Laying.{row-added}
 use Rattle.layout.specs.declared.slices.Layout.{Layout}
-use Rattle.layout.specs.Checked.{Laid}
-use Rattle.layout.proofs.Checks.{laid_as}
+use Rattle.layout.specs.Checked.{LetThrough}
+use Rattle.layout.proofs.Checks.{through_as}
 use Rattle.session.proofs.Tabling.{zero_row, table_of, over_agree, rows-laid, table_even, table_more, table_less, exact_ranks}
 use Rattle.session.proofs.Holding.{g_operands, strides_long}
 
@@ -243,12 +243,12 @@ pub record Stands (g : Given) (n : Numbers) (E Z : List ℕ) (S : List ℤ) (R :
   pub chosen : n.chosen ≡ lead g.purpose
 
 -- as a session begins
-pub stands_begun : {g : Given} {n : Numbers} {E Z : List ℕ} {S : List ℤ} {R : List ℕ} {table : List (List ℕ)} {l : Layout} → Laid (refused_of g) g.extents g.sizes g.strides l
+pub stands_begun : {g : Given} {n : Numbers} {E Z : List ℕ} {S : List ℤ} {R : List ℕ} {table : List (List ℕ)} {l : Layout} → LetThrough (refused_of g) g.extents g.sizes g.strides l
     → n ≡ begun_with g.machine g.purpose (length g.extents) (length g.sizes)
     → E ≡ padded 64 0 g.extents → Standing (length l.extents.now) g.sizes l.strides.now Z S R table → Stands g n E Z S R table
 stands_begun {g} {n} {E} {Z} {S} {R} {table} c q e st = record {
   extents = e;
-  operands = laid_as c (λ e m s. Standing (length e) g.sizes s Z S R table) st;
+  operands = through_as c (λ e m s. Standing (length e) g.sizes s Z S R table) st;
   rank = ap (λ (x : Numbers). x.rank) q;
   many = ap (λ (x : Numbers). x.operands) q;
   machine = ap (λ (x : Numbers). x.machine) q;

@@ -5,13 +5,15 @@ ghost use Rattle.strided.specs.Ranks.{ranks};
 ghost use Rattle.session.specs.Session.{kind_of, old_place, new_place, purpose_without};
 ghost use Rattle.session.specs.Made.{Even, rows_of};
 
-use auxiliary::index_order;
+use auxiliary::index_order_into;
 use layout::Row;
 use strided::Purpose;
 
 // ---- the purpose
 
 // 0, 1 or 2, as a C program tells it.
+// Kept: a function, as `layout::{purpose_of, lead}` are: the kind is one of two numbers that tell a purpose, and a `From` into a bare number would
+// not say which of them it is.
 pub fn kind_of(purpose: Purpose) -> u64
     ensures { result ≡ kind_of purpose }
 {
@@ -66,14 +68,11 @@ pub fn put_strides(out: &mut [i64; 512], at: usize, row: &[i64])
 
 // ---- an operand leaves
 
-// Places cleared.
-// Kept: `fill` asks for a clone that cannot fail, which `Copy` does not say.
+// Places cleared. `fill` would ask for a clone that cannot fail, which `Copy` does not say.
 fn clear<T: Copy>(out: &mut [T], zero: T)
     ensures { out.new ≡ replicate (length out.old) zero }
 {
-    for place in out.iter_mut() {
-        *place = zero;
-    }
+    out.fill_with(|| zero);
 }
 
 // Row k taken out of rows of `width` places, behind which the array is all zeros; the later ones move up.
@@ -95,7 +94,7 @@ pub fn add_row(table: &mut [[u8; 64]; 8], operands: usize, row: Row)
     requires table_value { table.old ≡ padded 8 (replicate 64 0) (take operands table.old) }
     ensures { table.new ≡ padded 8 (replicate 64 0) (take operands table.old ++ (padded 64 0 (ranks row.entry.strides.now) ∷ [])) }
 {
-    table[operands] = index_order(row);
+    index_order_into(row, &mut table[operands]);
 }
 
 // A row of ranks, put behind the first `at` places of an array that is 0 from there on.
@@ -110,7 +109,8 @@ pub fn put_row(row: &[u8; 64], at: usize, out: &mut [u64; 512])
 }
 
 // The rows of ranks of the operands, one behind the other, written into an array of zeros.
-// Kept: `operands` beside a table that has rows for eight: they are read there, and written behind one another.
+// Kept: `operands` beside the table, which has rows for eight: the definition, `rows_of`, reads a table's first rows so, and the caller has the
+// table whole.
 pub fn ranks_into(table: &[[u8; 64]; 8], operands: usize, out: &mut [u64; 512])
     requires operands_bound { operands ≤ 8 }
     requires even { Even table.now }

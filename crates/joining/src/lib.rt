@@ -7,12 +7,12 @@ ghost use Rattle.session.specs.Made.{session_at, Lent};
 use kernel::Aim;
 use layout::{check_planning, lay_into};
 use moves::{add_operand, begun, clear_plan, drop_operand, grown, keep, lay_operands, shrunk};
-use session::{Laid, LentSession, Numbers, check_join, check_leave};
+use session::{LentSession, Numbers, SessionLayout, check_join, check_leave};
 use strided::Refusal;
 pub use values::{begin, join, leave};
 
-pub mod layouts;
-pub mod moves;
+mod layouts;
+mod moves;
 pub mod values;
 
 // Kept: a session's numbers and arrays are lent one by one as C lends them, and so are those that `keep` fills: a struct of `&mut` fields would
@@ -63,7 +63,7 @@ pub fn begin_lent<'a>(
         ranks,
     );
     *plan_strides = [0i64; 512];
-    let laid = Laid {
+    let laid = SessionLayout {
         numbers: begun(aim, rank, layout_sizes.len()),
         extents,
         sizes,
@@ -127,7 +127,7 @@ pub fn join_lent<'a>(
         ranks,
     );
     clear_plan(*numbers, &mut *plan_strides);
-    let laid = Laid {
+    let laid = SessionLayout {
         numbers: grown(*numbers),
         extents,
         sizes,
@@ -191,7 +191,7 @@ pub fn leave_lent<'a>(
         ranks,
     );
     clear_plan(*numbers, &mut *plan_strides);
-    let laid = Laid {
+    let laid = SessionLayout {
         numbers: shrunk(*numbers, operand),
         extents,
         sizes,

@@ -13,7 +13,7 @@ use fuse::compute_costs;
 use kernel::Aim;
 use layout::{Layout, Row, Rows, lay_into, lead, purpose_of};
 use session::kept::{axes_kept_into, blocks_kept_into, weights_kept};
-use session::{Laid, Numbers};
+use session::{Numbers, SessionLayout};
 
 // ---- the numbers
 
@@ -39,9 +39,10 @@ pub fn grown(numbers: Numbers) -> Numbers
     requires { numbers.operands < 8 }
     ensures { result ≡ with_more numbers }
 {
-    let mut after = numbers;
-    after.operands = numbers.operands + 1;
-    after
+    Numbers {
+        operands: numbers.operands + 1,
+        ..numbers
+    }
 }
 
 // Those without operand k.
@@ -50,26 +51,28 @@ pub fn shrunk(numbers: Numbers, k: u64) -> Numbers
     ensures { result ≡ with_less numbers k }
 {
     let purpose = purpose_without(k, purpose_of(numbers.purpose, numbers.chosen));
-    let mut after = numbers;
-    after.purpose = kind_of(purpose);
-    after.chosen = lead(purpose);
-    after.operands = numbers.operands - 1;
-    after
+    Numbers {
+        purpose: kind_of(purpose),
+        chosen: lead(purpose),
+        operands: numbers.operands - 1,
+        ..numbers
+    }
 }
 
 // Those with the plan's rank and operands.
 fn planned(numbers: Numbers, axes: usize) -> Numbers
     ensures { result ≡ with_plan numbers axes }
 {
-    let mut after = numbers;
-    after.plan_rank = axes;
-    after.plan_operands = numbers.operands;
-    after
+    Numbers {
+        plan_rank: axes,
+        plan_operands: numbers.operands,
+        ..numbers
+    }
 }
 
 // ---- the layout
 
-// A layout's operands, laid into a session's arrays, and the table of their ranks.
+// A layout's operands, laid into a session's arrays, and the table of their ranks, which is lent as zeros.
 pub fn lay_operands<'a>(
     layout: Layout<'a>,
     layout_sizes: &'a [u64],
@@ -78,7 +81,8 @@ pub fn lay_operands<'a>(
     strides: &mut [i64; 512],
     ranks: &mut [u64; 512],
 )
-    requires { layout.operands ≡ length layout_sizes.now }
+    requires operands { layout.operands ≡ length layout_sizes.now }
+    requires table_value { table.old ≡ replicate 8 (replicate 64 0) }
     ensures { Standing (length layout.entry.extents.now) layout_sizes.now layout.entry.strides.now sizes.new strides.new ranks.new table.new }
 {
     *sizes = [0u64; 8];
@@ -151,7 +155,7 @@ pub fn clear_plan(numbers: Numbers, plan_strides: &mut [i64; 512])
 // Weights, costs and plan of the layout that stands in a session's arrays, from the table of its ranks. The strides of a plan are lent as
 // zeros. The session's numbers are answered.
 pub fn keep(
-    laid: &Laid,
+    laid: &SessionLayout,
     table: &[[u8; 64]; 8],
     weights: &mut [u64; 64],
     costs: &mut [u64; 64],
@@ -176,7 +180,8 @@ pub fn keep(
         operands: numbers.operands,
     };
     *costs = compute_costs(rows, axes);
-    let after = Laid {
+    // Kept: `..*laid` is refused by the compiler in a literal of a struct with ghost fields.
+    let after = SessionLayout {
         numbers,
         extents: laid.extents,
         sizes: laid.sizes,

@@ -1,28 +1,12 @@
 // The entries by value: a session is taken and returned. Its arrays are lent to the call where they lie, and its numbers put back behind it.
 ghost use Rattle.std.specs.Prelude.{◌≡◌};
-ghost use Rattle.session.specs.Session.{given, begun as begunOf, joined as joinedOf, left as left_of};
-ghost use Rattle.session.specs.Made.{session_at, numbers_of};
+ghost use Rattle.session.specs.Session.{given, begun as begun_of, joined as joined_of, left as left_of};
+ghost use Rattle.session.specs.Made.{session_at};
 
 use super::{begin_lent, join_lent, leave_lent};
 use kernel::Aim;
 use session::{Numbers, Session};
 use strided::{Plan, Refusal};
-
-// The numbers of a session.
-fn numbers_of(session: &Session) -> Numbers
-    ensures { result ≡ numbers_of session.now }
-{
-    let plan = &session.plan;
-    Numbers {
-        purpose: session.purpose,
-        chosen: session.chosen,
-        machine: session.machine,
-        rank: session.rank,
-        operands: session.operands,
-        plan_rank: plan.rank,
-        plan_operands: plan.operands,
-    }
-}
 
 // Numbers, put back into a session.
 fn put_numbers(session: &mut Session, numbers: Numbers)
@@ -45,7 +29,7 @@ pub fn begin<'a>(
     layout_sizes: &'a [u64],
     layout_strides: &'a [i64],
 ) -> Result<Session, Refusal>
-    ensures { result ≡ begunOf (given aim.machine layout_extents.now layout_sizes.now layout_strides.now aim.purpose) }
+    ensures { result ≡ begun_of (given aim.machine layout_extents.now layout_sizes.now layout_strides.now aim.purpose) }
 {
     let plan = Plan {
         rank: 0,
@@ -68,7 +52,7 @@ pub fn begin<'a>(
         costs: [0; 64],
         plan,
     };
-    let mut numbers = numbers_of(&fresh);
+    let mut numbers = Numbers::from(&fresh);
     begin_lent(
         aim,
         &mut numbers,
@@ -91,10 +75,10 @@ pub fn begin<'a>(
 
 // AN OPERAND JOINS a session: rows 10, 20, 3, 6.
 pub fn join(session: Session, size: u64, joining: &[i64]) -> Result<Session, Refusal>
-    ensures { result ≡ joinedOf session size joining.now }
+    ensures { result ≡ joined_of session size joining.now }
 {
     let mut after = session;
-    let mut numbers = numbers_of(&after);
+    let mut numbers = Numbers::from(&after);
     let lent = &mut after;
     join_lent(
         &mut numbers,
@@ -115,12 +99,12 @@ pub fn join(session: Session, size: u64, joining: &[i64]) -> Result<Session, Ref
 }
 
 // OPERAND `operand` LEAVES a session, and the later ones move up: rows 10, 21.
-// Kept: beside `join`, which differs in one call: a closure over its eleven lent places, with its contract, is no plainer.
+// Kept: beside `join`, which differs in one call: a closure over its ten lent places, with its contract, is no plainer.
 pub fn leave(session: Session, operand: u64) -> Result<Session, Refusal>
     ensures { result ≡ left_of session operand }
 {
     let mut after = session;
-    let mut numbers = numbers_of(&after);
+    let mut numbers = Numbers::from(&after);
     let lent = &mut after;
     leave_lent(
         &mut numbers,

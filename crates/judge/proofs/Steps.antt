@@ -1,7 +1,7 @@
 -- What single turns of the loops do: tests over a range, Horner, the product of extents, and a buffer swept to 0.
 -- Assumes nothing.
 use mathlib.Core.Path.{◌≡◌, refl, sym, ap, ap₂, ◌∙◌}
-use mathlib.Core.Bool.{Bool, true, false}
+use mathlib.Core.Bool.{Bool, false}
 use mathlib.Core.List.{List, [], ◌∷◌}
 use Prim.Native.Nat.{ℕ, zero, suc, ◌+◌, ◌*◌, ◌≤◌, ◌<◌}
 use native.Mathlib.Nat.{zero-add, mul_assoc, mul-le-mul_left, mul-le-mul_right}
@@ -20,10 +20,6 @@ use Rattle.judge.specs.Laying.{place, step_of}
 use Rattle.judge.proofs.Places.{place-below}
 
 -- ---- tests over a range
-
-pub every_none : (t : ℕ → Bool) → every t 0 0 ≡ true
-unfolding every
-every_none t = refl
 
 pub every_fails_at : (t : ℕ → Bool) (n k : ℕ) → k < n → t k ≡ false → every t 0 n ≡ false
 every_fails_at t n k h e = every_fails t 0 n k h (ap t (zero-add k) ∙ e)

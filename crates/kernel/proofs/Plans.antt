@@ -27,10 +27,11 @@ use Rattle.laws.specs.Refusals.Zeros.{no_zero_test}
 use Rattle.laws.specs.Plan.Answers.{planned_served}
 use Rattle.laws.specs.Plan.Bounds.{plan_few, array_small, array_near}
 use Rattle.layout.specs.Lent.{Whole}
-use Rattle.layout.specs.Checked.{Laid}
+use Rattle.layout.specs.Checked.{LetThrough}
 use Rattle.layout.specs.declared.slices.Layout.{Layout}
-use Rattle.layout.proofs.Checks.{laid_as, as_laid}
-use Rattle.fuse.specs.Planned.{given, fused_in}
+use Rattle.layout.proofs.Checks.{through_as, as_through}
+use Rattle.arrange.specs.Axes.{given}
+use Rattle.fuse.specs.Planned.{fused_in}
 use Rattle.model.specs.Plannable.{Plannable}
 use Rattle.kernel.specs.Made.{Made}
 use Rattle.strided.specs.declared.Refusal.{Refusal}
@@ -97,12 +98,12 @@ pub serves : (mc : Machine) (es sizes : List ℕ) (ss : List ℤ) (u : Purpose) 
 serves mc es sizes ss u h rank E B S m = ap (λ (p : Plan). Ok p) m.is ∙ sym (planned_served mc es sizes ss u h)
 
 -- a layout that planning does not refuse may be planned, and its plan is that of its slices
-module _ (mc : Machine) (es sizes : List ℕ) (ss : List ℤ) (u : Purpose) {l : Layout} (c : Laid (planning_refused mc es sizes ss u) es sizes ss l) where
-  pub laid-accepted : Accepted l.extents.now sizes l.strides.now u
-  laid-accepted = as_laid c (λ e m s. Accepted e sizes s u) (accepted es sizes ss u (planning_layout mc es sizes ss u c.served))
+module _ (mc : Machine) (es sizes : List ℕ) (ss : List ℤ) (u : Purpose) {l : Layout} (c : LetThrough (planning_refused mc es sizes ss u) es sizes ss l) where
+  pub through-accepted : Accepted l.extents.now sizes l.strides.now u
+  through-accepted = as_through c (λ e m s. Accepted e sizes s u) (accepted es sizes ss u (planning_layout mc es sizes ss u c.served))
 
-  pub laid-made : {rank : ℕ} {E B : List ℕ} {S : List ℤ} → Made mc l.extents.now sizes l.strides.now u rank E B S → Made mc es sizes ss u rank E B S
-  laid-made {rank} {E} {B} {S} = laid_as c (λ e m s. Made mc e sizes s u rank E B S)
+  pub through-made : {rank : ℕ} {E B : List ℕ} {S : List ℤ} → Made mc l.extents.now sizes l.strides.now u rank E B S → Made mc es sizes ss u rank E B S
+  through-made {rank} {E} {B} {S} = through_as c (λ e m s. Made mc e sizes s u rank E B S)
 
 -- it may be lent
 module _ (mc : Machine) (es sizes : List ℕ) (ss : List ℤ) (u : Purpose) (h : planning_refused mc es sizes ss u ≡ None) where

@@ -11,7 +11,8 @@ ghost use Rattle.strided.specs.Plan.{stride_table, planned};
 ghost use Rattle.laws.specs.Refusals.Accepted.{Accepted};
 ghost use Rattle.kernel.specs.Made.{Zeros, Made};
 
-use fuse::{given_axes_into, plan_axes_into};
+use arrange::AsGiven;
+use fuse::plan_axes_into;
 use layout::{Layout, check_planning, total_at_most};
 use model::block_sizes_into;
 use order::{SMALL_TENSOR_THRESHOLD, fusing_order_into};
@@ -20,6 +21,8 @@ use strided::{Machine, Plan, Purpose, Refusal};
 
 // Kept: a plan's arrays are lent as zeros, one by one: who lends them has cleared them already, and a struct of `&mut` fields would say in each
 // contract of each that it is lent on.
+// Kept: who plans for a use of its own (text, export, summary) has three arrays, an aim and the plan that lends them one behind the other. A
+// function over a closure for what comes behind would ask of it, for every plan that `Made` allows, what each of the three does: list, copy, sum.
 
 // What a plan is for: layout, purpose and record alone fix the plan.
 #[derive(Clone, Copy)]
@@ -77,7 +80,10 @@ pub fn plan_into<'a>(
         result es.new blocks.new table.new }
 {
     if total_at_most(layout.extents, SMALL_TENSOR_THRESHOLD) {
-        let rank = given_axes_into(layout, &mut *es, &mut *table);
+        let order = AsGiven {
+            rank: layout.extents.len(),
+        };
+        let rank = plan_axes_into(layout, order, &mut *es, &mut *table);
         *blocks = *es;
         return rank;
     }

@@ -6,13 +6,23 @@
 
 ghost use Rattle.std.specs.Prelude.{◌≡◌, ◌<◌, ◌≤◌, min, length, get_or, set};
 ghost use Rattle.strided.specs.Fit.{fitted};
-ghost use Rattle.l1.specs.Live.{top, Live, Of, product_by, load_by, enters_by, most_by, chosen_size};
+ghost use Rattle.l1.specs.Live.{top, within, Live, Of, product_by, load_by, enters_by, most_by, chosen_size};
 
 use region::Cut;
 
 mod live;
 
 pub use live::LiveAxes;
+
+impl LiveAxes {
+    // Whether axis i brings lines into one set.
+    fn alias_at(self, i: usize) -> bool
+        requires { i < 64 }
+        ensures { result ≡ within self.aliased i }
+    {
+        (self.aliased >> i) % 2 == 1
+    }
+}
 
 #[derive(Clone, Copy)]
 pub struct L1Sets {
@@ -72,8 +82,9 @@ impl L1Sets {
         ensures { result ≡ min (product_by live blocks.now live.count) top }
     {
         let mut m = u64::from(0 < live.count);
+        // Kept: an index, which is the axis's bit, too.
         for i in 0..live.count {
-            if (live.aliased >> i) % 2 == 1 {
+            if live.alias_at(i) {
                 m = m.saturating_mul(blocks[i]).min(Self::TOP);
             }
         }
@@ -104,7 +115,7 @@ impl L1Sets {
         requires { i < 64 }
         ensures { result ≡ enters_by self i }
     {
-        (self.first.aliased >> i) % 2 == 1 || (self.second.aliased >> i) % 2 == 1
+        self.first.alias_at(i) || self.second.alias_at(i)
     }
 
     // The block of axis i is put at the greatest up to `whole` with load at most the live lines, where block 1 has one.

@@ -18,7 +18,7 @@ use Rattle.strided.specs.Refusals.{some_operand}
 use Rattle.std.proofs.lemmas.Nat.{pow_pos}
 use Rattle.laws.specs.Base.Tests.{and_both}
 use Rattle.laws.specs.Refusals.Operands.{some_of_none}
-use Rattle.layout.specs.Laid.{row_at, far_at}
+use Rattle.layout.specs.Rows.{row_at, far_at}
 use Rattle.layout.specs.Near.{all_below}
 
 -- ---- what lies above a bound

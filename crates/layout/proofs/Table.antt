@@ -16,7 +16,7 @@ use Rattle.strided.specs.declared.Refusal.{Refusal}
 use Rattle.strided.specs.declared.Refusal.TheVariants.{Record}
 use Rattle.laws.specs.Refusals.Rows.{rows_refuse, rows_pass}
 use Rattle.layout.specs.declared.slices.Layout.{Layout}
-use Rattle.layout.specs.Checked.{Laid}
+use Rattle.layout.specs.Checked.{LetThrough}
 
 -- ---- row 24
 
@@ -30,7 +30,7 @@ allowed_is mc p q r s = λ i. p i && (q i && (r i && s i))
 -- ---- rows 1 to 4, then the others
 
 -- the spans of a layout that rows 1 to 4 let through
-module _ (es sizes : List ℕ) (ss : List ℤ) (u : Purpose) {l : Layout} (c : Laid (refused_by (count_rows es sizes ss u)) es sizes ss l) where
+module _ (es sizes : List ℕ) (ss : List ℤ) (u : Purpose) {l : Layout} (c : LetThrough (refused_by (count_rows es sizes ss u)) es sizes ss l) where
   abbrev spans_of : List ℕ → ℕ → List ℤ → List Row
   spans_of es operands ss = row5 es ∷ row6 es operands (stride_row ss (length es)) ∷ []
 

@@ -8,10 +8,10 @@ use lib.Dec.{ltb}
 use lib.IntN.{ℤ}
 use borrow.Author.Tests.{lt-ltb, le-ltb, ltb-true, ltb-false}
 use Rattle.strided.specs.Layout.{reach, max_i}
-use Rattle.layout.specs.Laid.{row_at, far_at}
+use Rattle.layout.specs.Rows.{row_at, far_at}
 
 -- a number and what 2^63 leaves of it are on the same side of 2^63 - 1
-pub far-same : (n r : ℕ) → r ≡ min n (2 ^ 63) → ltb max_i r ≡ ltb max_i n
+far-same : (n r : ℕ) → r ≡ min n (2 ^ 63) → ltb max_i r ≡ ltb max_i n
 far-same n r h = go (ltb max_i n) refl
   where
     go : (b : Bool) → ltb max_i n ≡ b → ltb max_i r ≡ b

@@ -4,7 +4,7 @@ use Rattle.strided.specs.declared.Refusal.{Refusal}
 use Rattle.layout.specs.declared.slices.Layout.{Layout}
 
 -- its extents and strides, and an operand for each size; nothing refuses it
-pub record Laid (refused : Option Refusal) (es sizes : List ℕ) (ss : List ℤ) (l : Layout) : Type 0 where
+pub record LetThrough (refused : Option Refusal) (es sizes : List ℕ) (ss : List ℤ) (l : Layout) : Type 0 where
   pub served : refused ≡ None
   pub extents : l.extents.now ≡ es
   pub strides : l.strides.now ≡ ss
@@ -12,4 +12,4 @@ pub record Laid (refused : Option Refusal) (es sizes : List ℕ) (ss : List ℤ)
 
 -- the layout is handed out exactly if nothing refuses it
 abbrev pub Checked : Option Refusal → List ℕ → List ℕ → List ℤ → Result Layout Refusal → Type 0
-Checked refused es sizes ss r = MatchResult r (Laid refused es sizes ss) (λ q. refused ≡ Some q)
+Checked refused es sizes ss r = MatchResult r (LetThrough refused es sizes ss) (λ q. refused ≡ Some q)

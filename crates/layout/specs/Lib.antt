@@ -3,6 +3,6 @@ pub mod Below
 pub mod Checked
 pub mod Fitting
 pub mod Held
-pub mod Laid
 pub mod Lent
 pub mod Near
+pub mod Rows

@@ -85,15 +85,7 @@ pub fn all_zero<N: Number>(numbers: &[N]) -> bool
 pub fn within(extents: &[u64], index: &[u64]) -> bool
     ensures { result ≡ within extents.now index.now }
 {
-    if index.len() != extents.len() {
-        return false;
-    }
-    for i in 0..extents.len() {
-        if index[i] >= extents[i] {
-            return false;
-        }
-    }
-    true
+    index.len() == extents.len() && index.iter().zip(extents).all(|(at, extent)| at < extent)
 }
 
 // The first of the places at which a number is below its bound.
@@ -101,10 +93,5 @@ pub fn first_below<'a>(numbers: &'a [u64], bounds: &'a [u64]) -> Option<usize>
     requires { length numbers.now ≡ length bounds.now }
     ensures { FirstBelow numbers.now bounds.now result }
 {
-    for (i, n) in numbers.iter().enumerate() {
-        if *n < bounds[i] {
-            return Some(i);
-        }
-    }
-    None
+    numbers.iter().zip(bounds).position(|(n, bound)| n < bound)
 }

@@ -56,19 +56,6 @@ impl<'a> LentPlan<'a> {
         })
     }
 
-    // The same of a plan as it is.
-    pub fn of_plan(plan: &'a Plan) -> Result<LentPlan<'a>, Refusal>
-        ensures { result ≡ lent plan.now }
-    {
-        LentPlan::of(
-            plan.rank,
-            plan.operands,
-            &plan.extents,
-            &plan.blocks,
-            &plan.strides,
-        )
-    }
-
     // Its extents, one for each axis.
     pub fn axes(&self) -> &'a [u64]
         ensures value { result.now ≡ plan_extents self.now }
@@ -100,5 +87,22 @@ impl<'a> LentPlan<'a> {
             operands: self.operands,
         };
         reach_over(self.axes(), rows)
+    }
+}
+
+// A plan as it is, lent by the same rows.
+impl<'a> TryFrom<&'a Plan> for LentPlan<'a> {
+    type Error = Refusal;
+
+    ghost try_from_gives = { λ p r. r ≡ lent p.now };
+
+    fn try_from(plan: &'a Plan) -> Result<LentPlan<'a>, Refusal> {
+        LentPlan::of(
+            plan.rank,
+            plan.operands,
+            &plan.extents,
+            &plan.blocks,
+            &plan.strides,
+        )
     }
 }

@@ -30,6 +30,7 @@ pub use sizes::{has_zero, total_at_most, total_len};
 pub use slices::{Layout, Row, Rows, lay_into};
 
 // The number of a refusal in document 01's table.
+// Kept: a function. An `impl From<Refusal> for u64` could stand in strided alone, which holds types and definitions and no code.
 pub fn number(refusal: Refusal) -> u64
     ensures { result ≡ number refusal }
 {

@@ -5,7 +5,7 @@ ghost use Rattle.strided.specs.Machine.{line_allowed, allowed};
 ghost use Rattle.strided.specs.Base.{some_of};
 ghost use Rattle.strided.specs.Layout.{reach};
 ghost use Rattle.strided.specs.Refusals.{row1, row2, row3, row4, row5, row6};
-ghost use Rattle.layout.specs.Laid.{row_at, far_at};
+ghost use Rattle.layout.specs.Rows.{row_at, far_at};
 
 use super::sizes::{has_zero, reach_of, total_len};
 use super::slices::Rows;
@@ -74,17 +74,20 @@ pub fn total_over(extents: &[u64]) -> bool
     total_len(extents).is_none()
 }
 
-// Whether some operand's reach is above 2^63 - 1.
+// Whether operand k's reach is above 2^63 - 1.
+fn far_at(extents: &[u64], rows: Rows, k: usize) -> bool
+    requires { (k < rows.operands) × (length extents.now ≤ rows.pitch) }
+    ensures { result ≡ far_at extents.now (row_at extents.now rows.entry.strides.now rows.entry.pitch) k }
+{
+    reach_of(extents, rows.row(k, extents.len())) > i64::MAX as u64
+}
+
+// Whether some operand's is.
 fn some_far(extents: &[u64], rows: Rows) -> bool
     requires { length extents.now ≤ rows.pitch }
     ensures { result ≡ some_of (far_at extents.now (row_at extents.now rows.entry.strides.now rows.entry.pitch)) 0 rows.entry.operands }
 {
-    for k in 0..rows.operands {
-        if reach_of(extents, rows.row(k, extents.len())) > i64::MAX as u64 {
-            return true;
-        }
-    }
-    false
+    (0..rows.operands).any(|k| far_at(extents, rows, k))
 }
 
 // Row 6.

@@ -3,7 +3,7 @@ ghost use Rattle.std.specs.Prelude.{◌≡◌, ◌+◌, ◌-◌, ◌*◌, ◌^�
 ghost use Rattle.strided.specs.Layout.{total, has_zero, reach};
 ghost use Rattle.layout.specs.Held.{held, times_of};
 
-// The product, or the cap where that is less. The first test is the machine's own for a product that is too large: no division is left of it.
+// The product, or the cap where that is less.
 pub fn mul_cap(a: u64, b: u64, cap: u64) -> u64
     ensures { result ≡ min (a * b) cap }
 {
@@ -69,12 +69,8 @@ pub fn reach_of<'a>(extents: &'a [u64], strides: &'a [i64]) -> u64
     ensures { result ≡ min (reach extents.now strides.now) (2 ^ 63) }
 {
     let mut sum: u64 = 0;
-    for i in 0..extents.len() {
-        let way = mul_cap(
-            extents[i].saturating_sub(1),
-            strides[i].unsigned_abs(),
-            REACH_CAP,
-        );
+    for (extent, stride) in extents.iter().zip(strides) {
+        let way = mul_cap(extent.saturating_sub(1), stride.unsigned_abs(), REACH_CAP);
         sum = add_cap(sum, way, REACH_CAP);
     }
     sum

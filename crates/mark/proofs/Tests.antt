@@ -12,7 +12,7 @@ use borrow.Author.Tests.{ltb-false}
 use Rattle.strided.specs.Base.{some_of}
 use Rattle.strided.specs.Layout.{has_zero, reach, max_i}
 use Rattle.strided.specs.Refusals.{row6}
-use Rattle.layout.specs.Laid.{row_at}
+use Rattle.layout.specs.Rows.{row_at}
 use Rattle.laws.specs.Refusals.Rows.{unless-passes}
 
 some_one : (t : ℕ → Bool) → some_of t 0 1 ≡ t 0

@@ -1,11 +1,11 @@
 // What zero strides and stride sizes tell of an operand, whatever its total: the quick yes and the quick no.
-ghost use Rattle.std.specs.Prelude.{◌≡◌, ◌↔◌, true, cond, ◌&&◌, ◌-◌, ◌*◌, ◌<◌, ◌≤◌, ltb, leb, eqb, nat_abs, length};
+ghost use Rattle.std.specs.Prelude.{◌≡◌, ◌↔◌, true, cond, ◌&&◌, ◌-◌, ◌*◌, ◌<◌, ltb, leb, eqb, pos, nat_abs, length, get_or};
 ghost use Rattle.strided.specs.Base.{some_of};
-ghost use Rattle.strided.specs.Layout.{max_i};
 ghost use Rattle.strided.specs.Mark.{stays_at, rises};
 ghost use Rattle.laws.specs.Mark.Sizes.{reach_up_to, ClearAt};
 
 use distinct::Operand;
+use layout::Along;
 
 // Whether an axis has more than one index and none of them moves.
 fn stays(extent: u64, stride: i64) -> bool
@@ -18,22 +18,28 @@ fn stays(extent: u64, stride: i64) -> bool
 pub fn some_stays(operand: Operand) -> bool
     ensures { result ≡ some_of (stays_at operand.entry.extents.now operand.entry.strides.now) 0 (length operand.entry.extents.now) }
 {
-    for i in 0..operand.extents.len() {
-        if stays(operand.extents[i], operand.strides[i]) {
-            return true;
-        }
+    (0..operand.extents.len()).any(|i| stays(operand.extents[i], operand.strides[i]))
+}
+
+// The operand along axis i.
+fn along(operand: Operand, i: usize) -> Along
+    requires { i < length operand.extents.now }
+    ensures extent { result.extent ≡ get_or operand.entry.extents.now i 0 }
+    ensures stride { result.stride ≡ get_or operand.entry.strides.now i (pos 0) }
+{
+    Along {
+        extent: operand.extents[i],
+        stride: operand.strides[i],
     }
-    false
 }
 
 // An axis's part of the reach, if its stride's size is at most b.
-fn part_up_to(extent: u64, stride: i64, b: u64) -> u64
-    requires { (extent - 1) * nat_abs stride ≤ max_i }
-    ensures { result ≡ cond (leb (nat_abs stride) b) ((extent - 1) * nat_abs stride) 0 }
+fn part_up_to(along: Along, b: u64) -> u64
+    requires { 0 < along.extent }
+    ensures { result ≡ cond (leb (nat_abs along.stride) b) ((along.extent - 1) * nat_abs along.stride) 0 }
 {
-    let size = stride.unsigned_abs();
-    if size <= b {
-        extent.saturating_sub(1) * size
+    if along.stride.unsigned_abs() <= b {
+        along.way()
     } else {
         0
     }
@@ -45,7 +51,7 @@ fn reach_up_to(operand: Operand, b: u64) -> u64
 {
     let mut sum: u64 = 0;
     for i in (0..operand.extents.len()).rev() {
-        sum += part_up_to(operand.extents[i], operand.strides[i], b);
+        sum += part_up_to(along(operand, i), b);
     }
     sum
 }
@@ -55,12 +61,12 @@ fn is_clear(operand: Operand, i: usize) -> bool
     requires { i < length operand.extents.now }
     ensures { (result ≡ true) ↔ ClearAt operand.entry.extents.now operand.entry.strides.now i }
 {
-    let extent = operand.extents[i];
-    if extent <= 1 {
+    let axis = along(operand, i);
+    if axis.extent <= 1 {
         return true;
     }
-    let size = operand.strides[i].unsigned_abs();
-    reach_up_to(operand, size) < (extent - 1) * size + size
+    let size = axis.stride.unsigned_abs();
+    reach_up_to(operand, size) < axis.way() + size
 }
 
 // Whether by rising stride size over the axes of extent above 1 each stride size exceeds the reach of those before it. No order is
@@ -68,10 +74,5 @@ fn is_clear(operand: Operand, i: usize) -> bool
 pub fn rising(operand: Operand) -> bool
     ensures { result ≡ rises operand.entry.extents.now operand.entry.strides.now }
 {
-    for i in 0..operand.extents.len() {
-        if !is_clear(operand, i) {
-            return false;
-        }
-    }
-    true
+    (0..operand.extents.len()).all(|i| is_clear(operand, i))
 }

@@ -1,5 +1,5 @@
 // The blocks of a plan whose total is above 1,024: the model's exits that keep every axis whole, cutting, declining, and the L1 fit of a
-// copy. Strides and byte strides stand in flat tables, operand k's for axis i at place k * 64 + i. A byte stride may have two words; the table
+// copy. Strides and byte strides stand in flat tables, operand k's for axis i at place k * 64 + i. A byte stride may pass 64 bits; the table
 // holds a number of 32 bits that no rule of cutting or fitting tells from it.
 #![tactic(auto)]
 
@@ -35,11 +35,10 @@ fn put_bytes(machine: AllowedMachine, operand: Operand, table: &mut [u32; 512])
     requires { let a = operand.axes in table.old ≡ byte_rows machine.numbers a.sizes.now a.strides.now a.rank operand.k }
     ensures { let o = operand.entry in let a = o.axes in table.new ≡ byte_rows machine.numbers a.sizes.now a.strides.now a.rank (o.k + 1) }
 {
-    let size = operand.axes.sizes[operand.k];
+    let size = operand.size();
     let from = operand.k * 64;
     for i in 0..operand.axes.rank {
-        let t = operand.axes.strides[from + i];
-        table[from + i] = byte_image(machine, t.unsigned_abs(), size);
+        table[from + i] = byte_image(machine, operand.stride_size(i), size);
     }
 }
 
@@ -58,32 +57,25 @@ fn strictly_increasing(operand: Operand) -> bool
     requires { 0 < operand.axes.rank }
     ensures { let o = operand.entry in result ≡ increasing o.axes.strides.now o.axes.rank o.k }
 {
-    let from = operand.k * 64;
-    let mut last = operand.axes.strides[from].unsigned_abs();
-    if last == 0 {
-        return false;
-    }
-    for i in 1..operand.axes.rank {
-        let m = operand.axes.strides[from + i].unsigned_abs();
-        if m <= last {
-            return false;
-        }
-        last = m;
-    }
-    true
+    0 < operand.stride_size(0)
+        && (0..operand.axes.rank - 1).all(|i| operand.stride_size(i) < operand.stride_size(i + 1))
 }
 
-// Whether every operand has a size above 0 and strictly growing strides: then every axis is innermost in its turn, and none is cut.
+// Whether operand k has a size above 0 and strictly growing strides.
+fn grows(axes: Axes, k: usize) -> bool
+    requires { (0 < axes.rank) × (k < length axes.sizes.now) }
+    ensures { let a = axes.entry in result ≡ grows a.sizes.now a.strides.now a.rank k }
+{
+    let operand = Operand { axes, k };
+    0 < operand.size() && strictly_increasing(operand)
+}
+
+// Whether every operand does: then every axis is innermost in its turn, and none is cut.
 fn all_grow(axes: Axes) -> bool
     requires { 0 < axes.rank }
     ensures { let a = axes.entry in result ≡ every (grows a.sizes.now a.strides.now a.rank) 0 (length a.sizes.now) }
 {
-    for k in 0..axes.sizes.len() {
-        if axes.sizes[k] == 0 || !strictly_increasing(Operand { axes, k }) {
-            return false;
-        }
-    }
-    true
+    (0..axes.sizes.len()).all(|k| grows(axes, k))
 }
 
 // Whether no axis is cut whatever the extents: there is none, or every operand's strides grow. This takes no table.

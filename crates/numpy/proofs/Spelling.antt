@@ -1,16 +1,20 @@
--- The text that goes back, by its three lines: its length, and what becomes of the room.
+-- The text that goes back, by its three lines, and what becomes of the room.
 -- Assumes nothing.
-use mathlib.Core.Path.{◌≡◌, sym, ap, ap₂, ◌∙◌}
+use mathlib.Core.Path.{◌≡◌, ap₂}
 use mathlib.Core.List.{List, [], ◌∷◌, ◌++◌, append-nil}
-use Prim.Native.Nat.{ℕ, ◌+◌}
-use native.Mathlib.Omega.{arith}
+use Prim.Native.Nat.{ℕ, ◌+◌, ◌≤◌}
 use lib.IntN.{ℤ}
-use lib.ListN.{length, length-append}
+use lib.ListN.{length, drop}
+use Rattle.std.specs.Prelude.{Option, None, Some}
+use Rattle.writing.specs.Put.{Wrote}
+use Rattle.writing.specs.Putting.{wrote_first}
+use Rattle.writing.specs.Sink.{Goes}
+use Rattle.writing.specs.declared.sink.Place.{Place}
 use Rattle.strided.specs.Base.{over}
 use Rattle.strided.specs.Refusals.{refused_by}
-use Rattle.strided.specs.Text.{field, signed_field, line_of, Listing, listing_or, row14}
+use Rattle.strided.specs.Text.{field, line_of, Listing, listing_or, row14}
 use Rattle.writing.specs.Line.{fields_of}
-use Rattle.writing.proofs.Lines.{line_length, figures_fields}
+use Rattle.writing.proofs.Lines.{figures_fields}
 use Rattle.numpy.specs.Readers.{spelled}
 
 -- the lines as they are put
@@ -28,23 +32,13 @@ unfolding spelled
 spelled_parts size es ts =
     ap₂ (λ (x y : List ℕ). line_of 78 x ++ (line_of 83 y ++ bytes_of ts)) (figures_fields size (length es)) (append-nil (over es field))
 
-pub spelled-length : (size : ℕ) (es : List ℕ) (ts : List ℤ) → length (spelled size es ts) ≡ length (head_of size es) + length (shape_of es) + length (bytes_of ts)
-spelled-length size es ts =
-    let a = length-append (head_of size es) (shape_of es ++ bytes_of ts) in
-    let b = length-append (shape_of es) (bytes_of ts) in
-    sym (ap length (spelled_parts size es ts)) ∙ omega (arith, a, b)
-
--- as it is measured
-pub spelled_measure : (size : ℕ) (es : List ℕ) (ts : List ℤ)
-    → length (spelled size es ts) ≡ 6 + length (over (size ∷ length es ∷ []) field) + length (over es field) + length (over ts signed_field)
-spelled_measure size es ts =
-    let a = line_length 78 (size ∷ length es ∷ []) [] in
-    let b = line_length 83 es [] in
-    let c = line_length 84 [] ts in
-    let t = spelled-length size es ts in
-    omega (arith, a, b, c, t)
-
 -- row 14
 module _ (t room : List ℕ) where
   abbrev pub Listed : Listing
   Listed = listing_or (refused_by (row14 t (length room) ∷ [])) t room
+
+-- what is written from the first byte on
+pub written : (out t new : List ℕ) (r : Option Place)
+    → Goes {S = Place} (λ s o u s' o'. (s.at + length u ≤ length o) × Wrote o s.at u o' s'.at) (λ s u. ⊥) (record { at = 0 }) out t new r → new ≡ t ++ drop (length t) out
+written out t new None g = absurd g
+written out t new (Some s') g = (wrote_first g.1).1

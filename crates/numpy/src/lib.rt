@@ -27,6 +27,11 @@ pub struct Described {
     pub strides: [i64; 64],
 }
 
+// Kept: here and below, `rank` beside the arrays. Row 19 comes before row 1 and is asked of all numbers, so a rank travels on that the arrays
+// have no places for, and no slice of them says it.
+// Kept: two ends that are alike. Row 1 stands between what differs, row 19 and the strides; a function for the last line would be handed each of
+// the numbers that it puts together.
+
 // A description without T, whose shape stands in front of `row` and, as far as there are places, in `shape`.
 fn from_packed(row: &[u8], size: u64, rank: usize, shape: &[u64; 64]) -> Result<Described, Refusal>
     requires { ShapeAt row.now rank shape.now }

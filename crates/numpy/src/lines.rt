@@ -8,6 +8,8 @@ use reading::number::Number;
 use reading::row::read_row;
 
 // What a text says: size and rank, and the numbers of the shape as they stand there, or the byte strides if there are some.
+// Kept: two variants and no struct with an Option. Where there are byte strides nothing asks for the shape's digits again, so each kind has one
+// text to go by.
 #[derive(Clone, Copy)]
 pub enum Said<'a> {
     Packed(u64, usize, &'a [u8]),

@@ -10,6 +10,8 @@ use layout::sizes::mul_cap;
 use reading::number::{negative, positive};
 
 // Whether an element stride in bytes leaves 64-bit signed.
+// Kept: apart from `Unit::byte_stride`. Row 19 is asked of all strides before one is made, so that an Option of both would be made twice, and the
+// second time be a stride that is known to be there.
 pub fn stride_out(size: u64, stride: i64) -> bool
     ensures { result ≡ stride_out size stride }
 {

@@ -2,6 +2,7 @@
 // Each takes any layout, and answers 0 and writes its part into the lent array, or answers a refusal's number and leaves the array as it
 // was. The purpose is two numbers: 0 for pointwise with no chosen operand, 1 for pointwise into the chosen one, 2 for a fold by it.
 // Planning by value is in plans.rt, the steps of a walk are in steps.rt.
+// Kept: what C lends one by one, and a machine's four numbers, as in `gougelily`.
 #![tactic(auto)]
 
 ghost use Rattle.std.specs.Prelude.{◌≡◌, map, [], ◌∷◌, ◌<◌, length, replicate};
@@ -22,8 +23,18 @@ use costs::costs_of;
 use finding::map_into;
 use importance::compute_importance_into;
 use kernel::axes_into;
-use layout::{check_counts, check_layout, lead, number, purpose_of};
+use layout::{check_counts, check_layout, lead, purpose_of};
 use order::compute_order_into;
+
+// What an entry hands out. On a refusal the function around it answers the refusal's number, as `?` would have it answer the refusal.
+macro_rules! served {
+    ($answer:expr) => {
+        match $answer {
+            Ok(value) => value,
+            Err(refusal) => return layout::number(refusal),
+        }
+    };
+}
 
 mod costs;
 pub mod plans;
@@ -40,10 +51,8 @@ pub extern "C" fn parts_check<'a>(
 ) -> u64
     ensures { result ≡ told (layout_refused extents.now sizes.now strides.now (purpose_of kind chosen)) }
 {
-    match check_layout(extents, sizes, strides, purpose_of(kind, chosen)) {
-        Err(refusal) => number(refusal),
-        Ok(_) => 0,
-    }
+    served!(check_layout(extents, sizes, strides, purpose_of(kind, chosen)));
+    0
 }
 
 // The ranks: one row per operand, one rank per axis.
@@ -60,13 +69,10 @@ pub extern "C" fn parts_ranks<'a>(
         (padded 8 (replicate 64 0) (map (padded 64 0) (rank_table strides.now (length extents.now) (length sizes.now))))
         ranks.old ranks.new result }
 {
-    match check_counts(extents, sizes, strides, purpose_of(kind, chosen)) {
-        Err(refusal) => number(refusal),
-        Ok(layout) => {
-            rank_table_into(layout, ranks);
-            0
-        }
-    }
+    let layout = served!(check_counts(extents, sizes, strides, purpose_of(kind, chosen)));
+    *ranks = [[0u8; 64]; 8];
+    rank_table_into(layout, ranks);
+    0
 }
 
 // The weights of the axes.
@@ -84,13 +90,10 @@ pub extern "C" fn parts_weights<'a>(
         importance.old importance.new result }
 {
     let purpose = purpose_of(kind, chosen);
-    match check_counts(extents, sizes, strides, purpose) {
-        Err(refusal) => number(refusal),
-        Ok(layout) => {
-            compute_importance_into(layout, lead(purpose), importance);
-            0
-        }
-    }
+    let layout = served!(check_counts(extents, sizes, strides, purpose));
+    *importance = [0u64; 64];
+    compute_importance_into(layout, lead(purpose), importance);
+    0
 }
 
 // The loop order.
@@ -108,14 +111,11 @@ pub extern "C" fn parts_order<'a>(
         order.old order.new result }
 {
     let purpose = purpose_of(kind, chosen);
-    match check_counts(extents, sizes, strides, purpose) {
-        Err(refusal) => number(refusal),
-        Ok(layout) => {
-            let mut weights = [0u64; 64];
-            compute_order_into(layout, purpose, &mut weights, order);
-            0
-        }
-    }
+    let layout = served!(check_counts(extents, sizes, strides, purpose));
+    *order = [0usize; 64];
+    let mut weights = [0u64; 64];
+    compute_order_into(layout, purpose, &mut weights, order);
+    0
 }
 
 // ---- fused axes
@@ -135,14 +135,11 @@ pub extern "C" fn parts_fused<'a>(
         fused.old fused.new result }
 {
     let purpose = purpose_of(kind, chosen);
-    match check_counts(extents, sizes, strides, purpose) {
-        Err(refusal) => number(refusal),
-        Ok(layout) => {
-            let mut order = [0usize; 64];
-            map_into(layout, purpose, &mut order, fused);
-            0
-        }
-    }
+    let layout = served!(check_counts(extents, sizes, strides, purpose));
+    *fused = [0u64; 64];
+    let mut order = [0usize; 64];
+    map_into(layout, purpose, &mut order, fused);
+    0
 }
 
 // The plan's axes: their number, extents and strides, operand k's stride on axis i at k * 64 + i.
@@ -168,16 +165,12 @@ pub extern "C" fn parts_axes<'a>(
         table.old table.new result }
 {
     let purpose = purpose_of(kind, chosen);
-    match check_counts(extents, sizes, strides, purpose) {
-        Err(refusal) => number(refusal),
-        Ok(layout) => {
-            *kept = [0u64; 64];
-            *table = [0i64; 512];
-            let rank = axes_into(layout, purpose, kept, table);
-            *count = [rank];
-            0
-        }
-    }
+    let layout = served!(check_counts(extents, sizes, strides, purpose));
+    *kept = [0u64; 64];
+    *table = [0i64; 512];
+    let rank = axes_into(layout, purpose, kept, table);
+    *count = [rank];
+    0
 }
 
 // The costs of the plan's axes, 0 where an axis has none.
@@ -195,11 +188,7 @@ pub extern "C" fn parts_costs<'a>(
         costs.old costs.new result }
 {
     let purpose = purpose_of(kind, chosen);
-    match check_counts(extents, sizes, strides, purpose) {
-        Err(refusal) => number(refusal),
-        Ok(layout) => {
-            *costs = costs_of(layout, purpose);
-            0
-        }
-    }
+    let layout = served!(check_counts(extents, sizes, strides, purpose));
+    *costs = costs_of(layout, purpose);
+    0
 }

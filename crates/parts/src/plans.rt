@@ -6,7 +6,7 @@ ghost use Rattle.strided.specs.Memory.{plan_at, plan_memory, purpose_of};
 ghost use Rattle.parts.specs.Answers.{Part};
 
 use kernel::plan;
-use layout::{number, purpose_of};
+use layout::purpose_of;
 use strided::Machine;
 
 // The plan of a layout, refused by rows 1 to 6 and 24.
@@ -41,19 +41,14 @@ pub extern "C" fn parts_plan<'a>(
         way,
         live,
     };
-    let planned = plan(extents, sizes, strides, purpose_of(kind, chosen), machine);
-    match planned {
-        Err(refusal) => number(refusal),
-        Ok(made) => {
-            let e = made.extents;
-            let b = made.blocks;
-            let s = made.strides;
-            *rank = [made.rank];
-            *operands = [made.operands];
-            *plan_extents = e;
-            *blocks = b;
-            *plan_strides = s;
-            0
-        }
-    }
+    let made = served!(plan(extents, sizes, strides, purpose_of(kind, chosen), machine));
+    let e = made.extents;
+    let b = made.blocks;
+    let s = made.strides;
+    *rank = [made.rank];
+    *operands = [made.operands];
+    *plan_extents = e;
+    *blocks = b;
+    *plan_strides = s;
+    0
 }

@@ -8,19 +8,8 @@ ghost use Rattle.parts.specs.States.{with_state};
 
 use layout::negated;
 use strided::{Refusal, Stepped, Walk};
-use walk::memory::{flag, plan_of};
+use walk::memory::{plan_of, put_walk, walk_of};
 use walk::{step, step_lent};
-
-// A state from its arrays.
-fn walk_of<'a>(ended: &'a [u64; 1], counters: &'a [u64; 64], offsets: &'a [i64; 8]) -> Walk
-    ensures { result ≡ walk_in (walk_at ended.now counters.now offsets.now) }
-{
-    Walk {
-        ended: ended[0] != 0,
-        counters: *counters,
-        offsets: *offsets,
-    }
-}
 
 // What a step answers, and its state and its block in the lent arrays, if it has one.
 fn hand_out(
@@ -44,15 +33,10 @@ fn hand_out(
         Ok(stepped) => match stepped.block {
             None => 0,
             Some(block) => {
-                let next = stepped.walk;
-                let nc = next.counters;
-                let no = next.offsets;
                 let bc = block.counters;
                 let bo = block.offsets;
                 let bs = block.strides;
-                *ended = [flag(next.ended)];
-                *counters = nc;
-                *offsets = no;
+                put_walk(stepped.walk, ended, counters, offsets);
                 *block_counters = bc;
                 *length = [block.length];
                 *block_offsets = bo;
@@ -104,8 +88,7 @@ pub extern "C" fn parts_step<'a>(
 fn with_state(answer: Result<Stepped, Refusal>, walk: Walk) -> Result<Stepped, Refusal>
     ensures { result ≡ with_state answer walk }
 {
-    let stepped = answer?;
-    Ok(Stepped { walk, ..stepped })
+    answer.map(|stepped| Stepped { walk, ..stepped })
 }
 
 // A lent step.

@@ -1,6 +1,5 @@
 -- Laws that several proofs use, a file for each kind of part of the text.
 pub mod Answers
-pub mod Bytes
 pub mod Digits
 pub mod Signs
 pub mod Rows

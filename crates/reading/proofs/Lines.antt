@@ -1,7 +1,7 @@
 -- Reading the lines behind L, each from its parts, and the operands' lines one by one. A loop's invariant is what is left, as for rows.
 -- Assumes nothing.
 use mathlib.Core.Path.{◌≡◌, refl, sym, ap, ◌∙◌}
-use mathlib.Core.Bool.{Bool, false, false≢true}
+use mathlib.Core.Bool.{true, false}
 use mathlib.Core.List.{List, [], ◌∷◌, ◌++◌, append_assoc, append-nil}
 use Prim.Native.Nat.{ℕ, suc, ◌+◌, ◌-◌, ◌≤◌, ◌<◌}
 use native.Mathlib.Numerals.{add-one}
@@ -184,8 +184,11 @@ extents_of_lem : {rank operands : ℕ} {t es : List ℕ} {ls : List OperandLine}
 extents_of_lem h = record { count = h.axes; fits = h.extents_fit; form = h.form }
 
 module _ {t : List ℕ} {rank operands : ℕ} {old new : Arrays} where
-  no_lines : ((es : List ℕ) (ls : List OperandLine) → LinesHere rank operands t es ls → ⊥) → TakesLines t rank operands old new false
-  no_lines none = record { yes = λ e. absurd (false≢true e); no = λ e. none }
+  no_lines : ((es : List ℕ) (ls : List OperandLine) → LinesHere rank operands t es ls → ⊥) → TakesLines t rank operands old new None
+  no_lines none = record { yes = λ e. clash (cc); no = λ e. none }
+
+  pub lines_none : {es es' : List ℕ} {a : Option (Bor (List ℕ))} → TakesExtents t rank es es' a → a ≡ None → TakesLines t rank operands old new None
+  lines_none f e = no_lines (λ xs ls h. f.bad e xs (over ls operand_line) (extents_of_lem h))
 
 module _ {t : List ℕ} {rank : ℕ} {es es' : List ℕ} {a : Option (Bor (List ℕ))} (f : TakesExtents t rank es es' a) (p : Bor (List ℕ)) (e : a ≡ Some p) where
   -- the operands' lines stand behind the E line
@@ -194,39 +197,38 @@ module _ {t : List ℕ} {rank : ℕ} {es es' : List ℕ} {a : Option (Bor (List 
 
   module _ {operands : ℕ} {sizes sizes' : List ℕ} {strides strides' : List ℤ} {b : Option (Bor (List ℕ))}
       (g : TakesOperands p.now rank operands 0 0 sizes sizes' strides strides' b) where
-    pub lines_open : {old new : Arrays} → b ≡ None → TakesLines t rank operands old new false
+    pub lines_open : {old new : Arrays} → b ≡ None → TakesLines t rank operands old new None
     lines_open q =
         no_lines (λ xs ls h.
         g.bad q ls [] (record { count = h.operand_lines; fits = h.rows; form = behind_extents xs ls h ∙ sym (append-nil (over ls operand_line)) }))
 
-    pub lines_told : (end : Bor (List ℕ)) → b ≡ Some end → {empty : Bool} → empty ≡ eqb (length end.now) 0
-        → TakesLines t rank operands (arrays es sizes strides) (arrays es' sizes' strides') empty
-    lines_told end q z =
-        record {
-          yes = λ k. all (no_length end.now (eqb-true (length end.now) 0 (sym z ∙ k)));
-          no = λ k xs ls h. more (λ n. eqb-false (length end.now) 0 (sym z ∙ k) (ap length n)) xs ls h;
-        }
-      where
-        all : end.now ≡ [] → (xs : List ℕ) × (ls : List OperandLine) × LinesHere rank operands t xs ls × (arrays es' sizes' strides' ≡ laid (arrays es sizes strides) xs ls)
-        all z =
-            let w = f.to p e in
-            let v = g.to end q in
-            let ops : p.now ≡ over v.0 operand_line =
-            v.1.form ∙ ap (λ (l : List ℕ). over v.0 operand_line ++ l) z ∙ append-nil (over v.0 operand_line) in (
-              w.0,
-              v.0,
-              record {
-                axes = w.1.count;
-                extents_fit = w.1.fits;
-                operand_lines = v.1.count;
-                rows = v.1.fits;
-                form = w.1.form ∙ ap (λ (l : List ℕ). extents_line w.0 ++ l) ops;
-              },
-              λ i. record { extents = w.2 i; sizes = v.2 i; strides = v.3 i },
-            )
+    module _ (end : Bor (List ℕ)) (q : b ≡ Some end) where
+      all : end.now ≡ [] → (xs : List ℕ) × (ls : List OperandLine) × LinesHere rank operands t xs ls × (arrays es' sizes' strides' ≡ laid (arrays es sizes strides) xs ls)
+      all z =
+          let w = f.to p e in
+          let v = g.to end q in
+          let ops : p.now ≡ over v.0 operand_line =
+          v.1.form ∙ ap (λ (l : List ℕ). over v.0 operand_line ++ l) z ∙ append-nil (over v.0 operand_line) in (
+            w.0,
+            v.0,
+            record {
+              axes = w.1.count;
+              extents_fit = w.1.fits;
+              operand_lines = v.1.count;
+              rows = v.1.fits;
+              form = w.1.form ∙ ap (λ (l : List ℕ). extents_line w.0 ++ l) ops;
+            },
+            λ i. record { extents = w.2 i; sizes = v.2 i; strides = v.3 i },
+          )
 
-        more : (end.now ≡ [] → ⊥) → (xs : List ℕ) (ls : List OperandLine) → LinesHere rank operands t xs ls → ⊥
-        more left xs ls h =
-            let v = g.to end q in
-            let n : length v.0 ≡ length ls = v.1.count ∙ sym h.operand_lines in
-            left (operands_rest v.0 ls end.now [] n (sym v.1.form ∙ behind_extents xs ls h ∙ sym (append-nil (over ls operand_line))))
+      more : (end.now ≡ [] → ⊥) → (xs : List ℕ) (ls : List OperandLine) → LinesHere rank operands t xs ls → ⊥
+      more left xs ls h =
+          let v = g.to end q in
+          let n : length v.0 ≡ length ls = v.1.count ∙ sym h.operand_lines in
+          left (operands_rest v.0 ls end.now [] n (sym v.1.form ∙ behind_extents xs ls h ∙ sym (append-nil (over ls operand_line))))
+
+      pub lines_told : eqb (length end.now) 0 ≡ true → TakesLines t rank operands (arrays es sizes strides) (arrays es' sizes' strides') (Some tt)
+      lines_told z = record { yes = λ k. all (no_length end.now (eqb-true (length end.now) 0 z)); no = λ k. clash (cc) }
+
+      pub lines_more : eqb (length end.now) 0 ≡ false → TakesLines t rank operands (arrays es sizes strides) (arrays es' sizes' strides') None
+      lines_more z = record { yes = λ k. clash (cc); no = λ k xs ls h. more (λ n. eqb-false (length end.now) 0 z (ap length n)) xs ls h }

@@ -1,7 +1,6 @@
 -- A whole text: an L line and the lines behind it.
 -- Assumes nothing.
 use mathlib.Core.Path.{◌≡◌, sym, ap, ◌∙◌}
-use mathlib.Core.Bool.{Bool, true, false}
 use mathlib.Core.List.{List, ◌++◌}
 use Prim.Native.Nat.{ℕ, ◌≤◌}
 use lib.ListN.{length}
@@ -12,16 +11,15 @@ use Rattle.reading.specs.Heads.{HeadHere}
 use Rattle.reading.specs.Lines.{Arrays, TakesLines}
 use Rattle.reading.specs.Texts.{ReadsText}
 use Rattle.reading.proofs.Answers.{clash}
-use Rattle.std.specs.Prelude.{Ok, Err}
+use Rattle.std.specs.Prelude.{Option, Some, None}
 use Rattle.reading.specs.declared.Said.{Said}
-use Rattle.reading.specs.declared.Unformed.{Unformed}
 
-module _ {text : List ℕ} {old new : Arrays} {x : Unformed} where
-  not_formed : NotInForm text → ReadsText text old new (Err x)
-  not_formed none = record { layout = λ l e. clash (cc); unformed = λ y e. none }
+module _ {text : List ℕ} {old new : Arrays} where
+  not_formed : NotInForm text → ReadsText text old new None
+  not_formed none = record { layout = λ l e. clash (cc); unformed = λ e. none }
 
-  module _ {u : Purpose} {rank operands : ℕ} {lines : List ℕ} (h : HeadHere text u rank operands lines) {b : Bool} (t : TakesLines lines rank operands old new b) where
-    pub text_open : b ≡ false → ReadsText text old new (Err x)
+  module _ {u : Purpose} {rank operands : ℕ} {lines : List ℕ} (h : HeadHere text u rank operands lines) {b : Option (Unit {0})} (t : TakesLines lines rank operands old new b) where
+    pub text_open : b ≡ None → ReadsText text old new None
     text_open e = not_formed none
       where
         none : NotInForm text
@@ -36,7 +34,7 @@ module _ {text : List ℕ} {old new : Arrays} {x : Unformed} where
               form = s.rests;
             })
 
-    pub text_told : length text ≤ 16384 → b ≡ true → ReadsText text old new (Ok (record { purpose = u; rank = rank; operands = operands }))
+    pub text_told : length text ≤ 16384 → b ≡ Some tt → ReadsText text old new (Some (record { purpose = u; rank = rank; operands = operands }))
     text_told short e =
         let read = t.yes e in
         let l = read.2 in
@@ -64,5 +62,5 @@ module _ {text : List ℕ} {old new : Arrays} {x : Unformed} where
                   arrays = read.3;
                 },
               ));
-          unformed = λ y q. clash (cc);
+          unformed = λ q. clash (cc);
         }

@@ -1,7 +1,7 @@
 -- What the readers of the lines behind L answer: the E line, the front of an O line, an O line, all O lines, all of these to the text's end.
 -- Numbers are laid into arrays from a place on (`sets`), as far as an array has places.
 -- Assumes nothing.
-use Rattle.std.specs.Prelude.{◌≡◌, Bool, true, false, List, ◌∷◌, ◌++◌, map, ℕ, ℤ, length, Option, Some, None}
+use Rattle.std.specs.Prelude.{◌≡◌, List, ◌∷◌, ◌++◌, map, ℕ, ℤ, length, Option, Some, None}
 use Rattle.std.specs.Borrow.{Bor}
 use Rattle.std.proofs.lemmas.List.Edits.{sets}
 use Rattle.strided.specs.Base.{over}
@@ -71,6 +71,6 @@ arrays es sizes strides = record { extents = es; sizes = sizes; strides = stride
 abbrev pub laid : Arrays → List ℕ → List OperandLine → Arrays
 laid a es ls = arrays (sets a.extents 0 es) (sets a.sizes 0 (sizes_in ls)) (sets a.strides 0 (strides_in ls))
 
-pub record TakesLines (t : List ℕ) (rank operands : ℕ) (old new : Arrays) (r : Bool) : Type 0 where
-  pub yes : r ≡ true → (es : List ℕ) × (ls : List OperandLine) × LinesHere rank operands t es ls × (new ≡ laid old es ls)
-  pub no : r ≡ false → (es : List ℕ) (ls : List OperandLine) → LinesHere rank operands t es ls → ⊥
+pub record TakesLines (t : List ℕ) (rank operands : ℕ) (old new : Arrays) (r : Option (Unit {0})) : Type 0 where
+  pub yes : r ≡ Some tt → (es : List ℕ) × (ls : List OperandLine) × LinesHere rank operands t es ls × (new ≡ laid old es ls)
+  pub no : r ≡ None → (es : List ℕ) (ls : List OperandLine) → LinesHere rank operands t es ls → ⊥

@@ -12,11 +12,7 @@ use strided::Purpose;
 fn behind_all<'a>(s: &'a [u8], word: &[u8]) -> Option<&'a [u8]>
     ensures { BehindAll word.now s.now result }
 {
-    let mut rest = s;
-    for &b in word {
-        rest = behind(rest, b)?;
-    }
-    Some(rest)
+    s.strip_prefix(word)
 }
 
 // The field of the chosen operand, and the line's end.

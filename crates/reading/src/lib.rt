@@ -27,29 +27,23 @@ pub struct Said {
     pub operands: usize,
 }
 
-// A text is not in the form.
-#[derive(Clone, Copy, Debug, PartialEq, Eq)]
-pub struct Unformed;
-
-// Reads a text. Extents, sizes and strides are laid into the arrays from place 0 on, the strides flat and dense: operand k's stride on axis
-// i at k * rank + i. Numbers that have no place there are read all the same.
+// Reads a text that is in the form. Extents, sizes and strides are laid into the arrays from place 0 on, the strides flat and dense: operand k's
+// stride on axis i at k * rank + i. Numbers that have no place there are read all the same.
 pub fn read_text(
     text: &[u8],
     extents: &mut [u64],
     sizes: &mut [u64],
     strides: &mut [i64],
-) -> Result<Said, Unformed>
+) -> Option<Said>
     ensures { ReadsText text.now
         (arrays extents.old sizes.old strides.old)
         (arrays extents.new sizes.new strides.new)
         result }
 {
     if MAX_TEXT < text.len() {
-        return Err(Unformed);
+        return None;
     }
-    let (said, lines) = read_head(text).ok_or(Unformed)?;
-    if read_lines(lines, said.rank, said.operands, extents, sizes, strides) {
-        return Ok(said);
-    }
-    Err(Unformed)
+    let (said, lines) = read_head(text)?;
+    read_lines(lines, said.rank, said.operands, extents, sizes, strides)?;
+    Some(said)
 }

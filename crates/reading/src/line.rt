@@ -22,6 +22,8 @@ fn read_size(s: &[u8]) -> Option<(u64, &[u8])>
 }
 
 // An O line of `rank` strides, which are laid from place `from` on. Its size is answered.
+// Kept: the place beside the array, here and in `read_row_from`. A text may tell more strides than there are places, so that what is left of the
+// array would be cut at the lesser of the two at each line.
 fn read_operand<'a>(
     s: &'a [u8],
     rank: usize,
@@ -57,7 +59,7 @@ fn read_operands<'a>(
     Some(rest)
 }
 
-// Whether the lines are there, and nothing behind them.
+// The lines, and nothing behind them.
 pub fn read_lines(
     s: &[u8],
     rank: usize,
@@ -65,17 +67,13 @@ pub fn read_lines(
     extents: &mut [u64],
     sizes: &mut [u64],
     strides: &mut [i64],
-) -> bool
+) -> Option<()>
     ensures { TakesLines s.now rank operands
         (arrays extents.old sizes.old strides.old)
         (arrays extents.new sizes.new strides.new)
         result }
 {
-    let Some(lines) = read_extents(s, rank, extents) else {
-        return false;
-    };
-    match read_operands(lines, rank, operands, sizes, strides) {
-        Some(rest) => rest.is_empty(),
-        None => false,
-    }
+    let lines = read_extents(s, rank, extents)?;
+    let rest = read_operands(lines, rank, operands, sizes, strides)?;
+    if rest.is_empty() { Some(()) } else { None }
 }

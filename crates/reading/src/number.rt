@@ -23,8 +23,9 @@ fn read_more(s: &[u8], first: u64) -> Option<(u64, &[u8])>
     Some((n, rest))
 }
 
-// The number in front. A `0` stands alone. Whether a second digit follows is tested first: a branch on the digit itself is badly predicted in
-// lists of indices 0 and 1.
+// The number in front. A `0` stands alone.
+// Kept: digit by digit, and not by `parse`: the form is narrower, with no `+` and no leading 0, and a number ends where its digits do.
+// Whether a second digit follows is tested first: a branch on the digit itself is badly predicted in lists of indices 0 and 1.
 pub fn read_u64(s: &[u8]) -> Option<(u64, &[u8])>
     ensures { Reads digits_of s.now result }
 {
@@ -61,10 +62,7 @@ fn minus(n: u64) -> Option<i64>
     if n == 0 {
         return None;
     }
-    if n > 1 << 63 {
-        return None;
-    }
-    Some(negative(n))
+    0i64.checked_sub_unsigned(n)
 }
 
 // A size with no sign: below 2^63.

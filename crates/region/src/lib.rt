@@ -30,6 +30,8 @@ fn region_of(tail: Tail, blocks: &[u64; 64], k: usize) -> u64
     let from = k * 64;
     let mut c: u64 = 0;
     let mut m: u64 = 1;
+    // Kept: an index, at which the blocks stand and, behind `from`, the byte strides. Two parts cut out beforehand would each have two bounds, for
+    // two reads.
     for i in tail.offset..tail.rank {
         let s = u64::from(tail.bytes[from + i]);
         let b = blocks[i];

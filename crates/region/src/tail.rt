@@ -1,6 +1,7 @@
 // A machine that is allowed, the axes that blocks are cut for, and a tail of them.
-ghost use Rattle.std.specs.Prelude.{◌≡◌, ◌≤◌, ◌<◌, length};
+ghost use Rattle.std.specs.Prelude.{◌≡◌, ◌≤◌, ◌<◌, length, get_or};
 ghost use Rattle.strided.specs.Machine.{Allowed};
+ghost use Rattle.laws.specs.Cut.Tables.{stride_size};
 ghost use Rattle.laws.specs.Refusals.Allowed.{Allowed-prop};
 
 use strided::Machine;
@@ -29,6 +30,25 @@ pub struct Operand<'a> {
     pub axes: Axes<'a>,
     pub k: usize,
     pub ghost there: { k < length axes.sizes.now },
+}
+
+impl<'a> Operand<'a> {
+    // The size of its elements.
+    pub fn size(self) -> u64
+        ensures { let o = self.entry in result ≡ get_or o.axes.sizes.now o.k 0 }
+    {
+        self.axes.sizes[self.k]
+    }
+
+    // The size of its stride on axis i.
+    // Kept: `i < 64` here, in decline and in l1. That an axis is one of the arrays' is a fact about a number alone, and a type of such numbers
+    // would be taken off again at each place where the number is used.
+    pub fn stride_size(self, i: usize) -> u64
+        requires { i < 64 }
+        ensures { let o = self.entry in result ≡ stride_size o.axes.strides.now o.k i }
+    {
+        self.axes.strides[self.k * 64 + i].unsigned_abs()
+    }
 }
 
 // The tail of axes that cutting looks at, those from offset to rank, of so many operands with these byte strides.

@@ -1,38 +1,16 @@
--- Loops that compare: what is still to compare, and the bits gathered of the places so far, which are none exactly if these are the same.
--- Assumes nothing.
-use mathlib.Core.Path.{◌≡◌, refl, sym, ap, ap₂, ◌∙◌}
+-- Loops that compare: the bits gathered of the places so far, which are none exactly if these are the same. Assumes nothing.
+use mathlib.Core.Path.{◌≡◌, refl, sym, ap, ap₂, ◌∙◌, subst}
 use mathlib.Core.Bool.{Bool, true, false, ◌&&◌}
-use mathlib.Core.List.{List}
-use Prim.Native.Nat.{ℕ, ◌+◌, ◌≤◌, ◌<◌}
-use native.Mathlib.Numerals.{add-one}
+use mathlib.Core.List.{List, [], ◌∷◌}
+use mathlib.Core.Logic.{⊎_elim}
+use Prim.Native.Nat.{ℕ, zero, suc, ◌+◌, ◌≤◌, ◌<◌}
+use native.Mathlib.Nat.{eq-or-lt_of_le}
 use native.Mathlib.Omega.{arith}
 use lib.Bits.{bit_or, bit_xor, or_add_and, xor_add_and, and_le_l, and_le_r, xor_self}
 use lib.Dec.{eqb}
-use lib.IntN.{ℤ, pos}
-use lib.ListN.{length, get_or, drop, drop_of_length-le}
-use lib.Seq.{drop-cons}
+use lib.ListN.{length, get_or}
 use borrow.Author.Tests.{eqb-true, eqb-false, eq-eqb, ne_eqb}
-use Rattle.strided.specs.Fuse.{eq_z}
-use Rattle.session.specs.Session.{same_nats, same_ints}
-
-and_assoc : (a b c : Bool) → ((a && b) && c) ≡ (a && (b && c))
-and_assoc true b c = refl
-and_assoc false b c = refl
-
-and_true : (a : Bool) → (a && true) ≡ a
-and_true true = refl
-and_true false = refl
-
--- ---- bits
-
--- two numbers gathered have no bit exactly if neither has one
-or_none : (a b : ℕ) → eqb (bit_or a b) 0 ≡ (eqb a 0 && eqb b 0)
-or_none a b = go (eqb a 0) (eqb b 0) refl refl
-  where
-    go : (x y : Bool) → eqb a 0 ≡ x → eqb b 0 ≡ y → eqb (bit_or a b) 0 ≡ (x && y)
-    go true true p q = eq-eqb (bit_or a b) 0 (omega (arith, or_add_and a b, eqb-true a 0 p, eqb-true b 0 q))
-    go true false p q = ne_eqb (bit_or a b) 0 (λ e. eqb-false b 0 q (omega (arith, or_add_and a b, and_le_l a b, e)))
-    go false y p q = ne_eqb (bit_or a b) 0 (λ e. eqb-false a 0 p (omega (arith, or_add_and a b, and_le_r a b, e)))
+use Rattle.session.specs.Same.{NoneDiffer}
 
 -- two numbers differ in no bit exactly if they are the same
 pub xor_none : (a b : ℕ) → eqb (bit_xor a b) 0 ≡ eqb a b
@@ -42,32 +20,62 @@ xor_none a b = go (eqb a b) refl
     go true p = eq-eqb (bit_xor a b) 0 (ap (bit_xor a) (sym (eqb-true a b p)) ∙ xor_self a)
     go false p = ne_eqb (bit_xor a b) 0 (λ e. eqb-false a b p (omega (arith, xor_add_and a b, and_le_l a b, and_le_r a b, e)))
 
--- ---- a turn of a loop, and its end
+-- ---- bits that are gathered, where P says which bits a place has
 
--- the bits x of place i are gathered: its test t moves from what is left to what is done
-turned : (seen x : ℕ) (rest : Bool) {t left b : Bool} → eqb x 0 ≡ t → left ≡ (t && rest) → (eqb seen 0 && left) ≡ b → (eqb (bit_or seen x) 0 && rest) ≡ b
-turned seen x rest {t} q e h =
-    ap (λ (y : Bool). y && rest) (or_none seen x ∙ ap (λ (y : Bool). eqb seen 0 && y) q)
-    ∙ and_assoc (eqb seen 0) t rest ∙ ap (λ (y : Bool). eqb seen 0 && y) (sym e) ∙ h
+pub record Gathered (P : ℕ → ℕ → Type 0) (seen n : ℕ) : Type 0 where
+  pub none : seen ≡ 0 → (i : ℕ) → i < n → P i 0
+  pub some : (seen ≡ 0 → ⊥) → (i : ℕ) × (x : ℕ) × (i < n) × P i x × (x ≡ 0 → ⊥)
 
-module _ (xs bs : List ℕ) (i seen : ℕ) where
-  pub same_next : i < length xs → i < length bs → (eqb seen 0 && same_nats (drop i xs) (drop i bs)) ≡ same_nats xs bs
-      → (eqb (bit_or seen (bit_xor (get_or xs i 0) (get_or bs i 0))) 0 && same_nats (drop (i + 1) xs) (drop (i + 1) bs)) ≡ same_nats xs bs
-  same_next l k h =
-      turned seen (bit_xor (get_or xs i 0) (get_or bs i 0)) (same_nats (drop (i + 1) xs) (drop (i + 1) bs)) (xor_none (get_or xs i 0) (get_or bs i 0))
-      (ap₂ same_nats (drop-cons xs i 0 l) (drop-cons bs i 0 k)
-      ∙ ap (λ (j : ℕ). eqb (get_or xs i 0) (get_or bs i 0) && same_nats (drop j xs) (drop j bs)) (sym (add-one i)))
-      h
+pub gathered_none : (P : ℕ → ℕ → Type 0) → Gathered P 0 0
+gathered_none P = record { none = λ e i h. absurd (omega arith); some = λ f. absurd (f refl) }
 
-  pub same_over : length xs ≤ i → length bs ≤ i → (eqb seen 0 && same_nats (drop i xs) (drop i bs)) ≡ same_nats xs bs → eqb seen 0 ≡ same_nats xs bs
-  same_over l k h =
-      sym (and_true (eqb seen 0)) ∙ ap₂ (λ (x y : List ℕ). eqb seen 0 && same_nats x y) (sym (drop_of_length-le xs l)) (sym (drop_of_length-le bs k)) ∙ h
+pub gathered_more : (P : ℕ → ℕ → Type 0) (seen n x : ℕ) → Gathered P seen n → P n x → Gathered P (bit_or seen x) (n + 1)
+gathered_more P seen n x g p =
+    record {
+      none = λ e i h.
+          let s : seen ≡ 0 = omega (arith, or_add_and seen x, and_le_r seen x, e) in
+          let z : x ≡ 0 = omega (arith, or_add_and seen x, and_le_l seen x, e) in
+          let le : i ≤ n = omega arith in
+          ⊎_elim (λ (k : i ≡ n). subst (λ (j : ℕ). P j 0) (sym k) (subst (P n) z p)) (λ (k : i < n). g.none s i k) (eq-or-lt_of_le le);
+      some = λ f. go (eqb seen 0) refl f;
+    }
+  where
+    go : (b : Bool) → eqb seen 0 ≡ b → (bit_or seen x ≡ 0 → ⊥) → (i : ℕ) × (y : ℕ) × (i < n + 1) × P i y × (y ≡ 0 → ⊥)
+    go true q f = let s = eqb-true seen 0 q in (n, x, omega arith, p, λ z. f (omega (arith, or_add_and seen x, s, z)))
+    go false q f = let w = g.some (eqb-false seen 0 q) in (w.0, w.1, omega (arith, w.2), w.3, w.4)
 
-module _ (xs bs : List ℤ) (i seen : ℕ) where
-  pub same_z-next : (x : ℕ) → i < length xs → i < length bs → eqb x 0 ≡ eq_z (get_or xs i (pos 0)) (get_or bs i (pos 0))
-      → (eqb seen 0 && same_ints (drop i xs) (drop i bs)) ≡ same_ints xs bs → (eqb (bit_or seen x) 0 && same_ints (drop (i + 1) xs) (drop (i + 1) bs)) ≡ same_ints xs bs
-  same_z-next x l k e h =
-      turned seen x (same_ints (drop (i + 1) xs) (drop (i + 1) bs)) e
-      (ap₂ same_ints (drop-cons xs i (pos 0) l) (drop-cons bs i (pos 0) k)
-      ∙ ap (λ (j : ℕ). eq_z (get_or xs i (pos 0)) (get_or bs i (pos 0)) && same_ints (drop j xs) (drop j bs)) (sym (add-one i)))
-      h
+pub gathered_end : (P : ℕ → ℕ → Type 0) (seen n m : ℕ) → n ≡ m → Gathered P seen n → NoneDiffer P m (eqb seen 0)
+gathered_end P seen n m e g =
+    subst (λ (k : ℕ). NoneDiffer P k (eqb seen 0)) e (record { all = λ q. g.none (eqb-true seen 0 q); one = λ q. g.some (eqb-false seen 0 q) })
+
+-- ---- lists that are compared place by place, by a test of two places
+
+module _ {A : Type 0} (d : A) (test : A → A → Bool) (same : List A → List A → Bool) (nil : same [] [] ≡ true)
+    (cons : (x y : A) (xs ys : List A) → same (x ∷ xs) (y ∷ ys) ≡ (test x y && same xs ys)) where
+  all_same : (xs ys : List A) → length xs ≡ length ys → ((i : ℕ) → i < length xs → test (get_or xs i d) (get_or ys i d) ≡ true) → same xs ys ≡ true
+  all_same [] [] e h = nil
+  all_same [] (y ∷ ys) e h = absurd (omega (arith, e))
+  all_same (x ∷ xs) [] e h = absurd (omega (arith, e))
+  all_same (x ∷ xs) (y ∷ ys) e h = cons x y xs ys ∙ ap₂ (λ (a b : Bool). a && b) (h 0 (omega arith)) (all_same xs ys (omega (arith, e)) (λ i k. h (suc i) (omega arith)))
+
+  one_other : (xs ys : List A) → length xs ≡ length ys → (i : ℕ) → i < length xs → test (get_or xs i d) (get_or ys i d) ≡ false → same xs ys ≡ false
+  one_other [] ys e i h t = absurd (omega arith)
+  one_other (x ∷ xs) [] e i h t = absurd (omega (arith, e))
+  one_other (x ∷ xs) (y ∷ ys) e zero h t = cons x y xs ys ∙ ap (λ (a : Bool). a && same xs ys) t
+  one_other (x ∷ xs) (y ∷ ys) e (suc i) h t = cons x y xs ys ∙ ap (λ (b : Bool). test x y && b) (one_other xs ys (omega (arith, e)) i (omega arith) t) ∙ and_false (test x y)
+    where
+      and_false : (a : Bool) → (a && false) ≡ false
+      and_false true = refl
+      and_false false = refl
+
+  -- the bits of a place are none exactly if the test says that the two are the same
+  pub none_same : (xs ys : List A) {P : ℕ → ℕ → Type 0} {r : Bool} {n : ℕ} → NoneDiffer P n r → length xs ≡ n → length ys ≡ n
+      → ((i x : ℕ) → i < n → P i x → eqb x 0 ≡ test (get_or xs i d) (get_or ys i d)) → r ≡ same xs ys
+  none_same xs ys {P} {r} {n} told ex ey is = go r told
+    where
+      even : length xs ≡ length ys
+      even = ex ∙ sym ey
+
+      go : (r : Bool) → NoneDiffer P n r → r ≡ same xs ys
+      go true t = sym (all_same xs ys even (λ i h. let l : i < n = omega (arith, h, ex) in sym (is i 0 l (t.all refl i l))))
+      go false t = let w = t.one refl in sym (one_other xs ys even w.0 (omega (arith, w.2, ex)) (sym (is w.0 w.1 w.2 w.3) ∙ ne_eqb w.1 0 w.4))

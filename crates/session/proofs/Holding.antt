@@ -12,7 +12,7 @@ use lib.ListN.{length, get_or, take, drop, length-take, length-drop}
 use lib.Seq.{length-take-le, take_all, take-add}
 use borrow.Author.Tests.{eqb-true, eq-eqb, ltb-true}
 use native.Mathlib.Nat.{zero-mul}
-use Rattle.layout.specs.Laid.{row_at}
+use Rattle.layout.specs.Rows.{row_at}
 use Rattle.strided.specs.Base.{padded, some_of}
 use Rattle.strided.specs.Layout.{total, lead, has_zero, reach, max_i, row, extents as extents_of}
 use Rattle.strided.specs.Memory.{purpose_of}
@@ -40,9 +40,9 @@ use Rattle.layout.specs.Checked.{Checked}
 use Rattle.session.specs.Session.{Given, given_of, ranks_of, weights_of, costs_of, plan_of, kind_of, fresh_of, same_nats, same_ints, Right, holds, row10}
 use Rattle.session.specs.Same.{Decides, same_nats_lem, nats_same, same_ints_lem, ints_same, right-holds, decides_holds}
 use Rattle.session.specs.Afresh.{taken_of, allowed_of, few_strides}
-use Rattle.session.specs.Made.{Even, rows_of, ranks_in, TableOf, AxesIn, StaysIn, AxesAt, Cuttable, BlocksAt, KeptIn, Keeps, LayoutRight, with_plan, given_in, numbers_of, LaidRight, AxesRight, BlocksRight, KeepsRight}
+use Rattle.session.specs.Made.{Even, rows_of, ranks_in, TableOf, AxesIn, StaysIn, AxesAt, Cuttable, BlocksAt, KeptIn, Keeps, LayoutRight, with_plan, given_in, numbers_of, LaidRight, Tables, AxesRight, BlocksRight, KeepsRight}
 use Rattle.session.specs.Tabled.{Tabled}
-use Rattle.session.proofs.Tabling.{rows_more, own_tabled, exact_ranks}
+use Rattle.session.proofs.Tabling.{table_even, rows_more, own_tabled, exact_ranks}
 
 -- ---- tests and claims
 
@@ -339,6 +339,10 @@ module _ (n : Numbers) (E Z : List ℕ) (S : List ℤ) (l : LayoutRight n E Z S)
       (own_tabled n.rank n.operands l.axes l.few S strides_long E extents_long table t.is))
 
 -- ---- the session
+
+-- the table of the ranks of a layout that is right has its rows
+pub even_of : (s : Session) → LaidRight s → {table : List (List ℕ)} → Tables s table → Even table
+even_of s l {table} t = table_even _ s.rank s.operands l.axes table t.is
 
 module _ (s : Session) where
   abbrev g : Given

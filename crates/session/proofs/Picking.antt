@@ -8,7 +8,7 @@ use borrow.Author.Tests.{ne_eqb}
 use lib.Dec.{eqb}
 use lib.IntN.{ℤ, pos, negsuc, nat_abs}
 use lib.ListN.{length, get_or, take, drop, length-drop, take-append-drop}
-use lib.Seq.{take-add, length-take-le, get_or-drop}
+use lib.Seq.{take-add, length-take-le, get_or-take}
 use Rattle.strided.specs.Base.{padded}
 use Rattle.strided.specs.Order.{pick}
 use Rattle.strided.specs.Fuse.{eq_z}
@@ -19,6 +19,8 @@ use Rattle.laws.specs.Base.Rows.{length_over}
 use Rattle.laws.specs.Fuse.Arrays.{get_d_pick, pick_row, pick_rows}
 use Rattle.laws.specs.Order.Picked.{length-pick}
 use Rattle.session.specs.Session.{same_ints}
+use Rattle.session.specs.Same.{NoneDiffer}
+use Rattle.session.proofs.Comparing.{none_same}
 use Rattle.session.proofs.Tabling.{rows_more}
 
 -- rows behind rows are compared one after the other
@@ -46,32 +48,46 @@ same-blank (suc n) [] e = absurd (omega (arith, e))
 same-blank (suc n) (x ∷ l) e = ap₂ (λ (a b : Bool). a && b) (zero_is x) (same-blank n l (omega (arith, e)))
 
 -- a row: the strides of the axes that are named, and zeros
-abbrev pub fresh : List ℤ → ℕ → List ℕ → List ℤ
-fresh ss from A = padded 64 (pos 0) (pick (pos 0) (drop from ss) A)
+abbrev pub fresh : List ℤ → List ℕ → List ℤ
+fresh ss A = padded 64 (pos 0) (pick (pos 0) ss A)
 
-module _ (ss : List ℤ) (from : ℕ) (A : List ℕ) (few : length A ≤ 64) where
-  counted : length (pick (pos 0) (drop from ss) A) ≡ length A
-  counted = length-pick (pos 0) (drop from ss) A
+module _ (ss : List ℤ) (A : List ℕ) (few : length A ≤ 64) where
+  counted : length (pick (pos 0) ss A) ≡ length A
+  counted = length-pick (pos 0) ss A
 
-  pub fresh_long : length (fresh ss from A) ≡ 64
-  fresh_long = length-padded (pos 0) 64 (pick (pos 0) (drop from ss) A)
+  fresh_long : length (fresh ss A) ≡ 64
+  fresh_long = length-padded (pos 0) 64 (pick (pos 0) ss A)
 
-  pub fresh_at : (i : ℕ) → i < length A → get_or (fresh ss from A) i (pos 0) ≡ get_or ss (from + get_or A i 0) (pos 0)
-  fresh_at i h =
-      get_d_padded (pos 0) 64 (pick (pos 0) (drop from ss) A) i (omega (arith, h, few))
-      ∙ get_d_pick (pos 0) (drop from ss) A i h
-      ∙ get_or-drop from ss (get_or A i 0) (pos 0)
+  fresh_at : (i : ℕ) → i < length A → get_or (fresh ss A) i (pos 0) ≡ get_or ss (get_or A i 0) (pos 0)
+  fresh_at i h = get_d_padded (pos 0) 64 (pick (pos 0) ss A) i (omega (arith, h, few)) ∙ get_d_pick (pos 0) ss A i h
 
-  -- what is left when all that are named have been compared
-  pub row-over : (row : List ℤ) → length row ≡ 64 → (seen rest : Bool) → rest ≡ blank_z (drop (length A) row)
-      → (seen && same_ints (drop (length A) (fresh ss from A)) (drop (length A) row)) ≡ same_ints (fresh ss from A) row
-      → (seen && rest) ≡ same_ints (fresh ss from A) row
-  row-over row e seen rest q h =
-      let d = length-drop (length A) row in
-      ap (λ (b : Bool). seen && b)
-      (q ∙ sym (same-blank (64 - length A) (drop (length A) row) (omega (arith, d, e)))
-      ∙ ap (λ (l : List ℤ). same_ints l (drop (length A) row)) (sym (drop_behind 64 (length A) (pos 0) (pick (pos 0) (drop from ss) A) (omega (arith, counted)))))
-      ∙ h
+  -- the strides of those that are named are compared with the first places of a row
+  module _ (row : List ℤ) (e : length row ≡ 64) where
+    front_long : length (take (length A) (fresh ss A)) ≡ length A
+    front_long = length-take-le (length A) (fresh ss A) (omega (arith, fresh_long, few))
+
+    front_as_long : length (take (length A) (fresh ss A)) ≡ length (take (length A) row)
+    front_as_long = front_long ∙ sym (length-take-le (length A) row (omega (arith, e, few)))
+
+    pub row_seen : {P : ℕ → ℕ → Type 0} {seen : Bool} → NoneDiffer P (length A) seen
+        → ((i x : ℕ) → i < length A → P i x → eqb x 0 ≡ eq_z (get_or ss (get_or A i 0) (pos 0)) (get_or row i (pos 0)))
+        → seen ≡ same_ints (take (length A) (fresh ss A)) (take (length A) row)
+    row_seen {P} {seen} n is =
+        none_same (pos 0) eq_z same_ints refl (λ x y xs ys. refl) (take (length A) (fresh ss A)) (take (length A) row) {P = P} n front_long (sym front_as_long ∙ front_long)
+        (λ i x l p.
+        is i x l p
+        ∙ ap₂ eq_z (sym (get_or-take (length A) (fresh ss A) i (pos 0) l ∙ fresh_at i l)) (sym (get_or-take (length A) row i (pos 0) l)))
+
+    -- and behind them there is 0
+    pub row-over : (seen rest : Bool) → seen ≡ same_ints (take (length A) (fresh ss A)) (take (length A) row) → rest ≡ blank_z (drop (length A) row)
+        → (seen && rest) ≡ same_ints (fresh ss A) row
+    row-over seen rest h q =
+        let d = length-drop (length A) row in
+        ap₂ (λ (a b : Bool). a && b) h
+        (q ∙ sym (same-blank (64 - length A) (drop (length A) row) (omega (arith, d, e)))
+        ∙ ap (λ (l : List ℤ). same_ints l (drop (length A) row)) (sym (drop_behind 64 (length A) (pos 0) (pick (pos 0) ss A) (omega (arith, counted)))))
+        ∙ sym (same_z-append (take (length A) (fresh ss A)) (drop (length A) (fresh ss A)) (take (length A) row) (drop (length A) row) front_as_long)
+        ∙ ap₂ same_ints (take-append-drop (length A) (fresh ss A)) (take-append-drop (length A) row)
 
 -- all rows
 module _ (ss : List ℤ) (p : ℕ) (o : List ℕ) (PS : List ℤ) (long : length PS ≡ 512) where

@@ -1,5 +1,5 @@
 -- Row 10's test is its claim: two lists, plans and sessions pass the test exactly if they are the same. Assumes nothing.
-use Rattle.std.specs.Prelude.{◌≡◌, Bool, true, false, List, [], ◌∷◌, ℕ, eqb, ℤ, pos, negsuc, Option, None, Some}
+use Rattle.std.specs.Prelude.{◌≡◌, Bool, true, false, List, [], ◌∷◌, ℕ, ◌<◌, eqb, ℤ, pos, negsuc, Option, None, Some}
 use Rattle.std.proofs.Math.Path.{refl}
 use Rattle.std.proofs.Common.{ap, ap₂, sym, subst, eqb-true, eq-eqb}
 use Rattle.std.proofs.lemmas.Bool.{false≢true}
@@ -144,6 +144,11 @@ module _ (s : Session) where
 pub record Decides (b : Bool) (P : Type 0) : Type 0 where
   pub yes : b ≡ true → P
   pub no : b ≡ false → P → ⊥
+
+-- what looking for bits at n places answers, where P says which bits each has: none, or some at one of them
+pub record NoneDiffer (P : ℕ → ℕ → Type 0) (n : ℕ) (none : Bool) : Type 0 where
+  pub all : none ≡ true → (i : ℕ) → i < n → P i 0
+  pub one : none ≡ false → (i : ℕ) × (x : ℕ) × (i < n) × P i x × (x ≡ 0 → ⊥)
 
 pub decides_holds : (s : Session) (b : Bool) → Decides b (Right s) → b ≡ holds s
 decides_holds s true d = sym (right-holds s (d.yes refl))

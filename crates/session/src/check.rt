@@ -1,19 +1,20 @@
 // Row 10, "for a session that no beginning and accepted calls lead to": planning accepts the session's layout, and everything else in it is
 // what that layout gives. The table of ranks that the check works out serves the call that goes on.
-ghost use Rattle.std.specs.Prelude.{◌≡◌, true, ◌&&◌, [], ◌∷◌, ℕ, ◌+◌, ◌*◌, ◌≤◌, ◌<◌, eqb, pos, length, get_or, take, drop};
+ghost use Rattle.std.specs.Prelude.{◌≡◌, true, ◌&&◌, [], ◌∷◌, ℕ, ◌*◌, ◌≤◌, ◌<◌, eqb, pos, length, get_or, take, drop, replicate, MatchOption};
 ghost use Rattle.strided.specs.Base.{padded};
 ghost use Rattle.strided.specs.Layout.{lead as lead_of};
 ghost use Rattle.strided.specs.Memory.{purpose_of};
+ghost use Rattle.strided.specs.Fuse.{eq_z};
 ghost use Rattle.strided.specs.Order.{pick};
 ghost use Rattle.strided.specs.Step.{blank, blank_z};
 ghost use Rattle.strided.specs.Refusals.{refused_by, answered};
 ghost use Rattle.laws.specs.Fuse.Arrays.{pick_rows};
 ghost use Rattle.session.specs.Session.{kind_of, same_nats, same_ints, Right, row21, new_rows};
 ghost use Rattle.session.specs.Same.{Decides};
-ghost use Rattle.session.specs.Made.{RankRow, Even, ranks_in, LaidRight, Tables, WeightsRight, AxesRight, BlocksRight, KeepsRight};
+ghost use Rattle.session.specs.Made.{RankRow, ranks_in, LaidRight, Tables, WeightsRight, AxesRight, BlocksRight, KeepsRight};
 
 use super::LentSession;
-use super::compare::same;
+use super::compare::{alike, same};
 use super::kept::{blocks_kept_into, stays_kept_into, weights_kept};
 use auxiliary::rank_table_into;
 use fuse::compute_costs;
@@ -50,14 +51,29 @@ fn tidy(session: &LentSession) -> bool
     e & (z & s)
 }
 
-// Whether a session's layout is one that planning accepts, laid out as a session has it.
-fn layout_right(session: &LentSession) -> bool
-    ensures { Decides result (LaidRight session.now) }
+// A session whose layout is right: planning accepts it, and it is laid out as a session has it.
+#[derive(Clone, Copy)]
+struct RightLayout<'a, 'b> {
+    session: &'a LentSession<'b>,
+    ghost right: { LaidRight session.now },
+}
+
+// Such a session, and the table of its ranks.
+#[derive(Clone, Copy)]
+struct Ranked<'a, 'b> {
+    right: RightLayout<'a, 'b>,
+    table: &'a [[u8; 64]; 8],
+    ghost ranks: { Tables right.session.now table.now },
+}
+
+// A session with its layout, where that is right.
+fn layout_right<'a, 'b>(session: &'a LentSession<'b>) -> Option<RightLayout<'a, 'b>>
+    ensures { MatchOption result (LaidRight session.now → ⊥) (λ r. r.session.now ≡ session.now) }
 {
     let numbers = session.numbers;
     let operands = numbers.operands;
     if rank_over(numbers.rank) || operands_wrong(operands) {
-        return false;
+        return None;
     }
     let told = purpose_told(numbers.purpose, numbers.chosen);
     let neat = tidy(session);
@@ -72,15 +88,19 @@ fn layout_right(session: &LentSession) -> bool
         numbers.machine,
     );
     let plain = answer.is_ok();
-    told & (neat & plain)
+    let right = told & (neat & plain);
+    if right {
+        return Some(RightLayout { session });
+    }
+    None
 }
 
-// The table of the ranks of a session's layout.
-fn table_into(session: &LentSession, table: &mut [[u8; 64]; 8])
-    requires { LaidRight session.now }
-    ensures { Tables session.now table.new }
+// The table of the ranks of a session's layout, written into one of zeros.
+fn table_into(right: RightLayout, table: &mut [[u8; 64]; 8])
+    requires { table.old ≡ replicate 8 (replicate 64 0) }
+    ensures { Tables right.entry.session.now table.new }
 {
-    let laid = session.laid();
+    let laid = right.session.laid();
     rank_table_into(laid.layout(), table);
 }
 
@@ -89,18 +109,17 @@ fn row_right<'a>(row: &'a [u8; 64], ranks: &'a [u64]) -> bool
     requires { RankRow row.now × (length ranks.now ≡ 64) }
     ensures { result ≡ same_nats ranks.now row.now }
 {
-    let mut differing: u64 = 0;
-    for i in 0..64 {
-        differing |= ranks[i] ^ u64::from(row[i]);
-    }
-    differing == 0
+    alike(64, |i| ranks[i] ^ row[i] as u64)
 }
 
 // Whether the ranks are those of the table.
-fn ranks_right(session: &LentSession, table: &[[u8; 64]; 8]) -> bool
-    requires operands_bound { (session.now.operands ≤ 8) × Even table.now }
-    ensures { Decides result (session.now.ranks ≡ ranks_in table.now session.now.operands) }
+// Kept: a loop over rows of its own, here and in `strides_right`. What the two do with a row differs in each argument, and a closure over the row's
+// number would have to say the same of it as these loops' invariants.
+fn ranks_right(ranked: Ranked) -> bool
+    ensures { let s = ranked.entry.right.session.now in Decides result (s.ranks ≡ ranks_in ranked.entry.table.now s.operands) }
 {
+    let session = ranked.right.session;
+    let table = ranked.table;
     let operands = session.numbers.operands;
     let ranks = session.ranks;
     let mut alike = true;
@@ -115,30 +134,32 @@ fn ranks_right(session: &LentSession, table: &[[u8; 64]; 8]) -> bool
 }
 
 // Whether the weights are what the layout gives.
-fn weights_right(session: &LentSession, table: &[[u8; 64]; 8]) -> bool
-    requires layout_right { LaidRight session.now }
-    requires table_of { Tables session.now table.now }
-    ensures { Decides result (WeightsRight session.now) }
+fn weights_right(ranked: Ranked) -> bool
+    ensures { Decides result (WeightsRight ranked.entry.right.session.now) }
 {
+    let session = ranked.right.session;
     let weights = session.weights;
     let laid = session.laid();
-    let w = weights_kept(&laid, table);
+    let w = weights_kept(&laid, ranked.table);
     same(&w, weights)
 }
 
-// Whether a row of a plan's strides has an operand's strides of these axes, and 0 behind them. The operand's strides start at `from`.
-fn row_picked<'a>(strides: &'a [i64], from: usize, axes: &'a [u8], row: &'a [i64]) -> bool
-    requires few { (length axes.now ≤ 64) × (length row.now ≡ 64) }
-    requires by_index { (j : ℕ) → j < length axes.now → from + get_or axes.now j 0 < length strides.now }
-    ensures { result ≡ same_ints (padded 64 (pos 0) (pick (pos 0) (drop from strides.now) axes.now)) row.now }
+// The bits in which two strides differ.
+fn unlike(a: i64, b: i64) -> u64
+    ensures { eqb result 0 ≡ eq_z a b }
 {
-    let mut differing: i64 = 0;
-    for i in 0..axes.len() {
-        let axis = axes[i] as usize;
-        differing |= strides[from + axis] ^ row[i];
-    }
+    (a ^ b).cast_unsigned()
+}
+
+// Whether a row of a plan's strides has an operand's strides of these axes, and 0 behind them.
+fn row_picked<'a>(strides: &'a [i64], axes: &'a [u8], row: &'a [i64]) -> bool
+    requires few { (length axes.now ≤ 64) × (length row.now ≡ 64) }
+    requires by_index { (j : ℕ) → j < length axes.now → get_or axes.now j 0 < length strides.now }
+    ensures { result ≡ same_ints (padded 64 (pos 0) (pick (pos 0) strides.now axes.now)) row.now }
+{
+    let picked = alike(axes.len(), |i| unlike(strides[axes[i] as usize], row[i]));
     let rest = all_zero(&row[axes.len()..]);
-    (differing == 0) & rest
+    picked & rest
 }
 
 // Whether a plan's strides are those of these axes.
@@ -153,8 +174,7 @@ fn strides_right(rows: Rows, axes: &[u8], plan_strides: &[i64; 512]) -> bool
         let start = k * 64;
         let end = start + 64;
         alike &= row_picked(
-            rows.strides,
-            k * rows.pitch,
+            &rows.strides[k * rows.pitch..],
             axes,
             &plan_strides[start..end],
         );
@@ -165,11 +185,11 @@ fn strides_right(rows: Rows, axes: &[u8], plan_strides: &[i64; 512]) -> bool
 }
 
 // Whether the plan's axes are what the layout gives, where the weights are.
-fn axes_right(session: &LentSession) -> bool
-    requires layout_right { LaidRight session.now }
-    requires weights_right { WeightsRight session.now }
-    ensures { Decides result (AxesRight session.now) }
+fn axes_right(right: RightLayout) -> bool
+    requires { WeightsRight right.session.now }
+    ensures { Decides result (AxesRight right.entry.session.now) }
 {
+    let session = right.session;
     let numbers = session.numbers;
     let laid = session.laid();
     let layout = laid.layout();
@@ -184,11 +204,11 @@ fn axes_right(session: &LentSession) -> bool
 }
 
 // Whether costs and blocks are what the layout gives, where the plan's axes are.
-fn blocks_right(session: &LentSession) -> bool
-    requires layout_right { LaidRight session.now }
-    requires axes_right { AxesRight session.now }
-    ensures { Decides result (BlocksRight session.now) }
+fn blocks_right(right: RightLayout) -> bool
+    requires { AxesRight right.session.now }
+    ensures { Decides result (BlocksRight right.entry.session.now) }
 {
+    let session = right.session;
     let numbers = session.numbers;
     let plan_strides = session.plan_strides;
     let rows = Rows {
@@ -206,26 +226,28 @@ fn blocks_right(session: &LentSession) -> bool
 }
 
 // Whether everything that is kept beside the ranks is what the layout gives.
-fn kept_right(session: &LentSession, table: &[[u8; 64]; 8]) -> bool
-    requires layout_right { LaidRight session.now }
-    requires table_of { Tables session.now table.now }
-    ensures { Decides result (KeepsRight session.now) }
+fn kept_right(ranked: Ranked) -> bool
+    ensures { Decides result (KeepsRight ranked.entry.right.session.now) }
 {
-    weights_right(session, table) && (axes_right(session) && blocks_right(session))
+    let right = ranked.right;
+    weights_right(ranked) && (axes_right(right) && blocks_right(right))
 }
 
-// Whether a session is one that beginnings and accepted calls lead to. If it is, the table of its ranks is left in `table`.
-// Kept: tried, as plain Rust: an `Option` of the table, whose 512 bytes are copied then: a join of 10 x 10 takes 4 % more instructions, and 986 ns
-// where it took 910 to 941.
+// Whether a session is one that beginnings and accepted calls lead to. If it is, the table of its ranks is left in `table`, which is lent as
+// zeros.
+// Kept: an `Option` of the table misses the speed of a join, which request 8 measures beside two plannings: its 512 bytes are copied. At 10 x 10
+// that is 4 % more instructions, and 986 ns where it takes 910 to 941. Both figures are of the same code in plain Rust.
 pub fn holds(session: &LentSession, table: &mut [[u8; 64]; 8]) -> bool
+    requires { table.old ≡ replicate 8 (replicate 64 0) }
     ensures told { Decides result (Right session.now) }
     ensures table { result ≡ true → Tables session.now table.new }
 {
-    if !layout_right(session) {
+    let Some(right) = layout_right(session) else {
         return false;
-    }
-    table_into(session, &mut *table);
-    ranks_right(session, table) && kept_right(session, table)
+    };
+    table_into(right, &mut *table);
+    let ranked = Ranked { right, table };
+    ranks_right(ranked) && kept_right(ranked)
 }
 
 // Rows 20, 3 and 6 of an operand that is to join the layout of a session.

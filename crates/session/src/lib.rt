@@ -2,7 +2,7 @@
 // keeps the ranks and weights of the layout's axes, the costs of the plan's axes, and the plan.
 #![tactic(auto)]
 
-ghost use Rattle.std.specs.Prelude.{◌≡◌, Ok};
+ghost use Rattle.std.specs.Prelude.{◌≡◌, replicate, Ok};
 ghost use Rattle.strided.specs.Refusals.{refused_by, answered};
 ghost use Rattle.session.specs.Session.{join_rows, leave_rows};
 ghost use Rattle.session.specs.Made.{Tables};
@@ -11,12 +11,12 @@ use check::{check_joining, check_leaving, holds};
 use std::marker::Model;
 use strided::{Machine, Plan, Refusal};
 
-pub mod check;
-pub mod compare;
+mod check;
+mod compare;
 pub mod kept;
-pub mod laid;
+pub mod layouts;
 
-pub use laid::Laid;
+pub use layouts::SessionLayout;
 
 // A session. The purpose is 0, 1 or 2 as a C program tells it, with `chosen` 0 where there is none. The strides stand one after the other
 // with `rank` of them for each operand, as a layout has them; operand k's rank on axis i stands at k * 64 + i. Places behind the counts
@@ -47,6 +47,25 @@ pub struct Numbers {
     pub operands: usize,
     pub plan_rank: usize,
     pub plan_operands: usize,
+}
+
+impl<'a> From<&'a Session> for Numbers {
+    ghost use Rattle.session.specs.Made.{numbers_of};
+
+    ghost from_gives = { λ s n. n ≡ numbers_of s.now };
+
+    fn from(session: &'a Session) -> Numbers {
+        let plan = &session.plan;
+        Numbers {
+            purpose: session.purpose,
+            chosen: session.chosen,
+            machine: session.machine,
+            rank: session.rank,
+            operands: session.operands,
+            plan_rank: plan.rank,
+            plan_operands: plan.operands,
+        }
+    }
 }
 
 // A session whose arrays are lent. A contract sees it as the session.
@@ -83,14 +102,14 @@ impl<'a> LentSession<'a> {
     ghost use Rattle.session.specs.Made.{numbers_of};
 
     // Its layout.
-    pub fn laid(&self) -> Laid<'a>
+    pub fn laid(&self) -> SessionLayout<'a>
         requires { (self.now.rank ≤ 64) × (self.now.operands ≤ 8) }
         ensures numbers { result.numbers ≡ numbers_of self.now }
         ensures extents { result.extents.now ≡ self.now.extents }
         ensures sizes { result.sizes.now ≡ self.now.sizes }
         ensures strides { result.strides.now ≡ self.now.strides }
     {
-        Laid {
+        SessionLayout {
             numbers: self.numbers,
             extents: self.extents,
             sizes: self.sizes,
@@ -99,13 +118,14 @@ impl<'a> LentSession<'a> {
     }
 }
 
-// What joining is refused for: rows 10, 20, 3 and 6. The table of the session's ranks is left in `table`.
+// What joining is refused for: rows 10, 20, 3 and 6. The table of the session's ranks is left in `table`, which is lent as zeros.
 // Kept: the table lent, here and in leaving: see `holds`.
 pub fn check_join<'a>(
     session: &LentSession,
     joining: &'a [i64],
     table: &mut [[u8; 64]; 8],
 ) -> Result<(), Refusal>
+    requires { table.old ≡ replicate 8 (replicate 64 0) }
     ensures told { result ≡ answered (refused_by (join_rows session.now joining.now)) }
     ensures table { result ≡ Ok tt → Tables session.now table.new }
 {
@@ -121,6 +141,7 @@ pub fn check_leave(
     operand: u64,
     table: &mut [[u8; 64]; 8],
 ) -> Result<(), Refusal>
+    requires { table.old ≡ replicate 8 (replicate 64 0) }
     ensures told { result ≡ answered (refused_by (leave_rows session.now operand)) }
     ensures table { result ≡ Ok tt → Tables session.now table.new }
 {

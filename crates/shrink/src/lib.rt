@@ -23,6 +23,16 @@ struct Scores<'a> {
     ghost fit: { ScoresFit tail.rank costs.now blocks.now },
 }
 
+impl<'a> Scores<'a> {
+    // The score of axis i.
+    fn at(self, i: usize) -> u64
+        requires { i < self.tail.rank }
+        ensures { let s = self.entry in result ≡ score s.blocks.now s.costs.now i }
+    {
+        self.blocks[i].saturating_sub(1) * self.costs[i]
+    }
+}
+
 // The greatest score over the blocks above 1 of the tail whose axis has a cost; the last wins ties. Any other score is 0, and the
 // score to reach is 1 at first.
 fn last_argmax_weighted(scores: Scores) -> Option<usize>
@@ -31,7 +41,7 @@ fn last_argmax_weighted(scores: Scores) -> Option<usize>
     let mut best = None;
     let mut top: u64 = 1;
     for i in scores.tail.offset..scores.tail.rank {
-        let s = scores.blocks[i].saturating_sub(1) * scores.costs[i];
+        let s = scores.at(i);
         if s >= top {
             best = Some(i);
             top = s;
@@ -43,6 +53,7 @@ fn last_argmax_weighted(scores: Scores) -> Option<usize>
 // While the region is `least` or above, the picked block becomes what `f` makes of it. A region above twice the cache is told as one just above.
 // Kept: here, below and in block the clause on the scores. The blocks are lent to be changed, and a struct that held them as `&mut` would ask for
 // clauses on its references in each contract.
+// Kept: a tail and its costs apart, here, below and in block. What binds the two speaks of the blocks, so that a struct of them would hold no fact.
 fn shorten<'a, F: Fn(u64) -> u64>(
     tail: Tail<'a>,
     costs: &'a [u64; 64],
@@ -74,13 +85,12 @@ fn clip_into(scores: Scores, level: u64, out: &mut [u64; 64])
     ensures { let s = scores.entry in out.new ≡ clipped_over level s.costs.now s.tail.offset (axes s.tail) s.blocks.now out.old }
 {
     let tail = scores.tail;
+    // Kept: an index. Blocks and costs are read and `out` is written at it.
     for i in tail.offset..tail.rank {
-        let x = scores.blocks[i];
-        let c = scores.costs[i];
-        out[i] = if level < x.saturating_sub(1) * c {
-            level / c + 1
+        out[i] = if level < scores.at(i) {
+            level / scores.costs[i] + 1
         } else {
-            x
+            scores.blocks[i]
         };
     }
 }
@@ -93,7 +103,7 @@ fn top_score(scores: Scores) -> u64
     let Some(i) = last_argmax_weighted(scores) else {
         return 0;
     };
-    scores.blocks[i].saturating_sub(1) * scores.costs[i]
+    scores.at(i)
 }
 
 // The score to jump to: the least at which the region of the clipped blocks is still above the cache. Halving the way to it takes 64 turns at
@@ -127,19 +137,13 @@ fn lessen<'a>(tail: Tail<'a>, costs: &'a [u64; 64], blocks: &mut [u64; 64])
     if memory_region(tail, blocks) <= tail.machine.numbers.cache {
         return;
     }
-    let s = level(Scores {
+    let whole = *blocks;
+    let scores = Scores {
         tail,
         costs,
-        blocks,
-    });
-    let mut t = *blocks;
-    let whole = Scores {
-        tail,
-        costs,
-        blocks,
+        blocks: &whole,
     };
-    clip_into(whole, s, &mut t);
-    *blocks = t;
+    clip_into(scores, level(scores), blocks);
     shorten(
         tail,
         costs,

@@ -2,14 +2,13 @@
 -- Assumes nothing.
 use mathlib.Core.Path.{◌≡◌, refl, sym, ap, ap₂, ◌∙◌, subst}
 use mathlib.Core.Bool.{Bool, true, false, cond, not, ◌&&◌, false≢true}
-use mathlib.Core.List.{List}
+use mathlib.Core.List.{List, [], ◌∷◌}
+use mathlib.Core.Logic.{◌⊎◌, ⊎_elim}
 use Prim.Native.Nat.{ℕ, zero, suc, ◌+◌, ◌-◌, ◌*◌, ◌^◌, ◌≤◌, ◌<◌, min}
-use native.Mathlib.Numerals.{add-one}
 use native.Mathlib.Omega.{arith}
 use lib.Dec.{T, ltb, leb}
 use lib.IntN.{ℤ, pos, negsuc, nat_abs, ◌-ℤ◌}
-use lib.ListN.{length, get_or, drop}
-use lib.Seq.{drop-cons}
+use lib.ListN.{length}
 use lib.Signed.{non_neg, lt_z}
 use mir.Syntax.{w64}
 use mir.Val.{SFits, to_z, of_z}
@@ -17,8 +16,6 @@ use mir.Facts.{to_z-of_z}
 use borrow.Author.Tests.{ltb-true, lt-ltb, le-ltb, leb-true, leb-false}
 use Rattle.laws.specs.Base.Tests.{both_and}
 use Rattle.strided.specs.Layout.{has_zero, reach, reach_down}
-use Rattle.laws.specs.Base.Layouts.{nozero_at}
-use Rattle.laws.specs.Refusals.Reaches.{term_reach}
 use Rattle.laws.specs.Refusals.Zeros.{no_zero_of}
 use Rattle.laws.specs.Walk.Row9.{below_term, down_reach}
 use Rattle.span.specs.Span.{in_cells, outside, Spans}
@@ -26,9 +23,10 @@ use Rattle.span.specs.Ways.{Full}
 
 -- ---- the sum over the axes
 
--- what is summed up, and what is left from axis i on
-abbrev pub Left : List ℕ → List ℤ → ℕ → ℕ → Type 0
-Left es ts sum i = sum + reach_down (drop i es) (drop i ts) ≡ reach_down es ts
+-- what is summed up, and the axes that are left, es' and ts'
+pub record Left (es : List ℕ) (ts : List ℤ) (sum : ℕ) (es' : List ℕ) (ts' : List ℤ) : Type 0 where
+  pub full : Full es' ts'
+  pub whole : sum + reach_down es' ts' ≡ reach_down es ts
 
 -- an axis's part of the way below the start is the part below the counter 0
 down_below : (e : ℕ) (t : ℤ) → cond (non_neg t) 0 ((e - 1) * nat_abs t) ≡ below_term e 0 t
@@ -36,31 +34,42 @@ unfolding below_term
 down_below e (pos a) = omega arith
 down_below e (negsuc a) = ap (λ (n : ℕ). n * suc a) (let q : e - 1 ≡ e - 1 - 0 = omega arith in q)
 
-module _ (es : List ℕ) (ts : List ℤ) (p : Full es ts) where
-  pub stride_there : (i : ℕ) → i < length es → i < length ts
-  stride_there i h = subst (λ (n : ℕ). i < n) (sym p.long) h
+pub left_start : {es : List ℕ} {ts : List ℤ} {us : List ℕ} {vs : List ℤ} → Full es ts → us ≡ es → vs ≡ ts → Left es ts 0 us vs
+left_start p e f = rw (e, f) (record { full = p; whole = omega arith })
 
-  -- an axis's way is within the reach
-  pub way : (i : ℕ) → i < length es → (get_or es i 0 - 1) * nat_abs (get_or ts i (pos 0)) < 2 ^ 63
-  way i h = omega (arith, term_reach es ts i h (stride_there i h), p.near)
+module _ {es : List ℕ} {ts : List ℤ} {sum : ℕ} {us : List ℕ} {vs : List ℤ} (l : Left es ts sum us vs) where
+  -- one axis is in front of others
+  module _ {e : ℕ} {t : ℤ} {es' : List ℕ} {ts' : List ℤ} (p : us ≡ e ∷ es') (q : vs ≡ t ∷ ts') where
+    here : Left es ts sum (e ∷ es') (t ∷ ts')
+    here = subst (λ (x : List ℕ). Left es ts sum x (t ∷ ts')) p (subst (λ (y : List ℤ). Left es ts sum us y) q l)
 
-  pub some : (i : ℕ) → i < length es → 0 < get_or es i 0
-  some i h = nozero_at es i p.whole h
+    -- its way is within the reach
+    pub way : (e - 1) * nat_abs t < 2 ^ 63
+    way = omega (arith, here.full.near)
 
-  pub down_fits : reach_down es ts < 2 ^ 63
-  down_fits = omega (arith, down_reach es ts, p.near)
+    pub some : 0 < e
+    some = here.full.whole.0
 
-  left_cons : (i : ℕ) → i < length es → reach_down (drop i es) (drop i ts) ≡ below_term (get_or es i 0) 0 (get_or ts i (pos 0)) + reach_down (drop (i + 1) es) (drop (i + 1) ts)
-  left_cons i h =
-      rw (add-one i, drop-cons es i 0 h, drop-cons ts i (pos 0) (stride_there i h))
-      (ap (λ (n : ℕ). n + reach_down (drop (suc i) es) (drop (suc i) ts)) (down_below (get_or es i 0) (get_or ts i (pos 0))))
+    others : Full es' ts'
+    others =
+        let h = here.full in
+        let n : suc (length ts') ≡ suc (length es') = h.long in
+        record { long = omega arith; whole = h.whole.1; near = omega (arith, h.near) }
 
-  module _ (sum i t : ℕ) (h : i < length es) (l : Left es ts sum i) (is : t ≡ below_term (get_or es i 0) 0 (get_or ts i (pos 0))) where
-    pub left_turn : Left es ts (sum + t) (i + 1)
-    left_turn = let q = left_cons i h in omega (arith, q, is, l)
+    module _ {n : ℕ} (is : n ≡ below_term e 0 t) where
+      pub left_turn : Left es ts (sum + n) es' ts'
+      left_turn = record { full = others; whole = omega (arith, here.whole, is, down_below e t) }
 
-    pub left_fits : sum + t < 2 ^ 64
-    left_fits = let q = left_cons i h in omega (arith, q, is, l, down_fits)
+      pub left_fits : Full es ts → sum + n < 2 ^ 64
+      left_fits f = omega (arith, left_turn.whole, down_reach es ts, f.near)
+
+  -- none is left
+  pub none_left : (length us ≡ 0) ⊎ (length vs ≡ 0) → sum ≡ reach_down es ts
+  none_left o = ⊎_elim (λ (e : length us ≡ 0). go us e l) (λ (e : length vs ≡ 0). go us (omega (arith, e, l.full.long)) l) o
+    where
+      go : (xs : List ℕ) → length xs ≡ 0 → Left es ts sum xs vs → sum ≡ reach_down es ts
+      go [] e h = omega (arith, h.whole)
+      go (x ∷ xs) e h = absurd (omega arith)
 
 -- ---- the test
 

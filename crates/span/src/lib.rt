@@ -15,10 +15,10 @@ fn down_of<'a>(extents: &'a [u64], strides: &'a [i64]) -> u64
     ensures { result ≡ reach_down extents.now strides.now }
 {
     let mut sum: u64 = 0;
-    for i in 0..extents.len() {
+    for (extent, stride) in extents.iter().zip(strides) {
         let axis = Along {
-            extent: extents[i],
-            stride: strides[i],
+            extent: *extent,
+            stride: *stride,
         };
         sum += axis.below_at(0);
     }

@@ -1,6 +1,6 @@
 -- Where no number of a state is large: what is gathered above a bound, and rows 6 and 9, which do not apply. Assumes nothing.
-use mathlib.Core.Path.{◌≡◌, refl, sym, ◌∙◌, subst}
-use mathlib.Core.Bool.{Bool, true, false, not, ◌&&◌}
+use mathlib.Core.Path.{◌≡◌, refl, sym, ap, ◌∙◌}
+use mathlib.Core.Bool.{Bool, true, false, not, ◌&&◌, false≢true}
 use mathlib.Core.List.{List, [], ◌∷◌}
 use Prim.Native.Nat.{ℕ, zero, suc, ◌+◌, ◌-◌, ◌*◌, ◌^◌, ◌≤◌, ◌<◌}
 use native.Mathlib.Nat.{mul-le-mul_right}
@@ -9,38 +9,35 @@ use lib.Dec.{ltb}
 use lib.IntN.{ℤ, pos, negsuc, nat_abs, ◌+ℤ◌, ◌-ℤ◌}
 use lib.ListN.{length, get_or}
 use borrow.Author.Tests.{ltb-true, lt-ltb, le-ltb}
-use Rattle.strided.specs.Base.{some_of}
+use Rattle.strided.specs.Base.{every, some_of}
 use Rattle.strided.specs.Layout.{Within, has_zero, in_i64, dot, reach, max_i}
 use Rattle.strided.specs.Refusals.{row6}
+use Rattle.laws.specs.Base.Ranges.{every_fails}
 use Rattle.laws.specs.Base.Tests.{and_both}
 use Rattle.laws.specs.Refusals.Operands.{some_of_none}
 use Rattle.laws.specs.Walk.Row9.{below_of, below-reach, leaves_at_lem}
 use Rattle.strided.specs.Begin.{plan_extents, plan_row}
 use Rattle.strided.specs.declared.Plan.{Plan}
-use Rattle.layout.specs.Laid.{far_at}
-use Rattle.advance.specs.Filled.{by_lt}
+use Rattle.layout.specs.Rows.{far_at}
 use Rattle.layout.specs.Near.{all_below}
 use Rattle.states.specs.Near.{RowsNear, Near}
 use Rattle.states.specs.Starts.{leaves_at, some_leave}
 use Rattle.states.proofs.Rooms.{pos_room, neg_mag, neg_room}
 
--- ---- the strides of the operands so far
-
--- those of the first n
-abbrev pub NearTo : Plan → ℕ → Type 0
-NearTo p n = (k : ℕ) → k < n → all_below nat_abs (2 ^ 40) (plan_row p k) ≡ true
+-- ---- the strides of every operand, where one test was made of each
 
 module _ (p : Plan) where
-  pub rows_none : NearTo p 0
-  rows_none k h = absurd (let z : ⊥ = omega arith in z)
+  abbrev near_at : ℕ → Bool
+  near_at k = all_below nat_abs (2 ^ 40) (plan_row p k)
 
-  -- one operand more
-  pub rows_next : (k : ℕ) → NearTo p k → {b : Bool} → b ≡ all_below nat_abs (2 ^ 40) (plan_row p k) → b ≡ true → NearTo p (k + 1)
-  rows_next k r e h j l =
-      by_lt j k (r j) (λ q. subst (λ (n : ℕ). all_below nat_abs (2 ^ 40) (plan_row p n) ≡ true) (let g : k ≡ j = omega arith in g) (sym e ∙ h))
-
-  pub rows_all : (k : ℕ) → NearTo p k → p.operands ≤ k → RowsNear p
-  rows_all k r h j l = r j (omega arith)
+  pub rows_all : every (λ k. all_below nat_abs (2 ^ 40) (plan_row p k)) 0 p.operands ≡ true → RowsNear p
+  rows_all h k l = go (near_at k) refl
+    where
+      go : (b : Bool) → near_at k ≡ b → near_at k ≡ true
+      go true q = q
+      go false q =
+          let e : 0 + k ≡ k = omega arith in
+          absurd (false≢true (sym (every_fails near_at 0 p.operands k l (ap near_at e ∙ q)) ∙ h))
 
 -- ---- rows 6 and 9
 

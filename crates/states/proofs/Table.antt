@@ -24,7 +24,7 @@ use Rattle.laws.specs.Refusals.Rows.{Past, past_none, past_next, served_none, re
 use Rattle.laws.specs.Refusals.Operands.{some_of_at}
 use Rattle.laws.specs.Refusals.Rows.{unless-passes}
 use Rattle.laws.specs.Refusals.Zeros.{no_zero_of}
-use Rattle.layout.specs.Laid.{far_at}
+use Rattle.layout.specs.Rows.{far_at}
 use Rattle.layout.specs.Lent.{lent, Whole}
 use Rattle.layout.proofs.Lending.{lent_refuses}
 use Rattle.states.specs.Starts.{leaves_at, some_leave, Standing, Begins}

@@ -23,11 +23,11 @@ impl<'a> Model for LentWalk<'a> {
     ghost invariant = { λ l. WholeWalk (walk_of l.ended l.counters.now l.offsets.now) };
 }
 
-impl<'a> LentWalk<'a> {
-    // A walk as it is.
-    pub fn of(walk: &'a Walk) -> LentWalk<'a>
-        ensures { result ≡ walk.now }
-    {
+// A walk as it is.
+impl<'a> From<&'a Walk> for LentWalk<'a> {
+    ghost from_gives = { λ w l. l ≡ w.now };
+
+    fn from(walk: &'a Walk) -> LentWalk<'a> {
         LentWalk {
             ended: walk.ended,
             counters: &walk.counters,

@@ -20,6 +20,7 @@ use starts::starts_leave;
 pub use state::reaches;
 
 // The starts as a walk's offsets.
+// Kept: apart from layout's `lay_into`, which lays unsigned numbers into an array that is lent. What the two share is `copy_from_slice`.
 fn offsets_of(starts: &[i64]) -> [i64; 8]
     requires { length starts.now ≤ 8 }
     ensures { result ≡ padded 8 (pos 0) starts.now }
@@ -75,5 +76,5 @@ pub fn begin_on(plan: &LentPlan, starts: &[i64]) -> Result<Walk, Refusal>
 pub fn begin(plan: Plan, starts: &[i64]) -> Result<Walk, Refusal>
     ensures { result ≡ begun_at plan starts.now }
 {
-    begin_on(&LentPlan::of_plan(&plan)?, starts)
+    begin_on(&LentPlan::try_from(&plan)?, starts)
 }

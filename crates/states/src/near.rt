@@ -19,12 +19,7 @@ fn row_near(plan: &LentPlan, k: usize) -> bool
 fn rows_near(plan: &LentPlan) -> bool
     ensures { result ≡ true → RowsNear plan.now }
 {
-    for k in 0..plan.operands {
-        if !row_near(plan, k) {
-            return false;
-        }
-    }
-    true
+    (0..plan.operands).all(|k| row_near(plan, k))
 }
 
 // Yes only where nothing is large: 64 products of extents below 2^16 and strides below 2^40 have a sum below 2^62, and so are the offsets.

@@ -67,12 +67,7 @@ fn some_leave<'a>(plan: &LentPlan, counters: &'a [u64], offsets: &'a [i64]) -> b
     requires { Standing plan.now counters.now offsets.now }
     ensures { result ≡ some_of (leaves_at plan.now counters.now offsets.now) 0 plan.now.operands }
 {
-    for k in 0..plan.operands {
-        if leaves_at(plan, counters, offsets, k) {
-            return true;
-        }
-    }
-    false
+    (0..plan.operands).any(|k| leaves_at(plan, counters, offsets, k))
 }
 
 // Row 9, told from the offsets at the counters.

@@ -1,6 +1,8 @@
 // Row 10, "step on a state no begun walk reaches", as a test of the state's arrays.
-ghost use Rattle.std.specs.Prelude.{◌≡◌, take, drop, ◌&&◌};
-ghost use Rattle.strided.specs.Step.{plan_cut_axes, blank, blank_z, on_startb};
+ghost use Rattle.std.specs.Prelude.{◌≡◌, take};
+ghost use Rattle.strided.specs.Step.{plan_cut_axes, on_startb, tidy};
+ghost use Rattle.layout.specs.Lent.{Whole};
+ghost use Rattle.states.specs.Lent.{WholeWalk};
 ghost use Rattle.states.specs.Reaches.{standing, may_start, reaches};
 
 use super::lent::LentWalk;
@@ -15,11 +17,12 @@ fn on_start(plan: &LentPlan, c: &[u64; 64]) -> bool
     plan.rank == 0 || c[0].is_multiple_of(advance::effective(plan.extents[0], plan.blocks[0]))
 }
 
-// Whether the counters of a walk may stand there.
-fn stands(ended: bool, plan: &LentPlan, c: &[u64; 64]) -> bool
-    ensures { result ≡ standing ended plan.now c.now }
+// Whether the counters of a walk may stand where they do.
+fn stands(plan: &LentPlan, walk: &LentWalk) -> bool
+    ensures { result ≡ standing walk.now.ended plan.now walk.now.counters }
 {
-    if ended {
+    let c = walk.counters;
+    if walk.ended {
         return all_zero(&c[..plan.rank]);
     }
     within(plan.axes(), &c[..plan.rank]) && on_start(plan, c)
@@ -33,20 +36,25 @@ pub fn may_start(plan: &LentPlan) -> bool
 }
 
 // Whether the places behind the counts are 0.
-fn tidy<'a>(plan: &LentPlan, c: &'a [u64; 64], o: &'a [i64; 8]) -> bool
-    ensures { result ≡ (blank (drop plan.now.rank c.now) && blank_z (drop plan.now.operands o.now)) }
+fn tidy(plan: &LentPlan, walk: &LentWalk) -> bool
+    ensures { result ≡ tidy plan.now walk.now }
 {
+    let c = walk.counters;
+    let o = walk.offsets;
     all_zero(&c[plan.rank..]) && all_zero(&o[plan.operands..])
 }
 
-// Whether a begun walk of the plan reaches the state. Where nothing is large rows 6 and 9 are not asked.
+// Whether a begun walk of the plan reaches the state. Where nothing is large rows 6 and 9 are not asked. Who asks learns with it what is known of
+// a plan and of a walk that are lent.
 pub fn reaches(plan: &LentPlan, walk: &LentWalk) -> bool
-    ensures { result ≡ reaches plan.now walk.now }
+    ensures told { result ≡ reaches plan.now walk.now }
+    ensures plan_whole { Whole plan.now }
+    ensures walk_whole { WholeWalk walk.now }
 {
     let c = walk.counters;
     let o = walk.offsets;
     let counters = &c[..plan.rank];
-    if !tidy(plan, c, o) || !stands(walk.ended, plan, c) {
+    if !tidy(plan, walk) || !stands(plan, walk) {
         return false;
     }
     if all_near(plan, o) {

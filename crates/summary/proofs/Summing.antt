@@ -21,12 +21,13 @@ use Rattle.laws.specs.Base.Refusals.{NoneApplies, none_applies}
 use Rattle.laws.specs.Text.Totals.{begun_total}
 use Rattle.laws.specs.Walk.Placed.{Placed, placed_walk, placed-over}
 use Rattle.laws.specs.Walk.Steps.{Ready, ready_sized}
+use Rattle.std.specs.Prelude.{Option}
 use Rattle.advance.specs.Axis.{widths, starts_to}
 use Rattle.advance.specs.Carry.{state_of}
 use Rattle.advance.specs.declared.State.{State}
 use Rattle.walk.specs.Lent.{Taken}
 use Rattle.walk.proofs.Stepping.{begun_taken}
-use Rattle.walker.specs.declared.Way.{Way}
+use Rattle.walker.specs.declared.way.Way.{Way}
 use Rattle.walker.specs.declared.Next.{Next}
 use Rattle.walker.specs.Stretch.{laid, told, RowsFit}
 use Rattle.walker.specs.Way.{Leads, moves_of, Strode}
@@ -79,14 +80,15 @@ module _ {p : Plan} {z : ℤ} {cells : List Float} (h : Summable p z cells) wher
     pub first_taken : Taken p (first_of z false)
     first_taken = rw (begun e) (begun_taken p (z ∷ []) summable_ready h.sized)
 
--- ---- the walk before block n: what is ahead of the summary s
+-- ---- the walk before some block n: what is ahead of the summary s
 
 -- the offsets of the cells from block n on
 abbrev cells_from : Plan → ℤ → ℕ → List ℤ
 cells_from p z n = over (drop n (placed_walk p (z ∷ []))) (run_in (get_or p.strides 0 (pos 0)))
 
 module _ (p : Plan) (z : ℤ) (cells : List Float) where
-  pub record Summing (y : Way) (w : List ℕ) (n : ℕ) (more : Bool) (s : Summary) (at : State) : Type 0 where
+  pub record Summing (y : Option Way) (w : List ℕ) (more : Bool) (s : Summary) (at : State) : Type 0 where
+    pub n : ℕ
     pub summable : Summable p z cells
     pub walking : Walking p (z ∷ []) y w n more at
     pub ahead : Ahead cells s (cells_from p z n)
@@ -98,12 +100,13 @@ no_cells {p} {z} {cells} h e =
     sym (ap (met cells nothing_met) (visits_walk p (summable_one h) z ∙ ap (λ (l : List Placed). over l (run_in (get_or p.strides 0 (pos 0)))) (no_blocks h e)))
 
 module _ {p : Plan} {z : ℤ} {cells : List Float} where
-  pub summing_start : (h : Summable p z cells) (e : false ≡ has_zero (plan_extents p)) {w : List ℕ} → w ≡ widths p → {y : Way} → Leads y p w
-      → {s : Summary} → s ≡ nothing_met → {at : State} → at ≡ state_of (starts_to w (replicate 64 0) p.rank) (replicate 64 0) (z ∷ replicate 7 (pos 0)) → Summing p z cells y w 0 true s at
+  pub summing_start : (h : Summable p z cells) (e : false ≡ has_zero (plan_extents p)) {w : List ℕ} → w ≡ widths p → {y : Option Way} → Leads y p w
+      → {s : Summary} → s ≡ nothing_met → {at : State} → at ≡ state_of (starts_to w (replicate 64 0) p.rank) (replicate 64 0) (z ∷ replicate 7 (pos 0)) → Summing p z cells y w true s at
   summing_start h e {w} is l n at-is =
       let all = visits_walk p (summable_one h) z in
       rw n (rw at-is
       (record {
+        n = 0;
         summable = h;
         walking = record { ready = summable_ready h; first = first_of z false; begins = begun h e; walked = walked_none is l (first_taken h e) refl };
         ahead = subst (Ahead cells nothing_met) all (all-ahead h);
@@ -111,11 +114,14 @@ module _ {p : Plan} {z : ℤ} {cells : List Float} where
       }))
 
   -- once the loop's test is known
-  pub summing_while : {y : Way} {w : List ℕ} {n : ℕ} {more b : Bool} {s : Summary} {at : State} → Summing p z cells y w n more s at → more ≡ b → Summing p z cells y w n b s at
+  pub summing_while : {y : Option Way} {w : List ℕ} {more b : Bool} {s : Summary} {at : State} → Summing p z cells y w more s at → more ≡ b → Summing p z cells y w b s at
   summing_while k e = rw e at k
 
   -- while it runs
-  module _ {y : Way} {w : List ℕ} {n : ℕ} {s : Summary} {at : State} (k : Summing p z cells y w n true s at) where
+  module _ {y : Option Way} {w : List ℕ} {s : Summary} {at : State} (k : Summing p z cells y w true s at) where
+    abbrev n : ℕ
+    n = k.n
+
     -- a stretch of it
     module _ {limit : ℕ} {r : Next} {first : List ℤ} {at' : State} (x : Strode y limit p w at r first at') {d : List ℤ} (d-is : d ≡ moves_of y p) where
       rows_fit : RowsFit r.count p.operands d first
@@ -145,10 +151,11 @@ module _ {p : Plan} {z : ℤ} {cells : List Float} where
       summing_rows = ahead-first rows (cells_from p z (n + r.count)) ahead-all
 
       pub summing_next : {s' : Summary} → s' ≡ met cells s (rows_from (get_or first 0 (pos 0)) (get_or d 0 (pos 0)) r.count (get_or p.strides 0 (pos 0)) r.length)
-          → Summing p z cells y w (n + r.count) r.more s' at'
+          → Summing p z cells y w r.more s' at'
       summing_next e =
           rw e
           (record {
+            n = n + r.count;
             summable = k.summable;
             walking = walking_next k.walking x;
             ahead = ahead-rest rows (cells_from p z (n + r.count)) ahead-all;
@@ -156,6 +163,6 @@ module _ {p : Plan} {z : ℤ} {cells : List Float} where
           })
 
   -- at its end all cells are met
-  pub summing_end : {y : Way} {w : List ℕ} {n : ℕ} {s : Summary} {at : State} → Summing p z cells y w n false s at → s ≡ met cells nothing_met (visits_of p z)
+  pub summing_end : {y : Option Way} {w : List ℕ} {s : Summary} {at : State} → Summing p z cells y w false s at → s ≡ met cells nothing_met (visits_of p z)
   summing_end {s = s} k =
       ap (λ (l : List Placed). met cells s (over l (run_in (get_or p.strides 0 (pos 0))))) (sym (walking_over k.walking)) ∙ k.goes

@@ -3,8 +3,8 @@ ghost use Rattle.std.specs.Prelude.{◌≡◌, ◌<◌, ◌≤◌, ◌^◌, ◌-
 ghost use Rattle.summary.specs.Sums.{nothing_met, lesser, greater, with_cell};
 
 // `count` cells, of which `nans` are not a number. Without `extremes` least and greatest are +0.0.
-// Kept: least and greatest beside a yes or no. Document 02 has both +0.0 where there are none, and a group of cells is held against both
-// without a branch.
+// Kept: least and greatest beside a yes or no, and no Option of both. The public entry hands them out, and promises both as +0.0 where there
+// are none, as document 02 has it.
 #[derive(Clone, Copy)]
 pub struct Summary {
     pub sum: f64,
@@ -46,6 +46,8 @@ fn greater(x: f64, greatest: f64) -> f64
 }
 
 // ONE MORE CELL.
+// Kept: where x is not a number, what stays is named field by field. With `..s` rows of 5 take 44 in 1,000 more instructions, and rows of 50 take
+// 18 more. `group_behind` takes as many with it as without.
 pub fn with_cell(s: Summary, x: f64) -> Summary
     requires { (s.count < 2 ^ 64 - 1) × (s.nans ≤ s.count) }
     ensures { result ≡ with_cell s x }

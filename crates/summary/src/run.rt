@@ -67,11 +67,8 @@ fn group_behind(s: Summary, cells: &[f64], last: i64, stride: i64) -> Option<Par
     }
     let summary = Summary {
         sum,
-        least: s.least,
-        greatest: s.greatest,
         count: s.count + GROUP,
-        nans: s.nans,
-        extremes: s.extremes,
+        ..s
     };
     Some(Part {
         summary,
@@ -142,6 +139,7 @@ pub fn with_run(s: Summary, cells: &[f64], first: i64, stride: i64, n: u64) -> S
     }
     let mut o = first;
     let mut k: u64 = 1;
+    // Kept: a `while`. How many cells a part has is told only when it is met, so no range says the turns.
     while k < n {
         let p = part_behind(t, cells, o, stride, n - k);
         t = p.summary;

@@ -11,7 +11,7 @@ use states::no_block;
 use walker::{ALL, Course};
 
 // THE SUMMARY of the cells that a plan's walk meets from `start` on. With a zero extent there is no block, and how far a stretch would move
-// need not fit. `number` is that of the block ahead.
+// need not fit.
 pub fn summary_on(plan: &LentPlan, start: i64, cells: &[f64]) -> Summary
     requires { Summable plan.now start cells.now }
     ensures { result ≡ met cells.now nothing_met (visits_of plan.now start) }
@@ -28,7 +28,6 @@ pub fn summary_on(plan: &LentPlan, start: i64, cells: &[f64]) -> Summary
     let mut at = course.state_at([0u64; 64], offsets);
     let mut first = [0i64; 8];
     let mut more = true;
-    let mut number: u64 = 0;
     let mut sum = nothing_met();
     while more {
         let x = course.take_stretch(ALL, &mut at, &mut first);
@@ -40,7 +39,6 @@ pub fn summary_on(plan: &LentPlan, start: i64, cells: &[f64]) -> Summary
             n: x.length,
         };
         sum = with_blocks(sum, cells, rows);
-        number += x.count;
         more = x.more;
     }
     sum

@@ -11,7 +11,7 @@ use l1::L1Sets;
 use layout::{LentPlan, check_layout, operands_wrong, rank_over, total_at_most};
 use reading::{Said, read_text};
 use strided::{Machine, Purpose, Refusal};
-use writing::list;
+use writing::{Printed, list};
 
 // "total above 1,048,576 in text": so many cells at most.
 pub const MAX_TOTAL: u64 = 1048576;
@@ -49,7 +49,7 @@ fn list_layout<'a>(
         blocks: &blocks,
         strides: &table,
     };
-    list(&plan, room)
+    list(Printed { plan: &plan }, room)
 }
 
 // Lists the layout that a text says, whose numbers stand in arrays of 64, 8 and 512 places. A rank or a count of operands that has no places
@@ -88,6 +88,6 @@ pub fn walklist(text: &[u8], room: &mut [u8]) -> Result<usize, Refusal>
     let mut extents = [0u64; 64];
     let mut sizes = [0u64; 8];
     let mut strides = [0i64; 512];
-    let said = read_text(text, &mut extents, &mut sizes, &mut strides).map_err(|_| Refusal::Form)?;
+    let said = read_text(text, &mut extents, &mut sizes, &mut strides).ok_or(Refusal::Form)?;
     list_numbers(said, &extents, &sizes, &strides, room)
 }

@@ -3,16 +3,16 @@
 use mathlib.Core.Path.{◌≡◌, refl, sym, ap, ◌∙◌, subst}
 use mathlib.Core.Bool.{Bool, true, false, cond}
 use mathlib.Core.List.{List, [], ◌∷◌}
-use Rattle.std.specs.Prelude.{None, Some, Ok, Err, Result, Option}
+use Rattle.std.specs.Prelude.{None, Some, is_some, Ok, Err, Result, Option}
 use Prim.Native.Nat.{ℕ}
 use native.Mathlib.Omega.{arith}
 use lib.IntN.{ℤ}
-use lib.ListN.{length, take}
-use Rattle.strided.specs.Refusals.{refused_by, served_unless, row1, row2, layout_refused}
+use lib.ListN.{length, take, get_or}
+use Rattle.strided.specs.Refusals.{refused_by, answers_unless, served_unless, row1, row2, layout_refused}
 use Rattle.strided.specs.Index.{told_original}
 use Rattle.strided.specs.Begin.{begin_refused}
 use Rattle.strided.specs.Step.{plan_cut_axes, step_rows, stepped, left, handed_block}
-use Rattle.strided.specs.Memory.{index_at, index_memory, StepMemory, step_memory}
+use Rattle.strided.specs.Memory.{flag, is_set, index_at, index_memory, walk_at, walk_in, StepMemory, step_memory, kept_step}
 use Rattle.strided.specs.declared.Purpose.{Purpose}
 use Rattle.strided.specs.declared.Refusal.{Refusal}
 use Rattle.strided.specs.declared.Refusal.TheVariants.{State}
@@ -31,8 +31,8 @@ use Rattle.laws.specs.Walk.Row10.{row10_exact}
 use Rattle.laws.specs.Walk.Steps.{none_of, wide, counters-many}
 use Rattle.advance.specs.Sized as plans
 use Rattle.layout.specs.declared.slices.Layout.{Layout}
-use Rattle.layout.specs.Checked.{Laid}
-use Rattle.layout.proofs.Checks.{laid_with}
+use Rattle.layout.specs.Checked.{LetThrough}
+use Rattle.layout.proofs.Checks.{through_with}
 use Rattle.finding.specs.Memory.{Leaves}
 use Rattle.finding.specs.Mapped.{found_original}
 use Rattle.finding.proofs.Answers.{original_passed}
@@ -40,8 +40,9 @@ use Rattle.walk.specs.Lent.{Taken, SteppedInto, over_step}
 use Rattle.walk.proofs.Stepping.{zs, r, runs, ended_step, here, block_here, counters-here}
 use Rattle.views.specs.declared.Visited.{Visited}
 use Rattle.views.specs.Number.{block_number}
-use Rattle.views.specs.Visits.{visit_rows, visit_refused, ended_visit, found_visit, visit_by, seen_by, seen, visited}
-use Rattle.views.specs.Memory.{VisitMemory, visit_at, VisitLeaves}
+use Rattle.views.specs.Visits.{visit_rows, visit_refused, visit_of, ended_visit, found_visit, visit_by, seen_by, seen, visited}
+use Rattle.views.specs.Memory.{VisitMemory, visit_at, visit_memory, VisitLeaves, record_of}
+use Rattle.views.specs.declared.Visit.{Visit}
 use Rattle.views.specs.Tally.{Countable}
 use Rattle.views.proofs.Seeing.{seen_block, leaves_block}
 
@@ -80,8 +81,8 @@ module _ (es sizes : List ℕ) (ss : List ℤ) (u : Purpose) (rank operands : �
       visit_rest n.0 n.1.0 n.1.1.0 n.1.1.1.0 ∙ h
 
   -- and so the check's layout is one that index finding takes
-  pub visit_laid : {l : Layout} → Laid (visit_refused es sizes ss u rank operands) es sizes ss l → Laid (layout_refused es sizes ss u) es sizes ss l
-  visit_laid c = laid_with c (visit_layout c.served)
+  pub visit_through : {l : Layout} → LetThrough (visit_refused es sizes ss u rank operands) es sizes ss l → LetThrough (layout_refused es sizes ss u) es sizes ss l
+  visit_through c = through_with c (visit_layout c.served)
 
   pub visit_plan : visit_refused es sizes ss u rank operands ≡ None → refused_by (row1 rank ∷ row2 operands ∷ []) ≡ None
   unfolding visit_refused NoneApplies
@@ -131,40 +132,6 @@ module _ (p : Plan) (w : Walk) (k : Taken p w) (h : w.ended ≡ false) where
         fits = begun_total p (zs p w k) (none_of (begin_refused p (zs p w k)) (r p w k).may);
       }
 
--- ---- a step that hands out a block was made on a state that is taken
-
-module _ (p : Plan) (w : Walk) (z : plans.Sized p) (hc : length w.counters ≡ 64) (ho : length w.offsets ≡ 8)
-    (rows : refused_by (step_rows p) ≡ None) (b : Block) (h : handed_block (stepped p w) ≡ Some b) where
-  block_taken : Taken p w
-  block_taken =
-      record {
-        extents-all = z.extents-all;
-        blocks_all = z.blocks_all;
-        strides_all = z.strides_all;
-        counters-all = hc;
-        offsets_all = ho;
-        rows = rows;
-        reached =
-            (row10_exact p w (record { extents-all = z.extents-all; counters-all = hc; offsets_all = ho }) rows).0
-            (λ (q : stepped p w ≡ Err State). let e : None ≡ Some b = sym (ap handed_block q) ∙ h in let z : ◌≡◌ {A = ℕ} 0 1 = cc e in omega arith);
-      }
-
-  block_runs : w.ended ≡ false
-  block_runs = go w.ended refl
-    where
-      go : (b : Bool) → w.ended ≡ b → b ≡ false
-      go false e = refl
-      go true e =
-          let q : None ≡ Some b = ap handed_block (ended_step p w block_taken e) ∙ h in
-          let z : ◌≡◌ {A = ℕ} 0 1 = cc q in
-          absurd (omega arith)
-
-  pub block_countable : Countable p b.counters
-  block_countable =
-      let q : Some (here p w block_taken block_runs) ≡ Some b = sym (block_here p w block_taken block_runs) ∙ h in
-      let e : here p w block_taken block_runs ≡ b = cc q in
-      subst (Countable p) (sym (counters-here p w block_taken block_runs) ∙ ap (λ (d : Block). d.counters) e) (countable p w block_taken block_runs)
-
 -- ---- the record of a block, out of what index finding told; `tell` is what it tells of counters
 
 module _ (tell : List ℕ → Result Told Refusal) (p : Plan) where
@@ -208,31 +175,18 @@ module _ (es sizes : List ℕ) (ss : List ℤ) (u : Purpose) (p : Plan) (w : Wal
   unfolding visited
   value-first h = rw h
 
-  module _ {l : Layout} (c : Laid (visit_refused es sizes ss u p.rank p.operands) es sizes ss l) where
+  module _ {l : Layout} (c : LetThrough (visit_refused es sizes ss u p.rank p.operands) es sizes ss l) where
     -- what index finding tells of a layout that is not refused
     abbrev found : List ℕ → Result Told Refusal
     found = found_original l.extents.now l.operands l.strides.now u
 
     finds : found ≡ told_original es sizes ss u
-    finds = λ i y. original_passed es sizes ss u (visit_laid es sizes ss u p.rank p.operands c) y i
+    finds = λ i y. original_passed es sizes ss u (visit_through es sizes ss u p.rank p.operands c) y i
 
     -- the step decides
     visited_is : {s : Result Stepped Refusal} → stepped p w ≡ s → seen es sizes ss u p s ≡ visited es sizes ss u p w
     unfolding visited
     visited_is e = rw c.served (ap (seen es sizes ss u p) (sym e))
-
-    pub value-state : {a : Refusal} → stepped p w ≡ Err a → Err a ≡ visited es sizes ss u p w
-    value-state e = visited_is e
-
-    module _ {s : Stepped} (e : stepped p w ≡ Ok s) where
-      pub value_ended : s.block ≡ None → ended_visit s.walk ≡ visited es sizes ss u p w
-      value_ended q = sym (ap (λ (o : Option Block). visit_by (told_original es sizes ss u) p o s.walk) q) ∙ visited_is e
-
-      pub value_seen : {b : Block} → s.block ≡ Some b → visit_by (found_original l.extents.now l.operands l.strides.now u) p (Some b) s.walk ≡ visited es sizes ss u p w
-      value_seen {b} q =
-          ap (λ (tell : List ℕ → Result Told Refusal). visit_by tell p (Some b) s.walk) finds
-          ∙ sym (ap (λ (o : Option Block). visit_by (told_original es sizes ss u) p o s.walk) q)
-          ∙ visited_is e
 
     -- row 10
     pub entry_state : {s : Refusal} {old : VisitMemory} → Err s ≡ stepped p w → VisitLeaves (visited es sizes ss u p w) old old (Err s)
@@ -247,3 +201,105 @@ module _ (es sizes : List ℕ) (ss : List ℤ) (u : Purpose) (p : Plan) (w : Wal
     entry_block {s} e {old} {new} {a} l =
         subst (λ (v : Result Visited Refusal). VisitLeaves v old new a)
         (ap (λ (tell : List ℕ → Result Told Refusal). seen_by tell p s) finds ∙ visited_is (sym e)) l
+
+-- ---- a visit by value, out of what one in lent arrays leaves
+
+flag_back : (b : Bool) → is_set (flag b) ≡ b
+flag_back true = refl
+flag_back false = refl
+
+-- a state that lies in memory is read back
+pub lent_walk : (w : Walk) {x : ℕ} → x ≡ flag w.ended → walk_in (walk_at (x ∷ []) w.counters w.offsets) ≡ w
+lent_walk w e = λ i. record { ended = (ap is_set e ∙ flag_back w.ended) i; counters = w.counters; offsets = w.offsets }
+
+-- the record and the state that lie in memory
+abbrev pub visit_in : VisitMemory → Visited
+visit_in m =
+    record {
+      visit = Some (record_of (get_or m.number 0 0) m.step.counters (get_or m.step.length 0 0) m.step.offsets m.step.strides (get_or m.first.count 0 0) m.first.index);
+      walk = walk_in m.step.walk;
+    }
+
+-- an answer without a record
+pub record Over (v : Result Visited Refusal) : Type 0 where
+  pub state : Walk
+  pub is : v ≡ ended_visit state
+
+module _ {old new : VisitMemory} where
+  pub back_refused : (v : Result Visited Refusal) {s : Refusal} → VisitLeaves v old new (Err s) → Err s ≡ v
+  back_refused (Ok v) l = let a = l.answer in let z : ◌≡◌ {A = ℕ} 0 1 = cc a in absurd (omega arith)
+  back_refused (Err r) l = let a = l.answer in cc a
+
+  pub back_block : (v : Result Visited Refusal) → VisitLeaves v old new (Ok true) → Ok (visit_in new) ≡ v
+  back_block (Err r) l = let a = l.answer in let z : ◌≡◌ {A = ℕ} 0 1 = cc a in absurd (omega arith)
+  back_block (Ok v) l = go v.visit refl
+    where
+      go : (o : Option Visit) → v.visit ≡ o → ◌≡◌ {A = Result Visited Refusal} (Ok (visit_in new)) (Ok v)
+      go None e = let a : ◌≡◌ {A = Result Bool Refusal} (Ok true) (Ok false) = l.answer ∙ ap (λ (o : Option Visit). Ok (is_some o)) e in let z : ◌≡◌ {A = ℕ} 0 1 = cc a in absurd (omega arith)
+      go (Some x) e =
+          let m : new ≡ visit_memory v.walk x = l.memory ∙ ap (λ (o : Option Visit). kept_step (visit_memory v.walk) o old) e in
+          ap (λ (n : VisitMemory). Ok (visit_in n)) m
+          ∙ (λ i. Ok (record { visit = sym e i; walk = record { ended = flag_back v.walk.ended i; counters = v.walk.counters; offsets = v.walk.offsets } }))
+
+  -- at the end there is none, and the state is some state
+  pub back_ended : (v : Result Visited Refusal) → VisitLeaves v old new (Ok false) → Over v
+  back_ended (Err r) l = let a = l.answer in let z : ◌≡◌ {A = ℕ} 0 1 = cc a in absurd (omega arith)
+  back_ended (Ok v) l = go v.visit refl
+    where
+      go : (o : Option Visit) → v.visit ≡ o → Over (Ok v)
+      go None e = record { state = v.walk; is = λ i. Ok (record { visit = e i; walk = v.walk }) }
+      go (Some x) e = let a : ◌≡◌ {A = Result Bool Refusal} (Ok false) (Ok true) = l.answer ∙ ap (λ (o : Option Visit). Ok (is_some o)) e in let z : ◌≡◌ {A = ℕ} 0 1 = cc a in absurd (omega arith)
+
+record_in : Result Visited Refusal → Option Visit
+record_in (Ok v) = v.visit
+record_in (Err r) = None
+
+-- which is the one that was handed in
+module _ (p : Plan) (w : Walk) (z : plans.Sized p) (hc : length w.counters ≡ 64) (ho : length w.offsets ≡ 8) where
+  module _ (rows : refused_by (step_rows p) ≡ None) {s : Stepped} (e : stepped p w ≡ Ok s) (q : s.block ≡ None) where
+    over_taken : Taken p w
+    over_taken =
+        record {
+          extents-all = z.extents-all;
+          blocks_all = z.blocks_all;
+          strides_all = z.strides_all;
+          counters-all = hc;
+          offsets_all = ho;
+          rows = rows;
+          reached =
+              (row10_exact p w (record { extents-all = z.extents-all; counters-all = hc; offsets_all = ho }) rows).0
+              (λ (h : stepped p w ≡ Err State). let a : ◌≡◌ {A = Result Stepped Refusal} (Err State) (Ok s) = sym h ∙ e in let z : ◌≡◌ {A = ℕ} 0 1 = cc a in omega arith);
+        }
+
+    over_keeps : s.walk ≡ w
+    over_keeps = go w.ended refl
+      where
+        go : (b : Bool) → w.ended ≡ b → s.walk ≡ w
+        go true h = ap (λ (x : Result Stepped Refusal). left x w) (sym e ∙ sym (ended_step p w over_taken h))
+        go false h =
+            let a : ◌≡◌ {A = Option Block} (Some (here p w over_taken h)) None = sym (block_here p w over_taken h) ∙ ap handed_block e ∙ q in
+            let z : ◌≡◌ {A = ℕ} 0 1 = cc a in
+            absurd (omega arith)
+
+  module _ (es sizes : List ℕ) (ss : List ℤ) (u : Purpose) where
+    pub over_visit : Over (visited es sizes ss u p w) → ended_visit w ≡ visited es sizes ss u p w
+    unfolding visited record_in
+    over_visit o = go (visit_refused es sizes ss u p.rank p.operands) refl (stepped p w) refl o.is
+      where
+        visit : Option Refusal → Result Stepped Refusal → Result Visited Refusal
+        visit row s = answers_unless row (seen es sizes ss u p s)
+
+        go : (r : Option Refusal) → visit_refused es sizes ss u p.rank p.operands ≡ r → (s : Result Stepped Refusal) → stepped p w ≡ s
+            → visit (visit_refused es sizes ss u p.rank p.operands) (stepped p w) ≡ ended_visit o.state
+            → ended_visit w ≡ visit (visit_refused es sizes ss u p.rank p.operands) (stepped p w)
+        go (Some x) h s e k = let a : Err x ≡ ended_visit o.state = sym (ap (λ (y : Option Refusal). visit y (stepped p w)) h) ∙ k in let z : ◌≡◌ {A = ℕ} 0 1 = cc a in absurd (omega arith)
+        go None h (Err x) e k = let a : Err x ≡ ended_visit o.state = sym (λ i. visit (h i) (e i)) ∙ k in let z : ◌≡◌ {A = ℕ} 0 1 = cc a in absurd (omega arith)
+        go None h (Ok s) e k = on s.block refl
+          where
+            on : (b : Option Block) → s.block ≡ b → ended_visit w ≡ visit (visit_refused es sizes ss u p.rank p.operands) (stepped p w)
+            on None q = ap ended_visit (sym (over_keeps (visit_plan es sizes ss u p.rank p.operands h) e q)) ∙ sym ((λ i. visit (h i) (e i)) ∙ ap (λ (x : Option Block). visit_by (told_original es sizes ss u) p x s.walk) q)
+            on (Some b) q = absurd (none (told_original es sizes ss u (take p.rank b.counters)) (sym ((λ i. visit (h i) (e i)) ∙ ap (λ (x : Option Block). visit_by (told_original es sizes ss u) p x s.walk) q) ∙ k))
+              where
+                none : (t : Result Told Refusal) → found_visit p b s.walk t ≡ ended_visit o.state → ⊥
+                none (Ok t) a = let b : ◌≡◌ {A = Option Visit} (Some (visit_of p b t)) None = ap record_in a in let z : ◌≡◌ {A = ℕ} 0 1 = cc b in omega arith
+                none (Err x) a = let z : ◌≡◌ {A = ℕ} 0 1 = cc a in omega arith

@@ -3,10 +3,13 @@
 -- Assumes nothing.
 use mathlib.Core.Path.{◌≡◌, sym, ap, ap₂, ◌∙◌, subst}
 use mathlib.Core.List.{List}
-use Prim.Native.Nat.{ℕ, zero, suc, ◌+◌, ◌-◌, ◌*◌, ◌/◌, ◌^◌, ◌≤◌, ◌<◌}
-use native.Mathlib.Nat.{mul-le-mul_right}
+use mathlib.Core.Logic.{⊎_elim}
+use Prim.Native.Nat.{ℕ, zero, suc, ◌+◌, ◌-◌, ◌*◌, ◌/◌, ◌%◌, ◌^◌, ◌≤◌, ◌<◌, min}
+use native.Mathlib.Nat.{mul-le-mul_right, div-mul-le_self, div-lt_iff_lt-mul}
 use native.Mathlib.Omega.{arith}
 use lib.ListN.{get_or, take, replicate, length-replicate}
+use Rattle.std.proofs.lemmas.Grind.{div_ceil_times}
+use Rattle.laws.specs.Base.Ranges.{below_or}
 use Rattle.strided.specs.Walk.{CutAxis, cut_axes}
 use Rattle.laws.specs.Walk.States.{Wide, Inside}
 use Rattle.laws.specs.Walk.Cuts.{axes_wide}
@@ -22,6 +25,23 @@ use Rattle.views.specs.declared.number.Tally.{Tally}
 use Rattle.views.specs.Number.{block_number}
 use Rattle.views.specs.Places.{number-place}
 use Rattle.views.specs.Tally.{tallied, numbered, Room, First, Countable}
+
+-- how many tiles an axis has
+pub tiles_ceil : (e w : ℕ) → 0 < w → 0 < e → e / w + min 1 (e % w) ≡ (e - 1) / w + 1
+tiles_ceil e w h p =
+    let d : ℕ = e / w + min 1 (e % w) in
+    let q : ℕ = (e - 1) / w in
+    let t = div_ceil_times e w h in
+    let u : (e - 1) / w * w ≤ e - 1 = div-mul-le_self (e - 1) w in
+    let v : e - 1 < ((e - 1) / w + 1) * w = (div-lt_iff_lt-mul h).0 (let g : (e - 1) / w < (e - 1) / w + 1 = omega arith in g) in
+    ⊎_elim
+    (λ (a : q < d).
+    ⊎_elim
+    (λ (b : q + 1 < d). (let c : (q + 2) * w ≤ d * w = mul-le-mul_right w (let g : q + 2 ≤ d = omega arith in g) in absurd (omega (arith, t.0, t.1, u, v, c))))
+    (λ (b : d ≤ q + 1). omega (arith, a, b))
+    (below_or (q + 1) d))
+    (λ (a : d ≤ q). (let c : d * w ≤ q * w = mul-le-mul_right w a in absurd (omega (arith, t.0, t.1, u, v, c))))
+    (below_or q d)
 
 abbrev pub tally_of : List CutAxis → List ℕ → Tally
 tally_of axs v = record { before = tiles_before axs v; size = tile_size axs v; place = place_in_tile axs v }

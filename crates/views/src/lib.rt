@@ -1,22 +1,18 @@
 // Two readers of a block: a visit is a step with its record, from which an engineer's view and a student's are taken.
 #![tactic(auto)]
 
-ghost use Rattle.std.specs.Prelude.{◌≡◌, ◌∷◌, ◌^◌, ◌<◌, Some};
-ghost use Rattle.strided.specs.Layout.{total};
+ghost use Rattle.std.specs.Prelude.{◌≡◌, ◌∷◌};
 ghost use Rattle.strided.specs.Refusals.{refused_by, served_unless, row1};
 ghost use Rattle.strided.specs.Step.{step_rows};
 ghost use Rattle.strided.specs.Memory.{plan_of};
 ghost use Rattle.layout.specs.Checked.{Checked};
-ghost use Rattle.finding.specs.Mapped.{found_original};
-ghost use Rattle.views.specs.Visits.{visit_refused, visit_by, visited};
-ghost use Rattle.views.specs.Tally.{Countable};
+ghost use Rattle.views.specs.Visits.{visit_refused, visited};
 
-use finding::original_of_into;
 use layout::{Layout, LentPlan, check_layout, operands_wrong, rank_over};
-use number::number_of;
+use memory::visit_into;
 pub use readers::{engineer_view, student_view};
 use strided::{Block, Plan, Purpose, Refusal, Told, Walk};
-use walk::step_on;
+use walk::memory::{flag, walk_of};
 
 pub mod memory;
 pub mod number;
@@ -86,45 +82,7 @@ pub fn check_visit<'a>(
     check_layout(extents, sizes, strides, purpose)
 }
 
-// The visit of a block that a step has handed out: row 11 alone is judged.
-fn block_visit(
-    layout: Layout,
-    purpose: Purpose,
-    plan: &LentPlan,
-    block: Block,
-    walk: Walk,
-) -> Result<Visited, Refusal>
-    requires total { total layout.extents.now < 2 ^ 64 }
-    requires state { Countable plan.now block.counters }
-    ensures { let l = layout.entry in
-        result ≡ visit_by (found_original l.extents.now l.operands l.strides.now purpose) plan.now (Some block) walk }
-{
-    let counters = block.counters;
-    let mut count = [0usize; 1];
-    let mut index = [0u64; 64];
-    original_of_into(
-        layout,
-        purpose,
-        &counters[..plan.rank],
-        &mut count,
-        &mut index,
-    )?;
-    let number = number_of(plan, &counters);
-    let visit = Visit {
-        number,
-        block,
-        first: Told {
-            count: count[0],
-            index,
-        },
-    };
-    Ok(Visited {
-        visit: Some(visit),
-        walk,
-    })
-}
-
-// A visit on a plan that is lent.
+// A visit on a plan that is lent: the one in lent arrays, on arrays of its own.
 pub fn visit_on(
     extents: &[u64],
     sizes: &[u64],
@@ -135,15 +93,54 @@ pub fn visit_on(
 ) -> Result<Visited, Refusal>
     ensures { result ≡ visited extents.now sizes.now strides.now purpose plan.now walk }
 {
-    let layout = check_visit(extents, sizes, strides, purpose, plan.rank, plan.operands)?;
-    let stepped = step_on(plan, walk)?;
-    match stepped.block {
-        None => Ok(Visited {
-            visit: None,
-            walk: stepped.walk,
-        }),
-        Some(block) => block_visit(layout, purpose, plan, block, stepped.walk),
+    // A look at a field, by which the proof has what is known of a plan that is lent.
+    let _ = &plan.rank;
+    let mut ended = [flag(walk.ended)];
+    let mut next = walk.counters;
+    let mut starts = walk.offsets;
+    let mut number = [0u64; 1];
+    let mut counters = [0u64; 64];
+    let mut length = [0u64; 1];
+    let mut offsets = [0i64; 8];
+    let mut steps = [0i64; 8];
+    let mut count = [0usize; 1];
+    let mut index = [0u64; 64];
+    let some = visit_into(
+        extents,
+        sizes,
+        strides,
+        purpose,
+        plan,
+        &mut ended,
+        &mut next,
+        &mut starts,
+        &mut number,
+        &mut counters,
+        &mut length,
+        &mut offsets,
+        &mut steps,
+        &mut count,
+        &mut index,
+    )?;
+    if !some {
+        return Ok(Visited { visit: None, walk });
     }
+    Ok(Visited {
+        visit: Some(Visit {
+            number: number[0],
+            block: Block {
+                counters,
+                length: length[0],
+                offsets,
+                strides: steps,
+            },
+            first: Told {
+                count: count[0],
+                index,
+            },
+        }),
+        walk: walk_of(&ended, &next, &starts),
+    })
 }
 
 // A VISIT, whatever the values of layout, plan and state: rows 1 to 6, then 10 or the end, then 11.

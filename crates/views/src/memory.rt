@@ -17,7 +17,7 @@ use strided::{Purpose, Refusal};
 use walk::memory::block_into;
 use walk::{LentWalk, answer_of};
 
-// Kept, in found_into and visit_into: what a visit moves and what it hands out, array by array, as C lends them one by one.
+// Kept: in found_into and visit_into what a visit moves and what it hands out, array by array, as C lends them one by one.
 
 // The block at the counters with its record, and the state at the next one: row 11 alone is judged.
 fn found_into(

@@ -42,8 +42,7 @@ fn tiles_under(extent: u64, width: u64, indices: u64) -> u64
     if indices == 0 {
         return 0;
     }
-    let tiles = (extent - 1) / width + 1;
-    tiles * indices
+    extent.div_ceil(width) * indices
 }
 
 // Axis 0 counts by whole tiles.

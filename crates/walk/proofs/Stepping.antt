@@ -39,7 +39,7 @@ use Rattle.layout.specs.Lent.{lent, Whole}
 use Rattle.layout.proofs.Lending.{lent_refuses}
 use Rattle.advance.proofs.Plans.{C, O, length_is, firsts_are, first_start}
 use Rattle.advance.specs.Sized as plans
-use Rattle.advance.proofs.Reached.{widths_pos, tiled, roomy, advanced}
+use Rattle.advance.proofs.Reached.{tiled, roomy, advanced}
 use Rattle.states.specs.Reaches.{reaches}
 use Rattle.walk.specs.Lent.{Taken, Answers, over_step}
 
@@ -192,9 +192,6 @@ module _ (p : Plan) (w : Walk) (k : Taken p w) where
 
   -- v are the block sizes in force as the code has them
   module _ (v : List ℕ) (is : v ≡ ws) where
-    pub widths_here : (i : ℕ) → i < p.rank → 0 < get_or v i 0
-    widths_here i l = subst (λ (u : List ℕ). 0 < get_or u i 0) (sym is) (widths_pos p zs r sized i l)
-
     pub tiled_here : (x : kept.State) → x.tile_starts ≡ starts_to v x.counters p.rank → Tiled p v x
     tiled_here x e =
         subst (λ (u : List ℕ). Tiled p u x) (sym is)

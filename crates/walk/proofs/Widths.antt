@@ -1,60 +1,35 @@
 -- Laws of block sizes and tile starts that are not kept: they are those that the arrays would have. Assumes nothing.
-use mathlib.Core.Path.{◌≡◌, refl, sym, ap, ◌∙◌, subst}
+use mathlib.Core.Path.{◌≡◌, refl, sym, ap, ◌∙◌}
 use mathlib.Core.Bool.{Bool, true, false, cond}
 use mathlib.Core.List.{List}
 use Prim.Native.Nat.{ℕ, zero, suc, ◌≤◌, ◌<◌}
 use native.Mathlib.Omega.{arith}
-use lib.Dec.{ltb, leb, eqb}
-use lib.ListN.{length, get_or, replicate, length-replicate}
+use lib.Dec.{ltb}
+use lib.ListN.{get_or, replicate}
 use borrow.Author.Tests.{ltb-true, lt-leb, eq-eqb, ne_eqb}
-use Rattle.strided.specs.Walk.{effective}
 use lib.IntN.{ℤ}
 use Rattle.strided.specs.declared.Plan.{Plan}
-use Rattle.advance.specs.Axis.{width_of, width_at, widths, tile_at, starts_to, goal_of}
-use Rattle.advance.specs.declared.Goal.{Goal}
+use Rattle.advance.specs.Axis.{width_of, width_at, widths, tile_at, starts_to}
 use Rattle.advance.specs.declared.State.{State}
 use Rattle.advance.specs.Carry.{Carried, state_of, Roomy, Tiled, Single, MovedTo}
 use Rattle.advance.specs.Blocks.{length_by, length_of}
 use Rattle.advance.specs.Filled.{filled_length, filled_at}
 use Rattle.advance.proofs.Turns.{Before}
+use Rattle.advance.proofs.Acts.{all_places, width_read, width_pos}
 use Rattle.walk.specs.Onward.{inner_of}
 
-all_places : length {A = ℕ} (replicate 64 0) ≡ 64
-all_places = length-replicate {A = ℕ} 64 0
-
-width_some : (rank i e b : ℕ) → 0 < width_of rank i e b
-unfolding width_of
-width_some rank i e b = go (leb rank 8) (eqb i 0)
-  where
-    go : (x y : Bool) → 0 < cond x (effective e b) (cond y (effective e b) 1)
-    go true y = omega arith
-    go false true = omega arith
-    go false false = omega arith
-
 module _ (p : Plan) (few : p.rank ≤ 64) where
-  -- the block size in force on axis i
-  pub width_read : (i : ℕ) → i < p.rank → {x : ℕ} → x ≡ width_at p i → x ≡ get_or (widths p) i 0
-  width_read i h q = q ∙ sym (filled_at (replicate 64 0) (width_at p) 0 p.rank i h (omega (arith, all_places, few)))
-
-  -- where axis i goes next, told with the size in force in the array
-  pub aimed : (i : ℕ) → i < p.rank → {x : ℕ} → x ≡ width_at p i → (inside : Bool) (at : ℕ) → {g : Goal} → g ≡ goal_of inside (get_or p.extents i 0) x at
-      → g ≡ goal_of inside (get_or p.extents i 0) (get_or (widths p) i 0) at
-  aimed i h q inside at g = g ∙ ap (λ (n : ℕ). goal_of inside (get_or p.extents i 0) n at) (width_read i h q)
-
-  pub width_pos : (i : ℕ) → i < p.rank → 0 < get_or (widths p) i 0
-  width_pos i h = subst (λ (n : ℕ). 0 < n) (width_read i h refl) (width_some p.rank i (get_or p.extents i 0) (get_or p.blocks i 0))
-
   pub tiled_any : (c : List ℕ) (o : List ℤ) → Tiled p (widths p) (state_of (starts_to (widths p) c p.rank) c o)
   tiled_any c o = record {
     placed = filled_length (replicate 64 0) (tile_at (widths p) c) p.rank ∙ all_places;
-    wide = width_pos;
+    wide = width_pos p few;
     start = λ i h. filled_at (replicate 64 0) (tile_at (widths p) c) 0 p.rank i h (omega (arith, all_places, few));
   }
 
   -- from rank 9 on the blocks of all axes but axis 0 are 1
   single-one : 8 < p.rank → (i : ℕ) → 1 ≤ i → i < p.rank → get_or (widths p) i 0 ≡ 1
   unfolding width_of
-  single-one h i q l = sym (width_read i l refl) ∙ rw (lt-leb p.rank 8 h, ne_eqb i 0 (λ z. omega arith))
+  single-one h i q l = sym (width_read p few i l refl) ∙ rw (lt-leb p.rank 8 h, ne_eqb i 0 (λ z. omega arith))
 
   pub inner-single : Single (inner_of p.rank) p (widths p)
   inner-single = go (ltb 8 p.rank) refl

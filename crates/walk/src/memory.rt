@@ -1,7 +1,7 @@
 // A walk in lent arrays, as C functions have it: a plan made of them, and one step of the state that lies in them.
 ghost use Rattle.std.specs.Prelude.{◌≡◌, true, false, Ok};
 ghost use Rattle.strided.specs.Step.{stepped};
-ghost use Rattle.strided.specs.Memory.{plan_of, walk_of, flag as flagOf, walk_at, walk_in, step_at};
+ghost use Rattle.strided.specs.Memory.{plan_of, walk_of, flag as flagOf, walk_at, walk_in, walk_memory, step_at};
 ghost use Rattle.walk.specs.Lent.{Taken, SteppedInto};
 
 use crate::answer_of;
@@ -9,7 +9,7 @@ use crate::onward::advance_on;
 use advance::{firsts, length_by, width_on};
 use layout::LentPlan;
 use states::LentWalk;
-use strided::{Plan, Refusal};
+use strided::{Plan, Refusal, Walk};
 
 // 1 for yes, 0 for no.
 pub fn flag(b: bool) -> u64
@@ -37,8 +37,36 @@ pub fn plan_of<'a>(
     }
 }
 
-// Kept, in block_into and step_into: what a step moves and what it hands out, array by array, as C lends them. A struct of lent arrays would
+// A state from its flag and arrays.
+pub fn walk_of<'a>(ended: &'a [u64; 1], counters: &'a [u64; 64], offsets: &'a [i64; 8]) -> Walk
+    ensures { result ≡ walk_in (walk_at ended.now counters.now offsets.now) }
+{
+    Walk {
+        ended: ended[0] != 0,
+        counters: *counters,
+        offsets: *offsets,
+    }
+}
+
+// A state, written to where its flag and arrays are lent.
+pub fn put_walk(walk: Walk, ended: &mut [u64; 1], counters: &mut [u64; 64], offsets: &mut [i64; 8])
+    ensures { walk_at ended.new counters.new offsets.new ≡ walk_memory walk }
+{
+    let Walk {
+        ended: over,
+        counters: c,
+        offsets: o,
+    } = walk;
+    *ended = [flag(over)];
+    *counters = c;
+    *offsets = o;
+}
+
+// Kept: in block_into and step_into what a step moves and what it hands out, array by array, as C lends them. A struct of lent arrays would
 // have to say of each that it lends the same one on.
+
+// Kept: Taken as a clause, here and in block_at, bulk::put_blocks and views::memory::found_into. A struct of a walk that runs would lend the
+// counters and offsets, which this and found_into change. For the two others alone it is no plainer: the clause would stay beside it.
 
 // The block at the counters, and the state at the next one, in the lent arrays. It checks nothing.
 pub fn block_into(

@@ -6,11 +6,11 @@ use Prim.Native.Nat.{ℕ, suc, ◌+◌, ◌-◌, ◌*◌, ◌/◌, ◌≤◌, �
 use native.Mathlib.Nat.{div-add-mod', mod-lt, div-mul-le_self, suc-mul, le-div_iff_mul-le}
 use native.Mathlib.Omega.{arith}
 use lib.Dec.{ltb}
-use borrow.Author.Tests.{lt-ltb, le-ltb, ltb-true, eq-eqb, ne_eqb}
+use borrow.Author.Tests.{lt-ltb, le-ltb, ltb-true}
 use Rattle.advance.specs.Axis.{start_of, ahead, back, inside_goal, tile_goal}
 use Rattle.advance.specs.Filled.{by_lt}
 use Rattle.advance.proofs.Axis.{start_on, start_tiles}
-use Rattle.walker.specs.declared.Way.{Way}
+use Rattle.walker.specs.declared.way.Way.{Way}
 use Rattle.walker.specs.Way.{left_in}
 
 -- ---- where the axis aims
@@ -89,53 +89,38 @@ last_tile extent w at s h = rw (sym s, le-ltb w (extent - at) h)
 -- ---- the blocks ahead
 
 module _ (y : Way) (extent w at : ℕ) where
-  pub left_none : y.by ≡ 0 → left_in y extent w at ≡ 1
+  pub left_inside : y.inside ≡ true → left_in y extent w at ≡ min (w - (at - start_of w at)) (extent - at)
   unfolding left_in
-  left_none h = rw (eq-eqb y.by 0 h)
+  left_inside i = rw i
 
-  pub left_inside : 0 < y.by → y.inside ≡ true → left_in y extent w at ≡ min (w - (at - start_of w at)) (extent - at)
+  pub left_tile : y.inside ≡ false → left_in y extent w at ≡ max 1 ((extent - at) / w)
   unfolding left_in
-  left_inside h i = rw (ne_eqb y.by 0 (λ z. let b : ⊥ = omega (arith, h, z) in b), i)
+  left_tile i = rw i
 
-  pub left_tile : 0 < y.by → y.inside ≡ false → left_in y extent w at ≡ max 1 ((extent - at) / w)
-  unfolding left_in
-  left_tile h i = rw (ne_eqb y.by 0 (λ z. let b : ⊥ = omega (arith, h, z) in b), i)
-
-  -- there is one; and where there is another there is a way
-  pub left_some : (0 < y.by → (0 < w) × (at < extent)) → 0 < left_in y extent w at
-  left_some h = by_lt 0 y.by (λ p. go p (h p) y.inside refl) (λ p. let q = left_none (omega arith) in omega (arith, q))
+  -- there is one
+  pub left_some : 0 < w → at < extent → 0 < left_in y extent w at
+  left_some p h = go y.inside refl
     where
-      go : 0 < y.by → (0 < w) × (at < extent) → (b : Bool) → y.inside ≡ b → 0 < left_in y extent w at
-      go p k true i =
-          let q = left_inside p i in let d = div-add-mod' at w in let m = mod-lt at k.0 in omega (arith, q, k.0, k.1, d, m)
-      go p k false i = let q = left_tile p i in omega (arith, q)
-
-  pub left_way : 1 < left_in y extent w at → 0 < y.by
-  left_way h = by_lt 0 y.by (λ p. p) (λ p. absurd (let q = left_none (omega arith) in let z : ⊥ = omega (arith, q, h) in z))
+      go : (b : Bool) → y.inside ≡ b → 0 < left_in y extent w at
+      go true i = let q = left_inside i in let d = div-add-mod' at w in let m = mod-lt at p in omega (arith, q, p, h, d, m)
+      go false i = let q = left_tile i in omega (arith, q)
 
 -- as the code tells them; s is the tile's start as it is kept
-module _ (y : Way) (extent w s at : ℕ) (k : 0 < y.by → (0 < w) × (at < extent) × (s ≡ start_of w at)) where
-  pub told_none : y.by ≡ 0 → 1 ≡ left_in y extent w at
-  told_none h = sym (left_none y extent w at h)
+module _ (y : Way) (extent w s at : ℕ) (is : s ≡ start_of w at) where
+  pub told_tile : y.inside ≡ true → w - (at - s) < extent - at → w - (at - s) ≡ left_in y extent w at
+  told_tile i g = let x : w - (at - s) ≡ w - (at - start_of w at) = ap (λ (z : ℕ). w - (at - z)) is in x ∙ sym (left_inside y extent w at i ∙ least (w - (at - start_of w at)) (extent - at) (subst (λ (z : ℕ). z < extent - at) x g))
+    where
+      least : (a b : ℕ) → a < b → min a b ≡ a
+      least a b l = omega arith
 
-  module _ (n : y.by ≡ 0 → ⊥) where
-    h : 0 < y.by
-    h = omega (arith, n)
+  pub told_axis : y.inside ≡ true → extent - at ≤ w - (at - s) → extent - at ≡ left_in y extent w at
+  told_axis i g = let x : w - (at - s) ≡ w - (at - start_of w at) = ap (λ (z : ℕ). w - (at - z)) is in sym (left_inside y extent w at i ∙ least (w - (at - start_of w at)) (extent - at) (subst (λ (z : ℕ). extent - at ≤ z) x g))
+    where
+      least : (a b : ℕ) → b ≤ a → min a b ≡ b
+      least a b l = omega arith
 
-    pub told_tile : y.inside ≡ true → w - (at - s) < extent - at → w - (at - s) ≡ left_in y extent w at
-    told_tile i g = let x : w - (at - s) ≡ w - (at - start_of w at) = ap (λ (z : ℕ). w - (at - z)) (k h).2 in x ∙ sym (left_inside y extent w at h i ∙ least (w - (at - start_of w at)) (extent - at) (subst (λ (z : ℕ). z < extent - at) x g))
-      where
-        least : (a b : ℕ) → a < b → min a b ≡ a
-        least a b l = omega arith
-
-    pub told_axis : y.inside ≡ true → extent - at ≤ w - (at - s) → extent - at ≡ left_in y extent w at
-    told_axis i g = let x : w - (at - s) ≡ w - (at - start_of w at) = ap (λ (z : ℕ). w - (at - z)) (k h).2 in sym (left_inside y extent w at h i ∙ least (w - (at - start_of w at)) (extent - at) (subst (λ (z : ℕ). extent - at ≤ z) x g))
-      where
-        least : (a b : ℕ) → b ≤ a → min a b ≡ b
-        least a b l = omega arith
-
-    pub told_tiles : y.inside ≡ false → {n : ℕ} → n ≡ max ((extent - at) / w) 1 → n ≡ left_in y extent w at
-    told_tiles i {n} e = e ∙ turned ((extent - at) / w) ∙ sym (left_tile y extent w at h i)
-      where
-        turned : (a : ℕ) → max a 1 ≡ max 1 a
-        turned a = omega arith
+  pub told_tiles : y.inside ≡ false → {n : ℕ} → n ≡ max ((extent - at) / w) 1 → n ≡ left_in y extent w at
+  told_tiles i {n} e = e ∙ turned ((extent - at) / w) ∙ sym (left_tile y extent w at i)
+    where
+      turned : (a : ℕ) → max a 1 ≡ max 1 a
+      turned a = omega arith

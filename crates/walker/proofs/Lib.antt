@@ -6,4 +6,5 @@ pub mod Leaving
 pub mod Rows
 pub mod Stretching
 pub mod Walked
+pub mod Left
 pub mod Repeated

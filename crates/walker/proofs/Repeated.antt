@@ -9,6 +9,7 @@ use mathlib.Core.List.{List, [], ◌∷◌, ◌++◌, map, map-append}
 use Prim.Native.Nat.{ℕ, suc, ◌+◌, ◌-◌, ◌≤◌, ◌<◌}
 use native.Mathlib.Omega.{arith}
 use lib.IntN.{ℤ}
+use Rattle.std.specs.Prelude.{Option}
 use lib.ListN.{length, take, length-append, length-map, length-take}
 use lib.Seq.{take_all}
 use Rattle.strided.specs.Base.{over}
@@ -26,14 +27,14 @@ use Rattle.advance.specs.Carry.{state_of}
 use Rattle.advance.specs.Sized.{Sized}
 use Rattle.walk.specs.Lent.{Taken}
 use Rattle.walk.proofs.Stepping.{begun_taken, taken_after, ended_none, tiled_here}
-use Rattle.walker.specs.declared.Way.{Way}
+use Rattle.walker.specs.declared.way.Way.{Way}
 use Rattle.walker.specs.Stretch.{laid, stretch_at, stretches, blocks_in}
 use Rattle.walker.specs.Way.{Leads}
 use Rattle.walker.proofs.Stretching.{At, Lies, some_here, lies_at}
 use Rattle.strided.specs.Begin.{started}
 
 -- a plan, and the way of its walks as `way_of` tells it
-module _ (p : Plan) (y : Way) (l : Leads y p (widths p)) where
+module _ (p : Plan) (y : Option Way) (l : Leads y p (widths p)) where
   abbrev placed : List Block → List Placed
   placed = map (placed_of p.operands)
 

@@ -5,7 +5,7 @@ use mathlib.Core.Path.{◌≡◌, refl, sym, ap, ap₂, ◌∙◌, subst}
 use mathlib.Core.Bool.{Bool, true, false, not}
 use mathlib.Core.List.{List, [], ◌∷◌, ◌++◌, map, map-append}
 use Prim.Native.Nat.{ℕ, zero, suc, ◌+◌, ◌-◌, ◌*◌, ◌^◌, ◌≤◌, ◌<◌, min}
-use native.Mathlib.Nat.{zero-add, zero-mul, lt_of_le_of_lt, mul-le-mul_right}
+use native.Mathlib.Nat.{zero-add, lt_of_le_of_lt, mul-le-mul_right}
 use native.Mathlib.Numerals.{add-one}
 use native.Mathlib.Omega.{arith}
 use lib.IntN.{ℤ, pos, nat_abs, sub_ℕ, ◌+ℤ◌, ◌*ℤ◌, +ℤ_idl, +ℤ_idr, zero-*ℤ, pos-*ℤ-pos}
@@ -14,7 +14,7 @@ use lib.Seq.{get_or-take, length-take-le}
 use mir.Syntax.{w64}
 use mir.Val.{SFits}
 use Rattle.strided.specs.Base.{run}
-use Rattle.std.specs.Prelude.{Option, Result}
+use Rattle.std.specs.Prelude.{Option, None, Some, Result}
 use Rattle.strided.specs.Step.{stepped, left as left_by, handed_block, walk_after}
 use Rattle.strided.specs.Bulk.{handing, next_blocks}
 use Rattle.strided.specs.declared.Refusal.{Refusal}
@@ -38,11 +38,11 @@ use Rattle.advance.proofs.Signed as signed
 use Rattle.strided.specs.Memory.{walk_of}
 use Rattle.walk.specs.Lent.{Taken}
 use Rattle.walk.proofs.Stepping.{running, taken_after, roomy_here, start_here, here as the_block, block_here, offsets_here, length-here, block_step}
-use Rattle.walker.specs.declared.Way.{Way}
+use Rattle.walker.specs.declared.way.Way.{Way}
 use Rattle.walker.specs.declared.Next.{Next}
 use Rattle.walker.specs.Stretch.{moved_on, block_in, told, length_handed, stretch_at}
-use Rattle.walker.specs.Way.{Leads, left_of, moves_of, OnTo, Strode}
-use Rattle.walker.proofs.Going.{Striding, below, some_left, moved_on_lem, unmoved_on, way_for, on_none, on_step, on_length, moved-there}
+use Rattle.walker.specs.Way.{Leads, left_of, moves_of, OnTo, Strides, Strode}
+use Rattle.walker.proofs.Going.{Striding, below, some_left, moved_on_lem, unmoved_on, on_none, on_step, on_length, moved-there}
 use Rattle.walker.proofs.Rows.{moved_list}
 
 -- ---- offsets
@@ -56,67 +56,71 @@ moves_at_once o s from by j =
     let d : pos (j * by) *ℤ s ≡ pos j *ℤ (pos by *ℤ s) = ap (λ (z : ℤ). z *ℤ s) (sym (pos-*ℤ-pos j by)) ∙ *ℤ-assoc (pos j) (pos by) s in
     ap (λ (z : ℤ). o +ℤ z *ℤ s) b ∙ ap (λ (z : ℤ). o +ℤ z) (d ∙ sym (ap (λ (z : ℤ). pos j *ℤ z) (+ℤ_idl (sub_ℕ by 0 *ℤ s) ∙ ap (λ (z : ℤ). z *ℤ s) a)))
 
-pub moves_long : (y : Way) (P : Plan) → length (moves_of y P) ≡ 8
-moves_long y P = filled_length (replicate 8 (pos 0)) (moved_at y.axis 0 y.by P.strides (replicate 8 (pos 0))) P.operands ∙ length-replicate {A = ℤ} 8 (pos 0)
+pub moves_long : (y : Option Way) (P : Plan) → length (moves_of y P) ≡ 8
+moves_long None P = length-replicate {A = ℤ} 8 (pos 0)
+moves_long (Some y) P = filled_length (replicate 8 (pos 0)) (moved_at y.axis 0 y.by P.strides (replicate 8 (pos 0))) P.operands ∙ length-replicate {A = ℤ} 8 (pos 0)
 
-module _ {y : Way} {P : Plan} {w : List ℕ} {at : State} (m : Striding y P w at) where
-  abbrev D : List ℤ
-  D = moves_of y P
+-- a move tells its offsets
+same_offsets : (y : Option Way) {P : Plan} {w : List ℕ} {at : State} → Strides P w at → (j : ℕ) {at₁ at₂ : State} → OnTo y j P w at at₁ → OnTo y j P w at at₂ → at₁.offsets ≡ at₂.offsets
+same_offsets y k j a b = moved_offsets k.roomy a ∙ sym (moved_offsets k.roomy b)
 
+-- along a way
+module _ {y : Way} {P : Plan} {w : List ℕ} {at : State} (m : Striding (Some y) P w at) where
   abbrev few : P.operands ≤ 8
   few = m.strides.roomy.few
 
-  -- a move tells its offsets
-  same_offsets : (j : ℕ) {at₁ at₂ : State} → OnTo y j P w at at₁ → OnTo y j P w at at₂ → at₁.offsets ≡ at₂.offsets
-  same_offsets j a b = moved_offsets m.strides.roomy a ∙ sym (moved_offsets m.strides.roomy b)
-
-  move_is : (k : ℕ) → k < P.operands → get_or D k (pos 0) ≡ after_move (pos 0) (get_or P.strides (k * 64 + y.axis) (pos 0)) 0 y.by
+  move_is : (k : ℕ) → k < P.operands → get_or (moves_of (Some y) P) k (pos 0) ≡ after_move (pos 0) (get_or P.strides (k * 64 + y.axis) (pos 0)) 0 y.by
   move_is k h =
       let f = few in
       let eight : length {A = ℤ} (replicate 8 (pos 0)) ≡ 8 = length-replicate {A = ℤ} 8 (pos 0) in
       filled_at (replicate 8 (pos 0)) (moved_at y.axis 0 y.by P.strides (replicate 8 (pos 0))) (pos 0) P.operands k h (omega (arith, eight, f))
       ∙ ap (λ (u : ℤ). after_move u (get_or P.strides (k * 64 + y.axis) (pos 0)) 0 y.by) (get_or-replicate 8 k (pos 0) (pos 0) (omega (arith, f, h)))
 
-  -- the way from the first block to each of the others fits 64 bits
-  pub steps_fit : (j : ℕ) → j < left_of y P w at.counters → (k : ℕ) → k < P.operands → SFits w64 (pos j *ℤ get_or (moves_of y P) k (pos 0))
+  steps_on : (j : ℕ) → j < left_of (Some y) P w at.counters → (k : ℕ) → k < P.operands → SFits w64 (pos j *ℤ get_or (moves_of (Some y) P) k (pos 0))
   unfolding after_move
-  steps_fit j g k h =
+  steps_on j g k h =
       let v : ℤ = get_or P.strides (k * 64 + y.axis) (pos 0) in
       let a : sub_ℕ y.by 0 ≡ pos y.by = signed.ahead 0 y.by (omega arith) ∙ ap pos (let z : y.by - 0 ≡ y.by = omega arith in z) in
-      let d : get_or D k (pos 0) ≡ pos y.by *ℤ v = move_is k h ∙ +ℤ_idl (sub_ℕ y.by 0 *ℤ v) ∙ ap (λ (z : ℤ). z *ℤ v) a in
-      let b : pos j *ℤ get_or D k (pos 0) ≡ pos (j * y.by) *ℤ v = ap (λ (z : ℤ). pos j *ℤ z) d ∙ sym (*ℤ-assoc (pos j) (pos y.by) v) ∙ ap (λ (z : ℤ). z *ℤ v) (pos-*ℤ-pos j y.by) in
+      let d : get_or (moves_of (Some y) P) k (pos 0) ≡ pos y.by *ℤ v = move_is k h ∙ +ℤ_idl (sub_ℕ y.by 0 *ℤ v) ∙ ap (λ (z : ℤ). z *ℤ v) a in
+      let b : pos j *ℤ get_or (moves_of (Some y) P) k (pos 0) ≡ pos (j * y.by) *ℤ v = ap (λ (z : ℤ). pos j *ℤ z) d ∙ sym (*ℤ-assoc (pos j) (pos y.by) v) ∙ ap (λ (z : ℤ). z *ℤ v) (pos-*ℤ-pos j y.by) in
       let small : j * y.by * nat_abs v < 2 ^ 63 =
-      by_lt 0 j
-      (λ p. let way = way_for m j p g in
-      lt_of_le_of_lt (mul-le-mul_right (nat_abs v) (let f = below m way j g in let z : j * y.by ≤ get_or P.extents y.axis 0 - 1 = omega (arith, f) in z)) (m.strides.roomy.span k y.axis h (m.leads.there way)))
-      (λ p. subst (λ (n : ℕ). n * y.by * nat_abs v < 2 ^ 63) (let z : 0 ≡ j = omega (arith, p) in z) (subst (λ (n : ℕ). n < 2 ^ 63) (sym (ap (λ (n : ℕ). n * nat_abs v) (zero-mul y.by) ∙ zero-mul (nat_abs v))) (omega arith))) in
+      lt_of_le_of_lt (mul-le-mul_right (nat_abs v) (let f = below m j g in let z : j * y.by ≤ get_or P.extents y.axis 0 - 1 = omega (arith, f) in z)) (m.strides.roomy.span k y.axis h (m.leads.along y refl).there) in
       subst (SFits w64) (sym b) (record { sfits = lt_of_le_of_lt (signed.mag_mul (j * y.by) v) small })
 
-  module _ (j : ℕ) (g : j < left_of y P w at.counters) {at₁ : State} (n : OnTo y j P w at at₁) where
-    each : (k : ℕ) → k < P.operands → get_or at₁.offsets k (pos 0) ≡ get_or at.offsets k (pos 0) +ℤ pos j *ℤ get_or D k (pos 0)
-    each k h = by_lt 0 j goes stays
-      where
-        goes : 0 < j → get_or at₁.offsets k (pos 0) ≡ get_or at.offsets k (pos 0) +ℤ pos j *ℤ get_or D k (pos 0)
-        goes p =
-            let f = few in
-            let x = m.strides.roomy.offered in
-            let u : at₁.offsets ≡ shifted P y.axis (get_or at.counters y.axis 0) (get_or at.counters y.axis 0 + j * y.by) at.offsets = same_offsets j n (moved_on_lem m (way_for m j p g) j g) in
-            ap (λ (z : List ℤ). get_or z k (pos 0)) u
-            ∙ filled_at at.offsets (moved_at y.axis (get_or at.counters y.axis 0) (get_or at.counters y.axis 0 + j * y.by) P.strides at.offsets) (pos 0) P.operands k h (omega (arith, x, f))
-            ∙ moves_at_once (get_or at.offsets k (pos 0)) (get_or P.strides (k * 64 + y.axis) (pos 0)) (get_or at.counters y.axis 0) y.by j
-            ∙ ap (λ (z : ℤ). get_or at.offsets k (pos 0) +ℤ pos j *ℤ z) (sym (move_is k h))
+  each_on : (j : ℕ) → j < left_of (Some y) P w at.counters → {at₁ : State} → OnTo (Some y) j P w at at₁ → (k : ℕ) → k < P.operands
+      → get_or at₁.offsets k (pos 0) ≡ get_or at.offsets k (pos 0) +ℤ pos j *ℤ get_or (moves_of (Some y) P) k (pos 0)
+  each_on j g {at₁} n k h =
+      let f = few in
+      let x = m.strides.roomy.offered in
+      let u : at₁.offsets ≡ shifted P y.axis (get_or at.counters y.axis 0) (get_or at.counters y.axis 0 + j * y.by) at.offsets = same_offsets (Some y) m.strides j n (moved_on_lem m j g) in
+      ap (λ (z : List ℤ). get_or z k (pos 0)) u
+      ∙ filled_at at.offsets (moved_at y.axis (get_or at.counters y.axis 0) (get_or at.counters y.axis 0 + j * y.by) P.strides at.offsets) (pos 0) P.operands k h (omega (arith, x, f))
+      ∙ moves_at_once (get_or at.offsets k (pos 0)) (get_or P.strides (k * 64 + y.axis) (pos 0)) (get_or at.counters y.axis 0) y.by j
+      ∙ ap (λ (z : ℤ). get_or at.offsets k (pos 0) +ℤ pos j *ℤ z) (sym (move_is k h))
 
-        stays : j ≤ 0 → get_or at₁.offsets k (pos 0) ≡ get_or at.offsets k (pos 0) +ℤ pos j *ℤ get_or D k (pos 0)
-        stays p =
-            let z : j ≡ 0 = omega (arith, p) in
-            let u : at₁.offsets ≡ at.offsets = same_offsets 0 (subst (λ (i : ℕ). OnTo y i P w at at₁) z n) (unmoved_on m) in
-            ap (λ (v : List ℤ). get_or v k (pos 0)) u
-            ∙ sym (ap (λ (i : ℕ). get_or at.offsets k (pos 0) +ℤ pos i *ℤ get_or D k (pos 0)) z
-            ∙ ap (λ (v : ℤ). get_or at.offsets k (pos 0) +ℤ v) (zero-*ℤ (get_or D k (pos 0))) ∙ +ℤ_idr (get_or at.offsets k (pos 0)))
+-- the way from the first block to each of the others fits 64 bits
+pub steps_fit : (y : Option Way) {P : Plan} {w : List ℕ} {at : State} → Striding y P w at → (j : ℕ) → j < left_of y P w at.counters → (k : ℕ) → k < P.operands → SFits w64 (pos j *ℤ get_or (moves_of y P) k (pos 0))
+steps_fit None m zero g k h = subst (SFits w64) (sym (zero-*ℤ (get_or (replicate 8 (pos 0)) k (pos 0)))) (record { sfits = omega arith })
+steps_fit None m (suc j) g k h = absurd (let z : ⊥ = omega (arith, g) in z)
+steps_fit (Some y) m j g k h = steps_on m j g k h
+
+each : (y : Option Way) {P : Plan} {w : List ℕ} {at : State} → Striding y P w at → (j : ℕ) → j < left_of y P w at.counters → {at₁ : State} → OnTo y j P w at at₁ → (k : ℕ) → k < P.operands
+    → get_or at₁.offsets k (pos 0) ≡ get_or at.offsets k (pos 0) +ℤ pos j *ℤ get_or (moves_of y P) k (pos 0)
+each None {at = at} m zero g n k h =
+    let d : ℤ = get_or (replicate 8 (pos 0)) k (pos 0) in
+    ap (λ (v : List ℤ). get_or v k (pos 0)) (same_offsets None m.strides 0 n (unmoved_on None m.strides))
+    ∙ sym (ap (λ (v : ℤ). get_or at.offsets k (pos 0) +ℤ v) (zero-*ℤ d) ∙ +ℤ_idr (get_or at.offsets k (pos 0)))
+each None m (suc j) g n k h = absurd (let z : ⊥ = omega (arith, g) in z)
+each (Some y) m j g n k h = each_on m j g n k h
+
+module _ {y : Option Way} {P : Plan} {w : List ℕ} {at : State} (m : Striding y P w at) where
+  module _ (j : ℕ) (g : j < left_of y P w at.counters) {at₁ : State} (n : OnTo y j P w at at₁) where
+    abbrev D : List ℤ
+    D = moves_of y P
 
     on_offsets : take P.operands at₁.offsets ≡ moved_on j (take P.operands at.offsets) (take P.operands D)
     on_offsets =
-        let f = few in
+        let f = m.strides.roomy.few in
         let x = m.strides.roomy.offered in
         let x₁ = n.roomy.offered in
         let l = moves_long y P in
@@ -125,20 +129,20 @@ module _ {y : Way} {P : Plan} {w : List ℕ} {at : State} (m : Striding y P w at
         let d : length (take P.operands D) ≡ P.operands = length-take-le P.operands D (omega (arith, l, f)) in
         moved_list j (take P.operands at₁.offsets) (take P.operands at.offsets) (take P.operands D) (b ∙ sym a) (d ∙ sym a)
         (λ k h. let h' : k < P.operands = subst (λ (i : ℕ). k < i) a h in
-        get_or-take P.operands at₁.offsets k (pos 0) h' ∙ each k h'
+        get_or-take P.operands at₁.offsets k (pos 0) h' ∙ each y m j g n k h'
         ∙ sym (ap₂ (λ (u v : ℤ). u +ℤ pos j *ℤ v) (get_or-take P.operands at.offsets k (pos 0) h') (get_or-take P.operands D k (pos 0) h')))
 
 -- ---- the walk
 
 -- a walk that runs, the block sizes in force, the starts of its tiles, and a way
-pub record At (p : Plan) (y : Way) (w t : List ℕ) (u : Walk) : Type 0 where
+pub record At (p : Plan) (y : Option Way) (w t : List ℕ) (u : Walk) : Type 0 where
   pub widths-are : w ≡ widths p
   pub leads : Leads y p w
   pub tiles : Tiled p w (state_of t u.counters u.offsets)
   pub taken : Taken p u
   pub runs : u.ended ≡ false
 
-module _ {p : Plan} {y : Way} {w t : List ℕ} {u : Walk} (a : At p y w t u) where
+module _ {p : Plan} {y : Option Way} {w t : List ℕ} {u : Walk} (a : At p y w t u) where
   -- where it stands
   abbrev from : State
   from = state_of t u.counters u.offsets
@@ -156,11 +160,11 @@ module _ {p : Plan} {y : Way} {w t : List ℕ} {u : Walk} (a : At p y w t u) whe
   On j = OnTo y j p w from
 
   pub some_here : 0 < left
-  some_here = some_left asks
+  some_here = some_left y asks
 
   -- every offset of the stretch fits 64 bits
   pub fits_on : (j : ℕ) → j < left → (k : ℕ) → k < p.operands → SFits w64 (get_or u.offsets k (pos 0) +ℤ pos j *ℤ get_or (moves_of y p) k (pos 0))
-  fits_on j g k b = let n = moved-there asks j g in subst (SFits w64) (each asks j g n.moved k b) (roomy_offset n.moved.roomy k b)
+  fits_on j g k b = let n = moved-there y asks j g in subst (SFits w64) (each y asks j g n.moved k b) (roomy_offset n.moved.roomy k b)
 
   -- the first j blocks are the first j of the stretch laid out
   pub record Lies (j : ℕ) : Type 0 where
@@ -192,7 +196,7 @@ module _ {p : Plan} {y : Way} {w t : List ℕ} {u : Walk} (a : At p y w t u) whe
         let x : take p.operands block.offsets ≡ moved_on j (take p.operands u.offsets) (take p.operands (moves_of y p)) =
         ap (take p.operands) (offsets_here p here d.taken refl) ∙ on_offsets asks j g n in
         let z : block.length ≡ length_handed (handed_block (stepped p u)) =
-        sym (length-here p here d.taken refl w a.widths-are) ∙ ap (length_of p w) n.counters ∙ on_length asks j g ∙ sym len_here in
+        sym (length-here p here d.taken refl w a.widths-are) ∙ ap (length_of p w) n.counters ∙ on_length y asks j g ∙ sym len_here in
         λ i. record { offsets = x i; length = z i }
 
     more_blocks : next_blocks (j + 1) p u ≡ next_blocks j p u ++ (block ∷ [])
@@ -227,18 +231,18 @@ module _ {p : Plan} {y : Way} {w t : List ℕ} {u : Walk} (a : At p y w t u) whe
   stands_at : (j : ℕ) → j < left → {at : State} → On j at → Stands j true at
   stands_at zero g {at} n =
       let x : u.counters ≡ at.counters = sym (n.counters ∙ on_none y u.counters) in
-      let z : u.offsets ≡ at.offsets = same_offsets asks 0 (unmoved_on asks) n in
+      let z : u.offsets ≡ at.offsets = same_offsets y asks.strides 0 (unmoved_on y asks.strides) n in
       let e : walk_of false at.counters at.offsets ≡ u = sym (running u a.runs ∙ ap₂ (λ (c : List ℕ) (o : List ℤ). walk_of false c o) x z) in
       record { state = e; taken = subst (Taken p) (sym e) a.taken; tiles = n.tiled; lies = record { full = refl; blocks = λ limit. refl } }
   stands_at (suc j) g n =
       let f : j < left = omega (arith, g) in
-      let b = moved-there asks j f in
-      one_on j f (stands_at j f b.moved) b.moved (on_step asks j g b.moved n)
+      let b = moved-there y asks j f in
+      one_on j f (stands_at j f b.moved) b.moved (on_step y asks j g b.moved n)
 
   -- THE BLOCKS OF A STRETCH, up to the last
   pub lies_at : (j : ℕ) → j ≤ left → Lies j
   lies_at zero g = record { full = refl; blocks = λ limit. refl }
-  lies_at (suc j) g = let n = moved-there asks j g in lies_on j g (stands_at j g n.moved) n.moved
+  lies_at (suc j) g = let n = moved-there y asks j g in lies_on j g (stands_at j g n.moved) n.moved
 
   -- WHAT A CALL LEAVES
   module _ {limit : ℕ} {r : Next} {first : List ℤ} {at : State} (d : Strode y limit p w from r first at) where

@@ -7,6 +7,7 @@ use mathlib.Core.List.{List, [], ◌++◌, map, append-nil}
 use Prim.Native.Nat.{ℕ, ◌+◌, ◌-◌, ◌^◌, ◌≤◌, ◌<◌}
 use native.Mathlib.Omega.{arith}
 use lib.IntN.{ℤ, pos, ◌+ℤ◌, ◌*ℤ◌}
+use Rattle.std.specs.Prelude.{Option, Some}
 use lib.ListN.{length, get_or, take, drop, replicate, length-append, length-map, length-take}
 use mir.Syntax.{w64}
 use mir.Val.{SFits}
@@ -28,7 +29,7 @@ use Rattle.strided.specs.Memory.{walk_of}
 use Rattle.walk.specs.Lent.{Taken}
 use Rattle.walk.proofs.Stepping.{operands_few, tiled_here, roomy_here, ended_none}
 use Rattle.walker.specs.declared.Course.{Course}
-use Rattle.walker.specs.declared.Way.{Way}
+use Rattle.walker.specs.declared.way.Way.{Way}
 use Rattle.walker.specs.declared.Next.{Next}
 use Rattle.walker.specs.Stretch.{Stretch, block_in, laid, told, RowsFit, stretch_at}
 use Rattle.walker.specs.Way.{Leads, left_of, moves_of, Strides, MayTell, Strode}
@@ -38,15 +39,15 @@ use Rattle.walker.proofs.Stretching.{At, Stands, asks, some_here, fits_on, steps
 use Rattle.strided.specs.Begin.{begin_refused, started}
 
 -- of a course that was made of the plan p
-module _ (x : Course) {p : Plan} (e : x.plan.now ≡ p) where
-  pub course_acts : x.widths ≡ widths p
-  course_acts = subst (λ (q : Plan). x.widths ≡ widths q) e x.acting
+module _ (x : Course) {p : Plan} (e : x.tiling.plan.now ≡ p) where
+  pub course_acts : x.tiling.widths ≡ widths p
+  course_acts = subst (λ (q : Plan). x.tiling.widths ≡ widths q) e x.tiling.acting
 
-  pub course_leads : Leads x.way p x.widths
-  course_leads = subst (λ (q : Plan). Leads x.way q x.widths) e x.leads
+  pub course_leads : Leads x.way p x.tiling.widths
+  course_leads = subst (λ (q : Plan). Leads x.way q x.tiling.widths) e x.leads
 
 -- n blocks of the walk from u on are done: where it stands
-pub record Walked (p : Plan) (u : Walk) (y : Way) (w : List ℕ) (n : ℕ) (more : Bool) (at : State) : Type 0 where
+pub record Walked (p : Plan) (u : Walk) (y : Option Way) (w : List ℕ) (n : ℕ) (more : Bool) (at : State) : Type 0 where
   pub widths-are : w ≡ widths p
   pub leads : Leads y p w
   pub taken : Taken p (walk_of (not more) at.counters at.offsets)
@@ -55,7 +56,7 @@ pub record Walked (p : Plan) (u : Walk) (y : Way) (w : List ℕ) (n : ℕ) (more
   pub tiles : Tiled p w at
 
 -- at its beginning
-module _ {p : Plan} {y : Way} {w : List ℕ} (is : w ≡ widths p) (l : Leads y p w) {c : List ℕ} {o : List ℤ} (k : Taken p (walk_of false c o)) where
+module _ {p : Plan} {y : Option Way} {w : List ℕ} (is : w ≡ widths p) (l : Leads y p w) {c : List ℕ} {o : List ℤ} (k : Taken p (walk_of false c o)) where
   pub walked_none : {t : List ℕ} → t ≡ starts_to w c p.rank → Walked p (walk_of false c o) y w 0 true (state_of t c o)
   walked_none {t} e = record {
     widths-are = is;
@@ -67,11 +68,11 @@ module _ {p : Plan} {y : Way} {w : List ℕ} (is : w ≡ widths p) (l : Leads y 
   }
 
   -- what `moves_of` asks
-  pub may_move : Shifts p y.axis 0 y.by (replicate 8 (pos 0))
+  pub may_move : (v : Way) → y ≡ Some v → Shifts p v.axis 0 v.by (replicate 8 (pos 0))
   may_move = moves_fit (roomy_here p (walk_of false c o) k refl []) l
 
 -- while it runs
-module _ {p : Plan} {u : Walk} {y : Way} {w : List ℕ} {n : ℕ} {at : State} (k : Walked p u y w n true at) where
+module _ {p : Plan} {u : Walk} {y : Option Way} {w : List ℕ} {n : ℕ} {at : State} (k : Walked p u y w n true at) where
   abbrev here : Walk
   here = walk_of false at.counters at.offsets
 
@@ -101,7 +102,7 @@ module _ {p : Plan} {u : Walk} {y : Way} {w : List ℕ} {n : ℕ} {at : State} (
     }
 
     pub steps_here : (j i : ℕ) → j < count → i < p.operands → SFits w64 (pos j *ℤ get_or d' i (pos 0))
-    steps_here j i b f = subst (SFits w64) (ap (λ (q : List ℤ). pos j *ℤ get_or q i (pos 0)) (sym d-is)) (steps_fit (asks a) j (omega (arith, h, b)) i f)
+    steps_here j i b f = subst (SFits w64) (ap (λ (q : List ℤ). pos j *ℤ get_or q i (pos 0)) (sym d-is)) (steps_fit y (asks a) j (omega (arith, h, b)) i f)
 
   module _ {limit : ℕ} {r : Next} {first : List ℤ} {at' : State} (x : Strode y limit p w at r first at') where
     s : Stands a r.count r.more at'
@@ -152,7 +153,7 @@ module _ {p : Plan} {u : Walk} {y : Way} {w : List ℕ} {n : ℕ} {at : State} (
           (ap (λ (v : Walk). map (placed_of p.operands) (next_blocks r.count p v)) (ap (walk_after p n) (sym b) ∙ sym k.state) ∙ walked_laid)
 
 -- in a walk from the starts zs there are as many
-pub walked_within : {p : Plan} {u : Walk} {y : Way} {w : List ℕ} {n : ℕ} {more : Bool} {at : State} → Walked p u y w n more at → {zs : List ℤ} → Ready p zs → u ≡ (started p zs)
+pub walked_within : {p : Plan} {u : Walk} {y : Option Way} {w : List ℕ} {n : ℕ} {more : Bool} {at : State} → Walked p u y w n more at → {zs : List ℤ} → Ready p zs → u ≡ (started p zs)
     → n ≤ length (placed_walk p zs)
 walked_within {p} {u} {n = n} k {zs} q b =
     let e : map (placed_of p.operands) (next_blocks n p u) ≡ take n (placed_walk p zs) = ap (λ (v : Walk). map (placed_of p.operands) (next_blocks n p v)) b ∙ placed_part p zs q n 0 in
@@ -160,7 +161,7 @@ walked_within {p} {u} {n = n} k {zs} q b =
     omega (arith, ap length e, length-map (next_blocks n p u) (placed_of p.operands), length-take n (placed_walk p zs), f)
 
 -- at its end no block is left
-module _ {p : Plan} {u : Walk} {y : Way} {w : List ℕ} {n : ℕ} {at : State} (k : Walked p u y w n false at) where
+module _ {p : Plan} {u : Walk} {y : Option Way} {w : List ℕ} {n : ℕ} {at : State} (k : Walked p u y w n false at) where
   pub walked_all : (m : ℕ) → next_blocks (n + m) p u ≡ next_blocks n p u
   walked_all m =
       blocks_more p n m u k.full
@@ -172,14 +173,14 @@ module _ {p : Plan} {u : Walk} {y : Way} {w : List ℕ} {n : ℕ} {at : State} (
 
 -- ---- a loop over the stretches of a walk from the starts zs
 
-pub record Walking (p : Plan) (zs : List ℤ) (y : Way) (w : List ℕ) (n : ℕ) (more : Bool) (at : State) : Type 0 where
+pub record Walking (p : Plan) (zs : List ℤ) (y : Option Way) (w : List ℕ) (n : ℕ) (more : Bool) (at : State) : Type 0 where
   pub ready : Ready p zs
   pub first : Walk
   pub begins : first ≡ started p zs
   pub walked : Walked p first y w n more at
 
 -- while it runs, a stretch of it
-module _ {p : Plan} {zs : List ℤ} {y : Way} {w : List ℕ} {n : ℕ} {at : State} (k : Walking p zs y w n true at)
+module _ {p : Plan} {zs : List ℤ} {y : Option Way} {w : List ℕ} {n : ℕ} {at : State} (k : Walking p zs y w n true at)
     {limit : ℕ} {r : Next} {first : List ℤ} {at' : State} (x : Strode y limit p w at r first at') where
   pub walking_next : Walking p zs y w (n + r.count) r.more at'
   walking_next = record { ready = k.ready; first = k.first; begins = k.begins; walked = walked_next k.walked x }
@@ -199,5 +200,5 @@ module _ {p : Plan} {zs : List ℤ} {y : Way} {w : List ℕ} {n : ℕ} {at : Sta
   walking_less h = let a = within in let b = walked_some k.walked x h in omega (arith, a, b)
 
 -- at its end no block of the plan is left
-pub walking_over : {p : Plan} {zs : List ℤ} {y : Way} {w : List ℕ} {n : ℕ} {at : State} → Walking p zs y w n false at → drop n (placed_walk p zs) ≡ []
+pub walking_over : {p : Plan} {zs : List ℤ} {y : Option Way} {w : List ℕ} {n : ℕ} {at : State} → Walking p zs y w n false at → drop n (placed_walk p zs) ≡ []
 walking_over k = walked_over k.walked k.ready k.begins

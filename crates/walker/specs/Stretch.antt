@@ -12,7 +12,7 @@ use Rattle.strided.specs.declared.Block.{Block}
 use Rattle.laws.specs.Base.Sums.{sum}
 use Rattle.laws.specs.Walk.Placed.{Placed}
 use Rattle.advance.specs.Axis.{widths}
-use Rattle.walker.specs.declared.Way.{Way}
+use Rattle.walker.specs.declared.way.Way.{Way}
 use Rattle.walker.specs.declared.Next.{Next}
 use Rattle.walker.specs.Way.{left_of, moves_of}
 
@@ -57,7 +57,7 @@ length_handed (Some b) = b.length
 length_handed None = 0
 
 -- the stretch at a state, of at most `limit` blocks
-abbrev pub stretch_at : Way → ℕ → Plan → Walk → Stretch
+abbrev pub stretch_at : Option Way → ℕ → Plan → Walk → Stretch
 stretch_at y limit p w = record {
   offsets = take p.operands w.offsets;
   length = length_handed (handed_block (stepped p w));
@@ -66,7 +66,7 @@ stretch_at y limit p w = record {
 }
 
 -- calls with such limits, each at the state after the blocks of the one before, until the walk has ended
-abbrev pub stretches : List ℕ → Way → Plan → Walk → List Stretch
+abbrev pub stretches : List ℕ → Option Way → Plan → Walk → List Stretch
 stretches [] y p w = []
 stretches (n ∷ ns) y p w = cond w.ended [] (stretch_at y n p w ∷ stretches ns y p (walk_after p (stretch_at y n p w).count w))
 

@@ -1,10 +1,11 @@
 -- The strides of a selection, row by row: that of operand k on axis i stands at place k * rank + i. Assumes nothing.
-use mathlib.Core.Path.{◌≡◌, sym, ap, ◌∙◌}
-use mathlib.Core.Bool.{Bool, true, false, not}
+use mathlib.Core.Path.{◌≡◌, refl, sym, ap, ap₂, ◌∙◌}
+use mathlib.Core.Bool.{Bool, true, false, cond, not}
 use mathlib.Core.List.{List}
-use Prim.Native.Nat.{ℕ, ◌+◌, ◌*◌, ◌≤◌, ◌<◌}
+use Prim.Native.Nat.{ℕ, zero, suc, ◌+◌, ◌*◌, ◌≤◌, ◌<◌}
 use Rattle.std.proofs.Math.Nat.{mul_comm}
 use Rattle.std.proofs.lemmas.Nat.{mul-add-lt, mod-mul-add}
+use native.Mathlib.Nat.{add-zero, zero-mul, suc-mul}
 use native.Mathlib.Omega.{arith}
 use lib.IntN.{ℤ, pos}
 use lib.ListN.{length, get_or}
@@ -17,6 +18,35 @@ use Rattle.window.specs.declared.selection.Selection.{Selection}
 use Rattle.window.specs.Window.{stepped_stride, stride_over}
 use Rattle.window.specs.Selected.{new_strides}
 use Rattle.window.specs.Places.{window_length, window_at_lem, few_places}
+
+-- the tests of n places from o on
+pub some_moved : (t u : ℕ → Bool) (o n : ℕ) → ((i : ℕ) → i < n → u i ≡ t (o + i)) → some_of u 0 n ≡ some_of t o n
+unfolding some_of
+some_moved t u o zero h = refl
+some_moved t u o (suc n) h =
+    let e : 0 + n ≡ n = omega arith in
+    ap₂ (λ (a b : Bool). cond a true b) (ap u e ∙ h n (omega arith)) (some_moved t u o n (λ i l. h i (omega arith)))
+
+some_behind : (t : ℕ → Bool) (o n : ℕ) → some_of t 0 (o + n) ≡ cond (some_of t o n) true (some_of t 0 o)
+unfolding some_of
+some_behind t o zero = ap (some_of t 0) (add-zero o)
+some_behind t o (suc n) =
+    let e : o + suc n ≡ suc (o + n) = omega arith in
+    let z : 0 + (o + n) ≡ o + n = omega arith in
+    ap (some_of t 0) e ∙ ap₂ (λ (i : ℕ) (b : Bool). cond (t i) true b) z (some_behind t o n) ∙ either (t (o + n)) (some_of t o n) (some_of t 0 o)
+  where
+    either : (a b c : Bool) → cond a true (cond b true c) ≡ cond (cond a true b) true c
+    either true b c = refl
+    either false b c = refl
+
+-- the tests of n rows of r places
+pub some_rows : (t : ℕ → Bool) (r n : ℕ) → some_of (λ k. some_of t (k * r) r) 0 n ≡ some_of t 0 (n * r)
+unfolding some_of
+some_rows t r zero = ap (some_of t 0) (sym (zero-mul r))
+some_rows t r (suc n) =
+    let z : 0 + n ≡ n = omega arith in
+    let e : n * r + r ≡ suc n * r = omega (arith, suc-mul n r) in
+    ap₂ (λ (k : ℕ) (b : Bool). cond (some_of t (k * r) r) true b) z (some_rows t r n) ∙ sym (some_behind t (n * r) r) ∙ ap (some_of t 0) e
 
 module _ (s : Selection) where
   abbrev rank : ℕ
@@ -35,7 +65,7 @@ module _ (s : Selection) where
 
   -- ts is operand k's row
   module _ (k : ℕ) (h : k < s.layout.operands) {ts : List ℤ} (r : ts ≡ stride_row s.layout.strides.now rank k) where
-    row_long : length ts ≡ rank
+    pub row_long : length ts ≡ rank
     row_long = ap length r ∙ length_strides s.layout.strides.now rank s.layout.operands k s.layout.fits.strides_all h
 
     -- behind its places is the next operand's row

@@ -1,15 +1,14 @@
 -- The sum of first times stride, from axis 0 up: no partial sum leaves 64 bits. Assumes nothing.
-use mathlib.Core.Path.{◌≡◌, refl, sym, ap, ◌∙◌, subst}
+use mathlib.Core.Path.{◌≡◌, refl, sym, ◌∙◌, subst}
 use mathlib.Core.Bool.{Bool, true, false, cond}
-use mathlib.Core.List.{List}
+use mathlib.Core.List.{List, [], ◌∷◌}
+use mathlib.Core.Logic.{◌⊎◌, ⊎_elim}
 use Prim.Native.Nat.{ℕ, suc, ◌+◌, ◌-◌, ◌*◌, ◌^◌, ◌≤◌, ◌<◌}
 use native.Mathlib.Nat.{mul-le-mul_left, mul-one}
-use native.Mathlib.Numerals.{add-one}
 use native.Mathlib.Omega.{arith}
 use lib.Dec.{ltb}
-use lib.IntN.{ℤ, pos, negsuc, nat_abs, ◌+ℤ◌, ◌*ℤ◌, +ℤ_assoc}
-use lib.ListN.{length, get_or, drop}
-use lib.Seq.{drop-cons}
+use lib.IntN.{ℤ, pos, negsuc, nat_abs, ◌+ℤ◌, ◌*ℤ◌, +ℤ_assoc, +ℤ_idl, +ℤ_idr}
+use lib.ListN.{length}
 use mir.Syntax.{w64}
 use mir.Val.{SFits}
 use borrow.Author.Tests.{ltb-true}
@@ -48,30 +47,39 @@ first_small f t h p =
 
 -- ---- the loop
 
--- z is the sum of the axes before i, and what is left of the sizes fits
-abbrev pub Summed : List ℕ → List ℤ → ℤ → ℕ → Type 0
-Summed fs ts z i = (z +ℤ dot (drop i fs) (drop i ts) ≡ dot fs ts) × (nat_abs z + spread (drop i fs) (drop i ts) ≤ max_i)
+-- z is the sum of the axes that are passed, us and vs are left, and what is left of the sizes fits
+pub record Summed (fs : List ℕ) (ts : List ℤ) (z : ℤ) (us : List ℕ) (vs : List ℤ) : Type 0 where
+  pub long : length vs ≡ length us
+  pub whole : z +ℤ dot us vs ≡ dot fs ts
+  pub near : nat_abs z + spread us vs ≤ max_i
 
-module _ (fs : List ℕ) (ts : List ℤ) (z : ℤ) (i : ℕ) (h : i < length fs) (e : length ts ≡ length fs) (s : Summed fs ts z i) where
-  abbrev v : ℤ
-  v = pos (get_or fs i 0) *ℤ get_or ts i (pos 0)
+pub sum_start : {fs : List ℕ} {ts : List ℤ} {us : List ℕ} {vs : List ℤ} → length ts ≡ length fs → spread fs ts ≤ max_i → us ≡ fs → vs ≡ ts → Summed fs ts (pos 0) us vs
+sum_start {fs} {ts} l n e f = rw (e, f) (record { long = l; whole = +ℤ_idl (dot fs ts); near = omega (arith, n) })
 
-  dot-drop : dot (drop i fs) (drop i ts) ≡ v +ℤ dot (drop (i + 1) fs) (drop (i + 1) ts)
-  dot-drop = let g : i < length ts = omega arith in rw (add-one i, drop-cons fs i 0 h, drop-cons ts i (pos 0) g)
+module _ {fs : List ℕ} {ts : List ℤ} {z : ℤ} {us : List ℕ} {vs : List ℤ} (s : Summed fs ts z us vs) where
+  -- one axis is in front of others
+  module _ {f : ℕ} {t : ℤ} {us' : List ℕ} {vs' : List ℤ} (p : us ≡ f ∷ us') (q : vs ≡ t ∷ vs') where
+    here : Summed fs ts z (f ∷ us') (t ∷ vs')
+    here = subst (λ (x : List ℕ). Summed fs ts z x (t ∷ vs')) p (subst (λ (y : List ℤ). Summed fs ts z us y) q s)
 
-  spread-drop : spread (drop i fs) (drop i ts) ≡ get_or fs i 0 * nat_abs (get_or ts i (pos 0)) + spread (drop (i + 1) fs) (drop (i + 1) ts)
-  spread-drop = let g : i < length ts = omega arith in rw (add-one i, drop-cons fs i 0 h, drop-cons ts i (pos 0) g)
+    pub term_near : f * nat_abs t ≤ max_i
+    term_near = omega (arith, here.near)
 
-  sum_small : nat_abs (z +ℤ v) + spread (drop (i + 1) fs) (drop (i + 1) ts) ≤ max_i
-  sum_small =
-      let a = nat_abs_sum z v in
-      let b = nat_abs_mul (get_or fs i 0) (get_or ts i (pos 0)) in
-      let d = spread-drop in
-      omega (arith, a, b, d, s.1)
+    sum_small : nat_abs (z +ℤ pos f *ℤ t) + spread us' vs' ≤ max_i
+    sum_small = omega (arith, nat_abs_sum z (pos f *ℤ t), nat_abs_mul f t, here.near)
 
-  pub sum_fits_lem : SFits w64 (z +ℤ (pos (get_or fs i 0) *ℤ get_or ts i (pos 0)))
-  sum_fits_lem = size_fits (z +ℤ v) (omega (arith, sum_small))
+    pub sum_fits_lem : SFits w64 (z +ℤ pos f *ℤ t)
+    sum_fits_lem = size_fits (z +ℤ pos f *ℤ t) (omega (arith, sum_small))
 
-  pub summed_turn : Summed fs ts (z +ℤ (pos (get_or fs i 0) *ℤ get_or ts i (pos 0))) (i + 1)
-  summed_turn =
-      (+ℤ_assoc z v (dot (drop (i + 1) fs) (drop (i + 1) ts)) ∙ ap (λ (d : ℤ). z +ℤ d) (sym dot-drop) ∙ s.0, sum_small)
+    pub sum_turn : Summed fs ts (z +ℤ pos f *ℤ t) us' vs'
+    sum_turn =
+        let n : suc (length vs') ≡ suc (length us') = here.long in
+        record { long = omega arith; whole = +ℤ_assoc z (pos f *ℤ t) (dot us' vs') ∙ here.whole; near = sum_small }
+
+  -- none is left
+  pub sum_end : (length us ≡ 0) ⊎ (length vs ≡ 0) → z ≡ dot fs ts
+  sum_end o = ⊎_elim (λ (e : length us ≡ 0). go us e s) (λ (e : length vs ≡ 0). go us (omega (arith, e, s.long)) s) o
+    where
+      go : (xs : List ℕ) → length xs ≡ 0 → Summed fs ts z xs vs → z ≡ dot fs ts
+      go [] e h = sym (+ℤ_idr z) ∙ h.whole
+      go (x ∷ xs) e h = absurd (omega arith)

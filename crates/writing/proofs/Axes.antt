@@ -1,45 +1,23 @@
--- Laws of a plan's output: what measuring answers and what row 14 leaves, the A lines out of the plan's arrays, and the parts of the whole.
+-- Laws of a plan's output: the A lines out of the plan's arrays, and the parts of the whole.
 -- Assumes nothing.
 use mathlib.Core.Path.{◌≡◌, refl, sym, ap, ap₂, ◌∙◌}
-use mathlib.Core.Logic.{⊎_elim}
 use mathlib.Core.List.{List, [], ◌∷◌, ◌++◌, map}
 use Prim.Native.Nat.{ℕ, zero, suc, ◌+◌, ◌-◌, ◌*◌, ◌≤◌, ◌<◌}
 use native.Mathlib.Numerals.{add-one}
 use native.Mathlib.Omega.{arith}
 use lib.IntN.{ℤ, pos}
-use lib.ListN.{length, get_or, take, drop, replicate, length-append, length-take, length-replicate, length-map}
+use lib.ListN.{length, get_or, take, drop, replicate, length-take, length-replicate, length-map}
 use lib.Seq.{ext_get_or, get_or-take, get_or-drop}
-use borrow.Author.Tests.{lt-ltb, le-ltb}
 use Rattle.strided.specs.Base.{over, run}
 use Rattle.strided.specs.Begin.{plan_row, plan_rows}
-use Rattle.strided.specs.Text.{rank_line, axis_line, axis_of, printed_plan}
+use Rattle.strided.specs.Text.{line_of, rank_line, axis_line, axis_of, printed_plan}
 use Rattle.strided.specs.declared.Plan.{Plan}
-use Rattle.laws.specs.Base.Ranges.{below_or}
 use Rattle.laws.specs.Base.Lists.{length_run, get_d_run}
 use Rattle.advance.specs.Filled.{filled_length, filled_at}
-use Rattle.writing.specs.Plan.{measured, axis_at, rest_from}
+use Rattle.writing.specs.Line.{fields_of}
+use Rattle.writing.specs.Plan.{axis_at, rest_from}
+use Rattle.writing.proofs.Lines.{axis_is}
 use Rattle.advance.specs.Blocks.{stride_on, column_to}
-use Rattle.std.specs.Prelude.{Option, Some, None}
-
--- ---- what is answered
-
-pub measured_more : (n limit : ℕ) → limit < n → None ≡ measured n limit
-measured_more n limit h = rw (lt-ltb limit n h)
-
-pub measured_fits : (n limit : ℕ) → n ≤ limit → Some n ≡ measured n limit
-measured_fits n limit h = rw (le-ltb limit n h)
-
--- the answer read back
-pub more_measured : (n limit : ℕ) {m : Option ℕ} → m ≡ measured n limit → m ≡ None → limit < n
-more_measured n limit e f =
-    ⊎_elim (λ h. h) (λ h. (let q = measured_fits n limit h in let z : ◌≡◌ {A = ℕ} 0 1 = cc in absurd (omega arith))) (below_or limit n)
-
-pub fits_measured : (n limit k : ℕ) {m : Option ℕ} → m ≡ measured n limit → m ≡ Some k → (n ≤ limit) × (k ≡ n)
-fits_measured n limit k e f =
-    ⊎_elim
-    (λ h. (let q = measured_more n limit h in let z : ◌≡◌ {A = ℕ} 0 1 = cc in absurd (omega arith)))
-    (λ h. (let q = measured_fits n limit h in let same : k ≡ n = cc in (h, same)))
-    (below_or limit n)
 
 -- ---- the A lines
 
@@ -88,9 +66,6 @@ module _ (p : Plan) where
   unfolding printed_plan rest_from
   printed_parts = ap (λ (l : List ℕ). rank_line p.rank ++ (l ++ rest_from p 0)) (axes_of_lem p.rank 0 (omega arith))
 
-  pub printed-length : length (printed_plan p) ≡ length (rank_line p.rank) + length (over (run 0 p.rank) (axis_at p)) + length (rest_from p 0)
-  printed-length = ap length printed_parts ∙ simp length-append (omega arith)
-
 -- ---- a loop from 0 to n, at i
 
 pub run_at : {A : Type 0} (f : ℕ → List A) (i n : ℕ) → i < n → over (run i (n - i)) f ≡ f i ++ over (run (i + 1) (n - (i + 1))) f
@@ -100,3 +75,9 @@ run_at f i n h =
 
 pub run_out : {A : Type 0} (f : ℕ → List A) (i n : ℕ) → n ≤ i → over (run i (n - i)) f ≡ []
 run_out f i n h = let e : n - i ≡ 0 = omega arith in ap (λ (m : ℕ). over (run i m) f) e
+
+-- before axis i its line comes next, as it is made
+pub line_first : (p : Plan) (i : ℕ) → i < p.rank → (E B : List ℕ) (ts : List ℤ) → axis_line i (get_or E i 0) (get_or B i 0) ts ≡ axis_at p i
+    → over (run i (p.rank - i)) (axis_at p) ≡ line_of 65 (fields_of (i ∷ get_or E i 0 ∷ get_or B i 0 ∷ []) ts) ++ over (run (i + 1) (p.rank - (i + 1))) (axis_at p)
+line_first p i h E B ts e =
+    run_at (axis_at p) i p.rank h ∙ ap (λ (l : List ℕ). l ++ over (run (i + 1) (p.rank - (i + 1))) (axis_at p)) (sym (axis_is i (get_or E i 0) (get_or B i 0) ts ∙ e))

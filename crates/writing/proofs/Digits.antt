@@ -1,6 +1,7 @@
--- The loop that writes the digits of a number, the last one first: those of `rest` are left to write, in front of i.
+-- How many digits a number has, and the loop that writes them, the last one first: those of `rest` are left to write, in front of i.
 -- Assumes nothing.
-use Prim.Native.Nat.{ℕ, suc, ◌+◌, ◌-◌, ◌/◌, ◌%◌, ◌≤◌, ◌<◌}
+use Prim.Native.Nat.{ℕ, zero, suc, ◌+◌, ◌-◌, ◌*◌, ◌/◌, ◌%◌, ◌^◌, ◌≤◌, ◌<◌}
+use native.Mathlib.Nat.{pow-succ'}
 use native.Mathlib.Omega.{arith}
 use mathlib.Core.List.{List, ◌∷◌, ◌++◌, append_assoc}
 use mathlib.Core.Path.{◌≡◌, sym, ap, ◌∙◌}
@@ -8,7 +9,20 @@ use lib.ListN.{length, take, drop, set, length-append, length-take, length-drop}
 use Rattle.strided.specs.Digits.{digits_of}
 use Rattle.laws.specs.Text.Lengths.{digits_small, digits_big, length_big, length_small}
 use Rattle.writing.specs.Put.{put}
-use Rattle.writing.proofs.Putting.{set_back}
+use Rattle.writing.specs.Putting.{set_back}
+
+-- ten to the power k is passed, the next power is not
+ten_some : (k : ℕ) → 1 ≤ 10 ^ k
+ten_some zero = omega arith
+ten_some (suc k) = let p : 10 ^ suc k ≡ 10 * 10 ^ k = pow-succ' 10 k in omega (arith, p, ten_some k)
+
+pub digits_counted : (k n : ℕ) → 10 ^ k ≤ n → n < 10 * 10 ^ k → length (digits_of n) ≡ k + 1
+digits_counted zero n a b = length_small n (omega (arith, b))
+digits_counted (suc k) n a b =
+    let p : 10 ^ suc k ≡ 10 * 10 ^ k = pow-succ' 10 k in
+    let l = length_big n (omega (arith, a, p, ten_some k)) in
+    let m = digits_counted k (n / 10) (omega (arith, a, p)) (omega (arith, b, p)) in
+    omega (arith, l, m)
 
 pub record Writing (old : List ℕ) (at n end : ℕ) (out : List ℕ) (i rest : ℕ) : Type 0 where
   pub done : List ℕ

@@ -1,20 +1,20 @@
--- The lines of a stretch, while they are measured and written: what is left of them before block j, and that block's line.
+-- The lines of a stretch, while they are handed on: what is left of them before block j, and that block's line.
 -- Assumes nothing.
 use mathlib.Core.Path.{◌≡◌, sym, ap, ap₂, ◌∙◌}
-use mathlib.Core.List.{List, ◌++◌, map}
+use mathlib.Core.List.{List, [], ◌∷◌, ◌++◌, map}
 use Prim.Native.Nat.{ℕ, suc, ◌+◌, ◌-◌, ◌≤◌, ◌<◌}
 use native.Mathlib.Nat.{add-zero}
 use native.Mathlib.Omega.{arith}
 use lib.IntN.{ℤ}
-use lib.ListN.{length, take, length-append}
+use lib.ListN.{take}
 use Rattle.strided.specs.Base.{run}
-use Rattle.strided.specs.Text.{block_line}
+use Rattle.strided.specs.Text.{line_of, block_line}
 use Rattle.walker.specs.Stretch.{Stretch, block_in, laid, RowsFit}
 use Rattle.walker.specs.Way.{added, MayMove}
 use Rattle.walker.proofs.Rows.{RowIs, row_none, row-may, row_next, row_list}
+use Rattle.writing.specs.Line.{fields_of}
 use Rattle.writing.specs.Plan.{lines_from}
-use Rattle.writing.specs.Put.{Wrote}
-use Rattle.writing.proofs.Putting.{Doing, doing_room, doing_next}
+use Rattle.writing.proofs.Lines.{block_is}
 
 -- `count` blocks of `size` cells each, whose first offsets are `o`
 abbrev stretch : ℕ → ℕ → ℕ → List ℤ → List ℤ → Stretch
@@ -51,16 +51,12 @@ module _ {count operands : ℕ} {d o₀ : List ℤ} (f : RowsFit count operands 
         ∙ ap₂ (λ (os : List ℤ) (n : ℕ). block_line (number + j) size os ++ lines_from n (map (block_in S) (run (suc j) (count - (j + 1))))) (sym (row_list f (k.row h))) b
         ∙ ap (λ (i : ℕ). block_line (number + j) size (take operands o) ++ lines_from (number + (j + 1)) (map (block_in S) (run i (count - (j + 1))))) a
 
-    pub row-length : (size number : ℕ) → length (lines_at count size number operands d o₀ j) ≡ length (block_line (number + j) size (take operands o)) + length (lines_at count size number operands d o₀ (j + 1))
-    row-length size number = ap length (row_line size number) ∙ length-append (block_line (number + j) size (take operands o)) (lines_at count size number operands d o₀ (j + 1))
-
-    -- it has room, and once it is written the later ones are left
-    module _ (size number : ℕ) {old : List ℕ} {at : ℕ} {whole new : List ℕ} {next : ℕ} (w : Doing old at whole new next (lines_at count size number operands d o₀ j)) where
-      pub row_room : next + length (block_line (number + j) size (take operands o)) ≤ length new
-      row_room = doing_room (block_line (number + j) size (take operands o)) (lines_at count size number operands d o₀ (j + 1)) (row_line size number) w
-
-      pub row_put : {newer : List ℕ} {q : ℕ} → Wrote new next (block_line (number + j) size (take operands o)) newer q → Doing old at whole newer q (lines_at count size number operands d o₀ (j + 1))
-      row_put v = doing_next (block_line (number + j) size (take operands o)) (lines_at count size number operands d o₀ (j + 1)) (row_line size number) w v
+    -- as it is made
+    pub row_first : (size number : ℕ) (os : List ℤ) → os ≡ take operands o
+        → lines_at count size number operands d o₀ j ≡ line_of 66 (fields_of ((number + j) ∷ size ∷ []) os) ++ lines_at count size number operands d o₀ (j + 1)
+    row_first size number os e =
+        row_line size number
+        ∙ ap (λ (l : List ℕ). l ++ lines_at count size number operands d o₀ (j + 1)) (sym (block_is (number + j) size os ∙ ap (block_line (number + j) size) e))
 
     -- on to the block behind it
     pub may_on : j + 1 < count → MayMove operands d o

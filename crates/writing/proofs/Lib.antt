@@ -1,8 +1,9 @@
 -- Laws that belong to no one function.
-pub mod Putting
+pub mod Taking
 pub mod Digits
 pub mod Sign
 pub mod Lines
 pub mod Axes
+pub mod Printing
 pub mod Laid
 pub mod Walks

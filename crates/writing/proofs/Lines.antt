@@ -1,4 +1,4 @@
--- Laws of lines: the fields one after the other, as a loop measures and writes them, and the fields of the lines K, A, B, Z and R.
+-- Laws of lines: the fields one after the other, as a loop measures and writes them, and the lines K, A, B and Z by their numbers.
 -- Assumes nothing.
 use mathlib.Core.Path.{◌≡◌, ap, ◌∙◌}
 use mathlib.Core.List.{List, [], ◌∷◌, ◌++◌, append_assoc, append-nil}
@@ -9,10 +9,10 @@ use lib.IntN.{ℤ}
 use lib.ListN.{length, get_or, drop, length-append}
 use lib.Seq.{drop-cons}
 use Rattle.strided.specs.Base.{over}
-use Rattle.strided.specs.Text.{field, signed_field, line_of}
+use Rattle.strided.specs.Text.{field, signed_field, line_of, rank_line, axis_line, block_line}
 use Rattle.writing.specs.Put.{Wrote}
-use Rattle.writing.specs.Line.{fields_of}
-use Rattle.writing.proofs.Putting.{Doing, doing_next}
+use Rattle.writing.specs.Line.{fields_of, figures_line}
+use Rattle.writing.specs.Putting.{Doing, doing_next}
 
 -- ---- what a loop over the elements has left, from element i on
 
@@ -47,3 +47,21 @@ line_length letter ns zs = ap length (line_parts letter ns zs) ∙ simp length-a
 -- the fields of a line of two numbers
 pub figures_fields : (blocks cells : ℕ) → fields_of (blocks ∷ cells ∷ []) [] ≡ field blocks ++ field cells
 figures_fields blocks cells = append-nil (field blocks ++ (field cells ++ [])) ∙ ap (λ (l : List ℕ). field blocks ++ l) (append-nil (field cells))
+
+-- and the lines by their numbers
+pub figures_is : (blocks cells : ℕ) → line_of 90 (fields_of (blocks ∷ cells ∷ []) []) ≡ figures_line blocks cells
+figures_is blocks cells = ap (line_of 90) (figures_fields blocks cells)
+
+pub rank_is : (n : ℕ) → line_of 75 (fields_of (n ∷ []) []) ≡ rank_line n
+rank_is n = ap (line_of 75) (append_assoc (field n) [] [] ∙ append-nil (field n))
+
+pub block_is : (n len : ℕ) (os : List ℤ) → line_of 66 (fields_of (n ∷ len ∷ []) os) ≡ block_line n len os
+block_is n len os =
+    ap (line_of 66) (append_assoc (field n) (field len ++ []) (over os signed_field) ∙ ap (λ (l : List ℕ). field n ++ l) (append_assoc (field len) [] (over os signed_field)))
+
+pub axis_is : (i e b : ℕ) (ts : List ℤ) → line_of 65 (fields_of (i ∷ e ∷ b ∷ []) ts) ≡ axis_line i e b ts
+axis_is i e b ts =
+    ap (line_of 65)
+    (append_assoc (field i) (field e ++ (field b ++ [])) (over ts signed_field)
+    ∙ ap (λ (l : List ℕ). field i ++ l)
+    (append_assoc (field e) (field b ++ []) (over ts signed_field) ∙ ap (λ (l : List ℕ). field e ++ l) (append_assoc (field b) [] (over ts signed_field))))

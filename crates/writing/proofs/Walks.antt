@@ -2,13 +2,13 @@
 -- Assumes nothing.
 use mathlib.Core.Path.{◌≡◌, refl, sym, ap, ap₂, ◌∙◌, subst}
 use mathlib.Core.Bool.{Bool, true, false}
-use mathlib.Core.List.{List, [], ◌∷◌, ◌++◌, map, append_assoc, append-nil}
-use Rattle.std.specs.Prelude.{None}
+use mathlib.Core.List.{List, [], ◌∷◌, ◌++◌, map, append_assoc}
+use Rattle.std.specs.Prelude.{Option, None}
 use Prim.Native.Nat.{ℕ, zero, suc, ◌+◌, ◌-◌, ◌*◌, ◌^◌, ◌≤◌, ◌<◌}
 use native.Mathlib.Nat.{add-zero, zero-mul, suc-mul}
 use native.Mathlib.Omega.{arith}
 use lib.IntN.{ℤ, pos}
-use lib.ListN.{length, get_or, drop, replicate, length-append, length-map, length-drop}
+use lib.ListN.{length, drop, replicate, length-map, length-drop}
 use Rattle.strided.specs.Base.{padded, run}
 use Rattle.strided.specs.Layout.{has_zero}
 use Rattle.strided.specs.Walk.{counters, Block, block_at}
@@ -25,21 +25,16 @@ use Rattle.laws.specs.Walk.Steps.{Ready, ready_sized}
 use Rattle.advance.specs.Axis.{widths, starts_to}
 use Rattle.advance.specs.Carry.{state_of}
 use Rattle.advance.specs.declared.State.{State}
-use Rattle.advance.proofs.Reached.{widths_pos}
 use Rattle.strided.specs.Memory.{walk_of}
 use Rattle.walk.specs.Lent.{Taken}
 use Rattle.walk.proofs.Stepping.{begun_taken}
-use Rattle.walker.specs.declared.Way.{Way}
+use Rattle.walker.specs.declared.way.Way.{Way}
 use Rattle.walker.specs.declared.Next.{Next}
 use Rattle.walker.specs.Stretch.{Stretch, block_in, laid, told, RowsFit}
 use Rattle.walker.specs.Way.{Leads, moves_of, Strides, Strode}
 use Rattle.walker.proofs.Walked.{Walked, walked_none, walked_asks, walked_some, walked_next, walked_part, walked_fit, walked_within, walked_over}
 use Rattle.writing.specs.Line.{figures_line}
-use Rattle.writing.specs.Plan.{Printable, measured, lines_from, rest_from}
-use Rattle.writing.specs.Put.{Wrote}
-use Rattle.std.specs.Prelude.{Option, Some, None}
-use Rattle.writing.proofs.Axes.{measured_more, more_measured, fits_measured}
-use Rattle.writing.proofs.Putting.{Doing, doing_room, doing_next, doing_end}
+use Rattle.writing.specs.Plan.{Printable, lines_from, rest_from}
 
 -- ---- lines and lengths of blocks
 
@@ -133,10 +128,6 @@ module _ {p : Plan} (h : Printable p) where
       let o : W p ≡ [] = placed-over p (zero_starts p) printable_ready 0 (ap (λ (w : Walk). w.ended) (sym (begun (sym t ∙ e)))) in
       rest_over p 0 0 o (omega arith) (sym (ap cells o))
 
-  -- the block sizes in force are 1 or more
-  pub widths_some : {w : List ℕ} → w ≡ widths p → (i : ℕ) → i < p.rank → 0 < get_or w i 0
-  widths_some is i l = rw is (widths_pos p (zero_starts p) printable_ready h.sized i l)
-
   -- it has one
   module _ {none : Bool} (t : none ≡ false) (e : none ≡ has_zero (plan_extents p)) where
     pub first_taken : Taken p (walk_of false (replicate 64 0) (replicate 8 (pos 0)))
@@ -144,19 +135,19 @@ module _ {p : Plan} (h : Printable p) where
 
 -- ---- the walk before block n: `sum` is that of the lengths before it
 
-pub record Walks (p : Plan) (y : Way) (w : List ℕ) (n sum : ℕ) (more : Bool) (here : State) : Type 0 where
+pub record Walks (p : Plan) (y : Option Way) (w : List ℕ) (n sum : ℕ) (more : Bool) (here : State) : Type 0 where
   pub printable : Printable p
   pub some : false ≡ has_zero (plan_extents p)
   pub walked : Walked p (walk_of false (replicate 64 0) (replicate 8 (pos 0))) y w n more here
   pub counted : sum + cells (drop n (W p)) ≡ cells (W p)
 
-pub walks_start : {p : Plan} (h : Printable p) {none : Bool} → none ≡ false → none ≡ has_zero (plan_extents p) → {w : List ℕ} → w ≡ widths p → {y : Way} → Leads y p w
+pub walks_start : {p : Plan} (h : Printable p) {none : Bool} → none ≡ false → none ≡ has_zero (plan_extents p) → {w : List ℕ} → w ≡ widths p → {y : Option Way} → Leads y p w
     → {here : State} → here ≡ state_of (starts_to w (replicate 64 0) p.rank) (replicate 64 0) (replicate 8 (pos 0)) → Walks p y w 0 0 true here
 walks_start {p} h t e {w} is {y} l f =
     subst (λ (x : State). Walks p y w 0 0 true x) (sym f) (record { printable = h; some = sym t ∙ e; walked = walked_none is l (first_taken h t e) refl; counted = omega arith })
 
 -- while it runs, by the loop's test
-module _ {p : Plan} {y : Way} {w : List ℕ} {n sum : ℕ} {more : Bool} {here : State} (k : Walks p y w n sum more here) (t : more ≡ true) where
+module _ {p : Plan} {y : Option Way} {w : List ℕ} {n sum : ℕ} {more : Bool} {here : State} (k : Walks p y w n sum more here) (t : more ≡ true) where
   runs : Walked p (walk_of false (replicate 64 0) (replicate 8 (pos 0))) y w n true here
   runs = rw t at k.walked
 
@@ -176,38 +167,13 @@ module _ {p : Plan} {y : Way} {w : List ℕ} {n sum : ℕ} {more : Bool} {here :
     left = walked_part runs x d-is (printable_ready k.printable) (begun k.printable k.some)
 
     -- its lines come next
-    walks_lines : rest_from p n ≡ lines_from n (laid S) ++ rest_from p (n + r.count)
+    pub walks_lines : rest_from p n ≡ lines_from n (laid S) ++ rest_from p (n + r.count)
     walks_lines =
         rest_lines p n
         ∙ ap (λ (l : List ℕ). l ++ end_line (plan_walk p)) (ap (lines_from n) left ∙ lines_append n (laid S) (drop (n + r.count) (W p)))
         ∙ append_assoc (lines_from n (laid S)) (lines_from (n + length (laid S)) (drop (n + r.count) (W p))) (end_line (plan_walk p))
         ∙ ap (λ (m : ℕ). lines_from n (laid S) ++ (lines_from (n + m) (drop (n + r.count) (W p)) ++ end_line (plan_walk p))) (laid-many S)
         ∙ ap (λ (l : List ℕ). lines_from n (laid S) ++ l) (sym (rest_lines p (n + r.count)))
-
-    walks_length : length (rest_from p n) ≡ length (lines_from n (laid S)) + length (rest_from p (n + r.count))
-    walks_length = ap length walks_lines ∙ length-append (lines_from n (laid S)) (rest_from p (n + r.count))
-
-    -- measured behind `used` bytes, of which the walk took what is before it: they are within the room, or the output is not
-    module _ (used room : ℕ) {whole : ℕ} (e : used + length (rest_from p n) ≡ whole) {m : Option ℕ} (f : m ≡ measured (used + length (lines_from n (laid S))) room) where
-      pub walks_within : (k : ℕ) → m ≡ Some k → (k + length (rest_from p (n + r.count)) ≡ whole) × (k ≤ room)
-      walks_within k g =
-          let a = fits_measured (used + length (lines_from n (laid S))) room k f g in
-          let b = walks_length in
-          (omega (arith, a.1, b, e), omega (arith, a.0, a.1))
-
-      pub walks_over : m ≡ None → None ≡ measured whole room
-      walks_over g =
-          let a = more_measured (used + length (lines_from n (laid S))) room f g in
-          let b = walks_length in
-          measured_more whole room (omega (arith, a, b, e))
-
-    -- they have room, and once they are written the rest is left
-    module _ {old : List ℕ} {at : ℕ} {whole new : List ℕ} {next : ℕ} (v : Doing old at whole new next (rest_from p n)) where
-      pub walks_room : next + length (lines_from n (laid S)) ≤ length new
-      walks_room = doing_room (lines_from n (laid S)) (rest_from p (n + r.count)) walks_lines v
-
-      pub walks_put : {newer : List ℕ} {q : ℕ} → Wrote new next (lines_from n (laid S)) newer q → Doing old at whole newer q (rest_from p (n + r.count))
-      walks_put = doing_next (lines_from n (laid S)) (rest_from p (n + r.count)) walks_lines v
 
     within : n + r.count ≤ length (W p)
     within = walked_within (walked_next runs x) (printable_ready k.printable) (begun k.printable k.some)
@@ -234,7 +200,7 @@ module _ {p : Plan} {y : Way} {w : List ℕ} {n sum : ℕ} {more : Bool} {here :
     walks_less h = let a = within in let b = walked_some runs x h in omega (arith, a, b)
 
 -- at its end only the Z line is left
-pub walks_end : {p : Plan} {y : Way} {w : List ℕ} {n sum : ℕ} {more : Bool} {here : State} → Walks p y w n sum more here → more ≡ false → rest_from p n ≡ figures_line n sum
+pub walks_end : {p : Plan} {y : Option Way} {w : List ℕ} {n sum : ℕ} {more : Bool} {here : State} → Walks p y w n sum more here → more ≡ false → rest_from p n ≡ figures_line n sum
 walks_end {p} {y} {w} {n = n} {sum = sum} {here = here} k t =
     let over : Walked p (walk_of false (replicate 64 0) (replicate 8 (pos 0))) y w n false here = rw t at k.walked in
     let r = printable_ready k.printable in
@@ -243,18 +209,3 @@ walks_end {p} {y} {w} {n = n} {sum = sum} {here = here} k t =
     let d = k.counted in
     let z : sum ≡ cells (W p) = omega (arith, ap cells e, d) in
     rest_over p n sum e (walked_within over r b) z
-
--- the Z line is the last
-module _ (p : Plan) (n sum : ℕ) (e : rest_from p n ≡ figures_line n sum) where
-  pub end_measured : (used room : ℕ) {whole : ℕ} → used + length (rest_from p n) ≡ whole → {m : Option ℕ} → m ≡ measured (used + length (figures_line n sum)) room → m ≡ measured whole room
-  end_measured used room f g = g ∙ ap (λ (k : ℕ). measured k room) (ap (λ (l : List ℕ). used + length l) (sym e) ∙ f)
-
-  module _ {old : List ℕ} {at : ℕ} {whole new : List ℕ} {next : ℕ} (v : Doing old at whole new next (rest_from p n)) where
-    last : rest_from p n ≡ figures_line n sum ++ []
-    last = e ∙ sym (append-nil (figures_line n sum))
-
-    pub end_room : next + length (figures_line n sum) ≤ length new
-    end_room = doing_room (figures_line n sum) [] last v
-
-    pub end_put : {newer : List ℕ} {q : ℕ} → Wrote new next (figures_line n sum) newer q → Wrote old at whole newer q
-    end_put w = doing_end refl (doing_next (figures_line n sum) [] last v w)

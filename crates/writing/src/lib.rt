@@ -1,10 +1,10 @@
-// The output of a plan as text: measured, and written on lent bytes. A function that measures and one that writes cite the same text, so
-// what was measured is what is written.
+// The output of a plan as text: measured, and written on lent bytes. One walk does both, so what was measured is what is written.
 #![tactic(auto)]
 
 pub mod line;
 pub mod number;
 pub mod plan;
+pub mod sink;
 pub mod stretch;
 
-pub use plan::{list, measure, write};
+pub use plan::{Printed, list, measure, write};

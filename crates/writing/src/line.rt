@@ -2,15 +2,15 @@
 // other crates: N, S and T.
 ghost use Rattle.std.specs.Prelude.{◌≡◌, ◌+◌, ◌*◌, ◌≤◌, length};
 ghost use Rattle.strided.specs.Base.{over};
-ghost use Rattle.strided.specs.Text.{field, signed_field, line_of, rank_line, axis_line, block_line};
+ghost use Rattle.strided.specs.Text.{field, line_of};
 ghost use Rattle.laws.specs.Text.Once.{celled};
 ghost use Rattle.writing.specs.Put.{Wrote};
-ghost use Rattle.writing.specs.Line.{fields_of, figures_line, longest};
+ghost use Rattle.writing.specs.Line.{fields_of};
 
 use super::number::{Figure, put_byte};
 
 // How many bytes a field for each number takes.
-pub fn fields_len<T: Figure>(numbers: &[T]) -> usize
+fn fields_len<T: Figure>(numbers: &[T]) -> usize
     requires { length numbers.now ≤ 64 }
     ensures { (result ≡ length (over numbers.now (celled T.text))) × (result ≤ 21 * length numbers.now) }
 {
@@ -42,106 +42,33 @@ fn put_fields<T: Figure>(out: &mut [u8], at: usize, numbers: &[T]) -> usize
     next
 }
 
-// How many bytes a line of these fields takes, whatever its letter.
-fn line_len<'a>(numbers: &'a [u64], signed: &'a [i64]) -> usize
-    requires { (length numbers.now ≤ 3) × (length signed.now ≤ 8) }
-    ensures { (result ≡ 2 + length (fields_of numbers.now signed.now)) × (result ≤ longest) }
-{
-    2 + fields_len(numbers) + fields_len(signed)
+// A line, by its letter and its numbers.
+#[derive(Clone, Copy)]
+pub struct Line<'a, 'b> {
+    pub letter: u8,
+    pub numbers: &'a [u64],
+    pub signed: &'b [i64],
+    pub ghost few: { (length numbers.now ≤ 64) × (length signed.now ≤ 64) },
 }
 
-// Writes the line.
-pub fn put_line<'a>(
-    out: &mut [u8],
-    at: usize,
-    letter: u8,
-    numbers: &'a [u64],
-    signed: &'a [i64],
-) -> usize
-    requires { at + length (line_of letter (fields_of numbers.now signed.now)) ≤ length out.old }
-    ensures { Wrote out.old at (line_of letter (fields_of numbers.now signed.now)) out.new result }
-{
-    let a = put_byte(out, at, letter);
-    let b = put_fields(out, a, numbers);
-    let c = put_fields(out, b, signed);
-    put_byte(out, c, b'\n')
-}
+impl<'a, 'b> Line<'a, 'b> {
+    // How many bytes it takes.
+    pub fn text_len(self) -> usize
+        ensures { let l = self.entry in result ≡ length (line_of l.letter (fields_of l.numbers.now l.signed.now)) }
+    {
+        2 + fields_len(self.numbers) + fields_len(self.signed)
+    }
 
-// "K,plan rank"
-pub fn rank_len(rank: u64) -> usize
-    ensures { (result ≡ length (rank_line rank)) × (result ≤ longest) }
-{
-    let numbers = [rank];
-    let none = [0i64; 0];
-    line_len(&numbers, &none)
-}
-
-pub fn put_rank(out: &mut [u8], at: usize, rank: u64) -> usize
-    requires { at + length (rank_line rank) ≤ length out.old }
-    ensures { Wrote out.old at (rank_line rank) out.new result }
-{
-    let numbers = [rank];
-    let none = [0i64; 0];
-    put_line(out, at, b'K', &numbers, &none)
-}
-
-// "A,axis,extent,block,one stride per operand"
-pub fn axis_len(axis: u64, extent: u64, block: u64, strides: &[i64]) -> usize
-    requires { length strides.now ≤ 8 }
-    ensures { (result ≡ length (axis_line axis extent block strides.now)) × (result ≤ longest) }
-{
-    let numbers = [axis, extent, block];
-    line_len(&numbers, strides)
-}
-
-pub fn put_axis(
-    out: &mut [u8],
-    at: usize,
-    axis: u64,
-    extent: u64,
-    block: u64,
-    strides: &[i64],
-) -> usize
-    requires { at + length (axis_line axis extent block strides.now) ≤ length out.old }
-    ensures { Wrote out.old at (axis_line axis extent block strides.now) out.new result }
-{
-    let numbers = [axis, extent, block];
-    put_line(out, at, b'A', &numbers, strides)
-}
-
-// "B,number,length,one offset per operand"
-pub fn block_len(number: u64, len: u64, offsets: &[i64]) -> usize
-    requires { length offsets.now ≤ 8 }
-    ensures { (result ≡ length (block_line number len offsets.now)) × (result ≤ longest) }
-{
-    let numbers = [number, len];
-    line_len(&numbers, offsets)
-}
-
-pub fn put_block(out: &mut [u8], at: usize, number: u64, len: u64, offsets: &[i64]) -> usize
-    requires { at + length (block_line number len offsets.now) ≤ length out.old }
-    ensures { Wrote out.old at (block_line number len offsets.now) out.new result }
-{
-    let numbers = [number, len];
-    put_line(out, at, b'B', &numbers, offsets)
-}
-
-// "Z,blocks,cells"
-pub fn end_len(blocks: u64, cells: u64) -> usize
-    ensures { (result ≡ length (figures_line blocks cells)) × (result ≤ longest) }
-{
-    let numbers = [blocks, cells];
-    let none = [0i64; 0];
-    line_len(&numbers, &none)
-}
-
-pub fn put_end(out: &mut [u8], at: usize, blocks: u64, cells: u64) -> usize
-    requires { at + length (figures_line blocks cells) ≤ length out.old }
-    ensures { Wrote out.old at (figures_line blocks cells) out.new result }
-{
-    let numbers = [blocks, cells];
-    let none = [0i64; 0];
-    put_line(out, at, b'Z', &numbers, &none)
+    // Writes it at `at`, and answers the place behind it.
+    pub fn put(self, out: &mut [u8], at: usize) -> usize
+        requires { at + length (line_of self.letter (fields_of self.numbers.now self.signed.now)) ≤ length out.old }
+        ensures { let l = self.entry in Wrote out.old at (line_of l.letter (fields_of l.numbers.now l.signed.now)) out.new result }
+    {
+        let a = put_byte(out, at, self.letter);
+        let b = put_fields(out, a, self.numbers);
+        let c = put_fields(out, b, self.signed);
+        put_byte(out, c, b'\n')
+    }
 }
 
 // "R,number"
@@ -151,5 +78,10 @@ pub fn put_refusal(out: &mut [u8], at: usize, number: u64) -> usize
 {
     let numbers = [number];
     let none = [0i64; 0];
-    put_line(out, at, b'R', &numbers, &none)
+    let line = Line {
+        letter: b'R',
+        numbers: &numbers,
+        signed: &none,
+    };
+    line.put(out, at)
 }

@@ -7,16 +7,15 @@ ghost use Rattle.writing.specs.Put.{Wrote};
 pub fn u64_len(n: u64) -> usize
     ensures { result ≡ length (digits_of n) }
 {
-    let mut rest = n;
-    let mut k: usize = 1;
-    while rest > 9 {
-        rest /= 10;
-        k += 1;
+    if n == 0 {
+        return 1;
     }
-    k
+    n.ilog10() as usize + 1
 }
 
 // Writes the digits of n at `at`, the last one first, and answers the place behind them.
+// Kept: a loop of its own. `itoa::write_digits` writes in place too, but promises the library's `decimal`: a law that this is `digits_of`, and a
+// crate more to build on, for ten lines.
 pub fn put_u64(out: &mut [u8], at: usize, n: u64) -> usize
     requires { at + length (digits_of n) ≤ length out.old }
     ensures { Wrote out.old at (digits_of n) out.new result }

@@ -1,68 +1,40 @@
-// The B lines of a stretch of blocks, measured and written. They differ in the block's number and in its offsets, which move on from line to
-// line.
-ghost use Rattle.std.specs.Prelude.{◌≡◌, ◌+◌, ◌^◌, ◌≤◌, ◌<◌, length};
-ghost use Rattle.walker.specs.Stretch.{laid, told, RowsFit};
-ghost use Rattle.writing.specs.Put.{Wrote};
-ghost use Rattle.writing.specs.Plan.{measured, lines_from};
+// The B lines of a stretch of blocks. They differ in the block's number and in its offsets, which move on from line to line.
+ghost use Rattle.std.specs.Prelude.{◌+◌, ◌^◌, ◌<◌};
+ghost use Rattle.writing.specs.Sink.{Goes};
+ghost use Rattle.writing.specs.Stretch.{lines_in};
 
-use super::line::{block_len, put_block};
-use layout::LentPlan;
-use walker::{Next, move_by};
+use super::line::Line;
+use super::sink::Sink;
+use walker::{Blocks, move_by};
 
-// Behind `used` bytes, numbered from `number` on; or that they pass the limit.
-pub fn stretch_len(
-    plan: &LentPlan,
-    x: Next,
+// They are numbered from `number` on.
+pub fn put_stretch<'a, 'b, S: Sink>(
+    stretch: Blocks<'a, 'b>,
     number: u64,
-    d: &[i64; 8],
-    first: [i64; 8],
-    used: usize,
-    limit: usize,
-) -> Option<usize>
-    requires rows_fit { RowsFit x.count plan.now.operands d.now first }
-    requires count_bound { (number + x.count < 2 ^ 64) × (used ≤ limit) }
-    ensures { result ≡ measured (used + length (lines_from number (laid (told plan.now.operands x first d.now)))) limit }
-{
-    let count = x.count;
-    let size = x.length;
-    let mut o = first;
-    let mut total = used;
-    for j in 0..count {
-        let line = block_len(number + j, size, &o[..plan.operands]);
-        if limit - total < line {
-            return None;
-        }
-        total += line;
-        if j + 1 < count {
-            move_by(plan, d, &mut o);
-        }
-    }
-    Some(total)
-}
-
-pub fn put_stretch(
+    sink: S,
     out: &mut [u8],
-    at: usize,
-    plan: &LentPlan,
-    x: Next,
-    number: u64,
-    d: &[i64; 8],
-    first: [i64; 8],
-) -> usize
-    requires rows_fit { RowsFit x.count plan.now.operands d.now first }
-    requires count_bound { number + x.count < 2 ^ 64 }
-    requires d_in_bounds { at + length (lines_from number (laid (told plan.now.operands x first d.now))) ≤ length out.old }
-    ensures { Wrote out.old at (lines_from number (laid (told plan.now.operands x first d.now))) out.new result }
+) -> Option<S>
+    requires numbers { number + stretch.next.count < 2 ^ 64 }
+    requires may { S.May sink out.old (lines_in stretch.plan.now.operands stretch.next number stretch.moves.now stretch.first.now) }
+    ensures { let b = stretch.entry in
+        Goes S.Took S.Full sink out.old (lines_in b.plan.now.operands b.next number b.moves.now b.first.now) out.new result }
 {
-    let count = x.count;
-    let size = x.length;
-    let mut o = first;
-    let mut next = at;
+    let plan = stretch.plan;
+    let d = stretch.moves;
+    let count = stretch.next.count;
+    let mut o = *stretch.first;
+    let mut s = sink;
     for j in 0..count {
-        next = put_block(out, next, number + j, size, &o[..plan.operands]);
+        let numbers = [number + j, stretch.next.length];
+        let line = Line {
+            letter: b'B',
+            numbers: &numbers,
+            signed: &o[..plan.operands],
+        };
+        s = s.take(line, out)?;
         if j + 1 < count {
             move_by(plan, d, &mut o);
         }
     }
-    next
+    Some(s)
 }

@@ -8,4 +8,4 @@ use Rattle.strided.specs.Order.{pick}
 use Rattle.arrange.proofs.pick_into.Given as goal
 
 abbrev pub invariant-loop-j : goal.invariant-loop-j
-invariant-loop-j l = (l.j ≤ length l.order) × (l.out ≡ padded 64 0 (take l.j (pick 0 l.xs l.order) ++ drop l.j (take (length l.order) l.initial.out)))
+invariant-loop-j g l = (l.j ≤ length (g.O.Order.names l.order)) × (l.out ≡ padded 64 0 (take l.j (pick 0 l.xs (g.O.Order.names l.order)) ++ drop l.j (take (length (g.O.Order.names l.order)) l.initial.out)))

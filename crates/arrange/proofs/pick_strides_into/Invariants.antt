@@ -7,4 +7,4 @@ use Rattle.laws.specs.Fuse.Arrays.{pick_rows}
 use Rattle.arrange.proofs.pick_strides_into.Given as goal
 
 abbrev pub invariant-loop-k : goal.invariant-loop-k
-invariant-loop-k l = (l.k ≤ l.axes.rows.operands) × (l.table ≡ padded 512 (pos 0) (pick_rows l.axes.rows.strides.now l.axes.rows.pitch l.axes.order.now l.k))
+invariant-loop-k g l = (l.k ≤ l.axes.rows.operands) × (l.table ≡ padded 512 (pos 0) (pick_rows l.axes.rows.strides.now l.axes.rows.pitch (g.O.Order.names l.axes.order) l.k))

@@ -1,37 +1,25 @@
--- `block::keeps_first` meets its contract. The invariant: the first rank of each operand before k is the least one.
--- Assumes nothing.
+-- `block::keeps_first` meets its contract. Assumes nothing.
 use native.Mathlib.Omega.{arith}
-use mathlib.Core.Path.{◌≡◌, sym, ap, ◌∙◌}
+use mathlib.Core.Path.{refl, ap, ◌∙◌}
+use mathlib.Core.Bool.{Bool}
 use Prim.Native.Nat.{ℕ}
-use borrow.Author.Tests.{eq-eqb, ne_eqb}
+use lib.Dec.{eqb}
+use borrow.Author.Tests.{tests}
+use Rattle.std.proofs.Common.{rules}
+use Rattle.std.proofs.lemmas.Iterator.{YieldsList-from_range}
+use Rattle.std.proofs.lemmas.Iterator.Search.{all_from_yields_List}
 use Rattle.strided.specs.Base.{every}
-use Rattle.strided.specs.Cut.{least_rank, keeps_first}
-use Rattle.laws.specs.Cut.Ranges.{every_none, every_more, every_fails_at}
+use Rattle.strided.specs.Cut.{rank_at, least_rank, keeps_first}
+use Rattle.laws.specs.Base.Ranges.{all_of_range}
 use Rattle.block.proofs.keeps_first.Goals as goal
-use Rattle.block.proofs.keeps_first.Invariants.{firstIs}
-
-pub loop-k-init : goal.loop-k-init
-loop-k-init c = every_none _
-
-pub returns-then-at-m : goal.returns-then-at-m
-unfolding keeps_first least_rank
-returns-then-at-m c = let a = c.args in
-    let l = c.loop-k in
-    let q = c.least_in-m in
-    sym (ap (λ (m : ℕ). every (firstIs a.ranks.now a.some.tail.offset m) 0 a.some.tail.operands) (sym q.ensures)
-    ∙ every_fails_at (firstIs a.ranks.now a.some.tail.offset q.result) 0 l.k a.some.tail.operands (omega arith) (omega arith) (ne_eqb _ _ (λ e. c.if-at-m.true (c.at.ensures ∙ e))))
-
-pub loop-k-preserved : goal.loop-k-preserved
-loop-k-preserved c = let a = c.args in
-    let l = c.loop-k in
-    let m : ℕ = c.least_in-m.result in
-    every_more (firstIs a.ranks.now a.some.tail.offset m) l.k (eq-eqb _ _ (sym c.at.ensures ∙ c.if-at-m.false)) ∙ l.invariant
 
 pub returns : goal.returns
 unfolding keeps_first least_rank
-returns c = let a = c.args in
-    let l = c.loop-k in
-    let q = c.least_in-m in
-    let e : l.k ≡ a.some.tail.operands = omega arith in
-    sym (ap (λ (m : ℕ). every (firstIs a.ranks.now a.some.tail.offset m) 0 a.some.tail.operands) (sym q.ensures)
-    ∙ ap (every (firstIs a.ranks.now a.some.tail.offset q.result) 0) (sym e) ∙ l.invariant)
+returns c =
+    let a = c.args in
+    let n : ℕ = a.some.tail.operands in
+    -- whether operand k's first rank is m
+    let first : ℕ → ℕ → Bool = λ m k. eqb (rank_at a.ranks.now k a.some.tail.offset) m in
+    all_from_yields_List (first c.least_in-m.result) _ _ _ c.all.ensures.ran (YieldsList-from_range 0 n n refl (omega arith)) (λ x b q k. search (rules, tests))
+    ∙ all_of_range (first c.least_in-m.result) 0 n
+    ∙ ap (λ (m : ℕ). every (first m) 0 n) c.least_in-m.ensures

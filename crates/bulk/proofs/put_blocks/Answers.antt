@@ -1,6 +1,5 @@
 -- `bulk::put_blocks` meets its contract. Assumes nothing.
 use Rattle.bulk.proofs.Turns.{turned_none, count_some, count_fits, may-put, turned-next, wrote_last, wrote_full, strode_past, kept_asks, kept_passed}
-use Rattle.walk.proofs.Stepping.{widths_here}
 use Rattle.walker.proofs.Walked.{course_acts, course_leads, may_move, walked_asks, walked_tells}
 use native.Mathlib.Nat.{le_antisymm}
 use native.Mathlib.Omega.{arith}
@@ -13,10 +12,6 @@ use Rattle.bulk.proofs.put_blocks.Goals.{else-not-hop-via-then-not-hop+else-not-
 pub moves-d-requires : goal.moves-d-requires
 moves-d-requires c =
     let x = c.of-course in rw x.ensures (may_move (course_acts x.result x.ensures) (course_leads x.result x.ensures) c.requires.taken)
-
-pub state_at-at-requires : goal.state_at-at-requires
-state_at-at-requires c =
-    let x = c.of-course in rw x.ensures (widths_here _ _ c.requires.taken _ (course_acts x.result x.ensures))
 
 pub loop-n-init : goal.loop-n-init
 loop-n-init c =
@@ -38,7 +33,7 @@ pub go_behind-requires : goal.go_behind-requires
 go_behind-requires c =
     let k = c.if-not-hop.ensures.kept refl in
     let a = c.stretch_here-x.ensures in
-    let q = kept_asks k c.of-course.result.way (rw c.of-course.ensures (walked_asks c.loop-n.invariant.1.walked)) a.0 in record { strides = q.0; left_value = (q.1, a.2) }
+    let q = kept_asks k c.of-course.result.way (rw c.of-course.ensures (walked_asks c.loop-n.invariant.1.walked)) a.0 in record { strides = q.0; left_value = q.1 }
 
 pub returns-then-not-go_behind : goal.returns-then-not-go_behind
 returns-then-not-go_behind c =

@@ -8,4 +8,5 @@ use Rattle.bulk.proofs.put_row.Given as goal
 
 abbrev pub invariant-loop-k : goal.invariant-loop-k
 invariant-loop-k l =
-    (l.k ≤ l.plan.operands) × (length l.offsets ≡ length l.initial.offsets) × (l.offsets ≡ paste l.initial.offsets l.at (row_at l.plan.operands l.d l.o l.j) l.k)
+    let m = length l.initial.row in
+    (l.k ≤ m) × (length l.row ≡ m) × (l.row ≡ paste l.initial.row 0 (row_at m l.d l.o l.j) l.k)

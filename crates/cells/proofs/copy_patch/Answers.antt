@@ -1,11 +1,8 @@
 -- `cells::copy_patch` meets its contract. Assumes nothing.
-use mathlib.Core.Path.{◌≡◌, sym, ◌∙◌}
 use native.Mathlib.Omega.{arith}
-use lib.IntN.{pos}
-use mir.Syntax.{w64}
-use mir.Val.{SFits, to_z, of_z}
-use mir.Facts.{to_z-of_z}
+use Prim.Native.Nat.{◌^◌, ◌<◌}
 use Rattle.cells.proofs.Lying.{lies_both, no_cell, no_run}
+use Rattle.cells.proofs.Steps.{steps_up, steps_down}
 use borrow.Author.Rules.{rules}
 use Rattle.cells.proofs.copy_patch.Goals as goal
 use Rattle.cells.proofs.copy_patch.Goals.{then-patch-eq0-via-then-patch-eq0, then-patch-eq0-via-else-patch-eq0+then-patch-eq0-2}
@@ -24,20 +21,18 @@ copy_packed-requires c =
     let a = c.args in
     let l = c.well_formed.0.1 in
     let m = c.well_formed.1.0.1 in
-    let f : SFits w64 a.patch.to.step0 = search rules in
-    let g : SFits w64 a.patch.from.step0 = search rules in
-    let p : to_z w64 (of_z w64 a.patch.to.step0) ≡ pos a.patch.width = (c.both_step.ensures c.if-both_step.true).0 in
-    let q : to_z w64 (of_z w64 a.patch.from.step0) ≡ pos a.patch.width = (c.both_step.ensures c.if-both_step.true).1 in record { packed = record { cells = omega arith; runs = omega arith; to = sym (to_z-of_z {w = w64} f) ∙ p; from = sym (to_z-of_z {w = w64} g) ∙ q }; reach = lies_both a.patch a.destination.now a.source.now c.requires.lies (omega (arith, l)) (omega (arith, m)) }
+    let w : a.patch.width < 2 ^ 63 = omega (arith, a.patch.narrow.1) in
+    let e = c.both.ensures c.if-both.true in record { packed = record { cells = omega arith; runs = omega arith; to = steps_up (search rules) w e.0; from = steps_up (search rules) w e.1 }; reach = lies_both a.patch a.destination.now a.source.now c.requires.lies (omega (arith, l)) (omega (arith, m)) }
 
-pub copy_fours_by_width-requires : goal.copy_fours_by_width-requires
-copy_fours_by_width-requires c =
+pub copy_down-requires : goal.copy_down-requires
+copy_down-requires c =
+    let a = c.args in
+    let w : a.patch.width < 2 ^ 63 = omega (arith, a.patch.narrow.1) in
+    let e = c.both-2.ensures c.if-both-2.true in record { packed = record { cells = omega arith; runs = omega arith; to = steps_down (search rules) w e.0; from = steps_down (search rules) w e.1 }; lies = c.requires.lies; apart = c.requires.apart }
+
+pub copy_by_width-requires : goal.copy_by_width-requires
+copy_by_width-requires c =
     let a = c.args in
     let l = c.well_formed.0.1 in
     let m = c.well_formed.1.0.1 in
     record { reach = lies_both a.patch a.destination.now a.source.now c.requires.lies (omega (arith, l)) (omega (arith, m)); apart = c.requires.apart }
-
-pub copy_runs_by_width-requires : goal.copy_runs_by_width-requires
-copy_runs_by_width-requires c =
-    let a = c.args in
-    let l = c.well_formed.0.1 in
-    let m = c.well_formed.1.0.1 in lies_both a.patch a.destination.now a.source.now c.requires.lies (omega (arith, l)) (omega (arith, m))

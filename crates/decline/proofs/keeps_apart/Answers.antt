@@ -4,8 +4,8 @@ use Rattle.decline.proofs.keeps_apart.Goals as goal
 
 pub returns-then-whole_lines : goal.returns-then-whole_lines
 unfolding separates
-returns-then-whole_lines c = rw (← c.span_so_far.ensures, ← c.stride_size-s.ensures, ← c.size_of.ensures, ← c.whole_lines.ensures, c.if-whole_lines.true)
+returns-then-whole_lines c = rw (← c.span_so_far.ensures, ← c.stride_size-s.ensures, ← c.size.ensures, ← c.whole_lines.ensures, c.if-whole_lines.true)
 
 pub returns-else-whole_lines : goal.returns-else-whole_lines
 unfolding separates
-returns-else-whole_lines c = rw (← c.stride_size-s.ensures, ← c.size_of.ensures, ← c.whole_lines.ensures, c.if-whole_lines.false)
+returns-else-whole_lines c = rw (← c.stride_size-s.ensures, ← c.size.ensures, ← c.whole_lines.ensures, c.if-whole_lines.false)

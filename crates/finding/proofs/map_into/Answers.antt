@@ -6,6 +6,9 @@ use Rattle.strided.specs.Step.{blank}
 use Rattle.finding.proofs.Maps.{ordered, fused_made}
 use Rattle.finding.proofs.map_into.Goals as goal
 
+pub fusing_order_into-requires : goal.fusing_order_into-requires
+fusing_order_into-requires c = record { zeros = (c.requires.1, c.requires.0) }
+
 pub fused_into-requires : goal.fused_into-requires
 fused_into-requires c =
     let l = c.args.layout in

@@ -1,6 +1,6 @@
 -- `finding::original_index_into` meets its contract. Assumes nothing.
 use Rattle.std.proofs.lemmas.Result.{err_from_is_err_and}
-use Rattle.layout.proofs.Checks.{checked-laid, checked_some}
+use Rattle.layout.proofs.Checks.{checked-through, checked_some}
 use Rattle.finding.proofs.Answers.{same-told, cells-few, original_passed, original_refused}
 use Rattle.finding.proofs.original_index_into.Goals as goal
 
@@ -13,10 +13,10 @@ returns-in_err-layout c =
 pub original_of_into-requires : goal.original_of_into-requires
 original_of_into-requires c =
     let a = c.args in
-    cells-few a.extents.now a.sizes.now a.strides.now a.purpose (checked-laid a.extents.now a.sizes.now a.strides.now c.check_layout.ensures c.in_ok-layout.was)
+    cells-few a.extents.now a.sizes.now a.strides.now a.purpose (checked-through a.extents.now a.sizes.now a.strides.now c.check_layout.ensures c.in_ok-layout.was)
 
 pub returns : goal.returns
 returns c =
     let a = c.args in
-    let l = checked-laid a.extents.now a.sizes.now a.strides.now c.check_layout.ensures c.in_ok-layout.was in
+    let l = checked-through a.extents.now a.sizes.now a.strides.now c.check_layout.ensures c.in_ok-layout.was in
     same-told (original_passed a.extents.now a.sizes.now a.strides.now a.purpose l a.counters.now) c.original_of_into.ensures

@@ -1,7 +1,7 @@
 -- `finding::plan_index_into` meets its contract. Assumes nothing.
 use mathlib.Core.Path.{◌∙◌}
 use Rattle.std.proofs.lemmas.Result.{err_from_is_err_and}
-use Rattle.layout.proofs.Checks.{checked-laid, checked_some}
+use Rattle.layout.proofs.Checks.{checked-through, checked_some}
 use Rattle.finding.proofs.Maps.{sound}
 use Rattle.finding.proofs.Answers.{same-told, cells-few, tells_plan, plan_passed, plan_refused}
 use Rattle.finding.proofs.plan_index_into.Goals as goal
@@ -16,12 +16,12 @@ returns-in_err-layout c =
 pub invariant_of-map : goal.invariant_of-map
 invariant_of-map c =
     let a = c.args in
-    let l = checked-laid a.extents.now a.sizes.now a.strides.now c.check_layout.ensures c.in_ok-layout.was in
+    let l = checked-through a.extents.now a.sizes.now a.strides.now c.check_layout.ensures c.in_ok-layout.was in
     record { sound = sound c.in_ok-layout.layout.fits c.map_into.ensures (cells-few a.extents.now a.sizes.now a.strides.now a.purpose l) }
 
 pub returns : goal.returns
 returns c =
     let a = c.args in
-    let l = checked-laid a.extents.now a.sizes.now a.strides.now c.check_layout.ensures c.in_ok-layout.was in
+    let l = checked-through a.extents.now a.sizes.now a.strides.now c.check_layout.ensures c.in_ok-layout.was in
     let serves = sound c.in_ok-layout.layout.fits c.map_into.ensures (cells-few a.extents.now a.sizes.now a.strides.now a.purpose l) in
     same-told (tells_plan serves c.map_into.ensures a.original.now ∙ plan_passed a.extents.now a.sizes.now a.strides.now a.purpose l a.original.now) c.plan_by_into.ensures

@@ -2,16 +2,16 @@
 -- Assumes nothing.
 use mathlib.Core.Path.{◌≡◌, ap, ◌∙◌}
 use Prim.Native.Nat.{ℕ}
-use lib.ListN.{length, replicate, length-replicate}
+use lib.ListN.{length, replicate}
 use borrow.Author.Rules.{rules}
 use Rattle.std.specs.Prelude.{Some}
 use Rattle.strided.specs.Layout.{total}
 use Rattle.judge.proofs.Judging.{open_of, text_outside, text_enclosed, text_judged}
 use Rattle.judge.proofs.judge_text.Goals as goal
 
-pub see_text-requires : goal.see_text-requires
-see_text-requires c =
-    (open_of c.args.extents.now (length c.args.marks.now) c.requires).axes
+pub invariant_of-cells : goal.invariant_of-cells
+invariant_of-cells c =
+    let n = open_of c.args.extents.now (length c.args.marks.now) c.requires in record { few = n.axes; small = n.few }
 
 pub returns-then-out : goal.returns-then-out
 returns-then-out c =
@@ -25,11 +25,8 @@ lay_text-again-requires c =
     let n = open_of c.args.extents.now (length c.args.marks.now) c.requires in
     let l = c.fill in
     let t = total c.args.extents.now in
-    let e : l.new.self ≡ replicate t 0 = l.ensures.after (λ y e. e) ∙ ap (λ (k : ℕ). replicate k 0) n.size in (
-      record { axes = n.axes; few = n.few; size = ap length e ∙ length-replicate t 0 },
-      text_enclosed c.args.extents.now c.args.text.now c.args.marks.now c.see_text.ensures some c.if-out.false,
-      e,
-    )
+    let e : l.new.self ≡ replicate t 0 = l.ensures.after (λ y e. e) ∙ ap (λ (k : ℕ). replicate k 0) n.size in
+    (text_enclosed c.args.extents.now c.args.text.now c.args.marks.now c.see_text.ensures some c.if-out.false, e)
 
 pub returns : goal.returns
 returns c =

@@ -4,6 +4,7 @@ use mathlib.Core.Path.{sym, ◌∙◌}
 use native.Mathlib.Omega.{arith}
 use lib.ListN.{length}
 use borrow.Author.Tests.{leb-false}
+use Rattle.arrange.specs.Axes.{in_given}
 use Rattle.strided.specs.Base.{padded}
 use Rattle.strided.specs.Layout.{total, extents}
 use Rattle.strided.specs.Plan.{stride_table}
@@ -11,8 +12,8 @@ use Rattle.laws.specs.Plan.Bounds.{plan_few}
 use Rattle.kernel.proofs.Plans.{plannable, given_planned, made_small, made-cut}
 use Rattle.kernel.proofs.plan_into.Goals as goal
 
-pub given_axes_into-rank-requires : goal.given_axes_into-rank-requires
-given_axes_into-rank-requires c = let z = c.requires.zeros in record { zeros = (z.extents, z.strides) }
+pub plan_axes_into-rank-requires : goal.plan_axes_into-rank-requires
+plan_axes_into-rank-requires c = let z = c.requires.zeros in record { order = in_given (length c.args.layout.extents.now); zeros = (z.extents, z.strides) }
 
 pub returns-then-total_at_most : goal.returns-then-total_at_most
 returns-then-total_at_most c =
@@ -22,9 +23,9 @@ returns-then-total_at_most c =
     let ss = a.layout.strides.now in
     let u = a.aim.purpose in
     let small = sym c.total_at_most.ensures ∙ c.if-total_at_most.true in
-    let e = c.given_axes_into-rank.ensures in
+    let e = c.plan_axes_into-rank.ensures in
     let o = c.requires.operands in
-    made_small es a.sizes.now ss u c.requires.accepted c.given_axes_into-rank.result _ _
+    made_small es a.sizes.now ss u c.requires.accepted c.plan_axes_into-rank.result _ _
     (given_planned es m ss u small length (rw o at e.rank))
     (given_planned es m ss u small (λ xs. padded 64 0 (extents xs)) (rw o at e.extents))
     (given_planned es m ss u small (λ xs. stride_table xs m) (rw o at e.strides))

@@ -1,8 +1,9 @@
 -- Sums and tests over a range of numbers, `sum f o n` and `every t o n` of the definitions. Assumes nothing.
-use Rattle.std.specs.Prelude.{◌≡◌, refl, Bool, true, false, cond, ◌⊎◌, ℕ, zero, suc, ◌+◌, ◌*◌, ◌≤◌, ◌<◌}
-use Rattle.std.proofs.Common.{sym, ap, ◌∙◌, ⊎_elim, eq-or-lt_of_le, le_of_suc-le-suc, suc-mul, add-one, arith}
+use Rattle.std.specs.Prelude.{◌≡◌, refl, Bool, true, false, cond, ◌&&◌, ◌||◌, ◌⊎◌, ℕ, zero, suc, ◌+◌, ◌*◌, ◌≤◌, ◌<◌}
+use Rattle.std.specs.List.{list_all, list_any, range_with_len}
+use Rattle.std.proofs.Common.{sym, ap, ap₂, ◌∙◌, ⊎_elim, eq-or-lt_of_le, le_of_suc-le-suc, suc-mul, add-one, arith}
 use Rattle.std.proofs.lemmas.Bool.{cases_lt}
-use Rattle.strided.specs.Base.{sum, every}
+use Rattle.strided.specs.Base.{sum, every, some_of}
 
 -- either way of an order
 pub below_or : (a b : ℕ) → (a < b) ⊎ (b ≤ a)
@@ -59,3 +60,48 @@ every_fails t o (suc n) k h e = go (every_fails t o n k) (eq-or-lt_of_le (le_of_
 pub every-next : (t : ℕ → Bool) (n : ℕ) → every t 0 n ≡ true → t n ≡ true → every t 0 (n + 1) ≡ true
 unfolding every
 every-next t n h g = let e : 0 + n ≡ n = omega arith in rw (add-one, ap t e ∙ g) h
+
+-- the first test apart from the others, as a list has its first number
+every_first : (t : ℕ → Bool) (o n : ℕ) → every t o (suc n) ≡ (t o && every t (o + 1) n)
+unfolding every
+every_first t o zero = let e : o + 0 ≡ o = omega arith in ap (λ (i : ℕ). cond (t i) true false) e ∙ alone (t o)
+  where
+    alone : (a : Bool) → cond a true false ≡ (a && true)
+    alone true = refl
+    alone false = refl
+every_first t o (suc n) =
+    let e : o + suc n ≡ o + 1 + n = omega arith in
+    ap₂ (λ (i : ℕ) (b : Bool). cond (t i) b false) e (every_first t o n) ∙ apart (t o) (t (o + 1 + n)) (every t (o + 1) n)
+  where
+    apart : (a b c : Bool) → cond b (a && c) false ≡ (a && cond b c false)
+    apart true b c = refl
+    apart false true c = refl
+    apart false false c = refl
+
+-- as `all` of a range tells it
+pub all_of_range : (t : ℕ → Bool) (o n : ℕ) → list_all t (range_with_len o n) ≡ every t o n
+unfolding every
+all_of_range t o zero = refl
+all_of_range t o (suc n) = ap (λ (b : Bool). t o && b) (all_of_range t (o + 1) n) ∙ sym (every_first t o n)
+
+some_first : (t : ℕ → Bool) (o n : ℕ) → some_of t o (suc n) ≡ (t o || some_of t (o + 1) n)
+unfolding some_of
+some_first t o zero = let e : o + 0 ≡ o = omega arith in ap (λ (i : ℕ). cond (t i) true false) e ∙ alone (t o)
+  where
+    alone : (a : Bool) → cond a true false ≡ (a || false)
+    alone true = refl
+    alone false = refl
+some_first t o (suc n) =
+    let e : o + suc n ≡ o + 1 + n = omega arith in
+    ap₂ (λ (i : ℕ) (b : Bool). cond (t i) true b) e (some_first t o n) ∙ apart (t o) (t (o + 1 + n)) (some_of t (o + 1) n)
+  where
+    apart : (a b c : Bool) → cond b true (a || c) ≡ (a || cond b true c)
+    apart true true c = refl
+    apart true false c = refl
+    apart false b c = refl
+
+-- as `any` of a range tells it
+pub any_of_range : (t : ℕ → Bool) (o n : ℕ) → list_any t (range_with_len o n) ≡ some_of t o n
+unfolding some_of
+any_of_range t o zero = refl
+any_of_range t o (suc n) = ap (λ (b : Bool). t o || b) (any_of_range t (o + 1) n) ∙ sym (some_first t o n)

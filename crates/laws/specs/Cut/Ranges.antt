@@ -104,23 +104,9 @@ least_in f o (suc (suc n)) i h l = ⊎_elim
     (λ (e : i < o + suc n). omega (arith, least_in f o (suc n) i h e))
     (eq-or-lt_of_le {n = i} {m = o + suc n} (omega arith))
 
-pub every_start : (t : ℕ → Bool) (o : ℕ) → every t o (o - o) ≡ true
-unfolding every
-every_start t o = none_yet (every t o) o
-
-pub every-step : (t : ℕ → Bool) (o i : ℕ) → o ≤ i → t i ≡ true → every t o (i + 1 - o) ≡ every t o (i - o)
-unfolding every
-every-step t o i h q =
-    one_more_lem (every t o) o i h
-    ∙ ap (λ (x : ℕ). cond (t x) (every t o (i - o)) false) (at_end o i h)
-    ∙ cond_true (t i) (every t o (i - o)) false q
-
 pub every_none : (t : ℕ → Bool) → every t 0 0 ≡ true
 unfolding every
 every_none t = refl
-
-pub every_more : (t : ℕ → Bool) (k : ℕ) → t k ≡ true → every t 0 (k + 1) ≡ every t 0 k
-every_more t k e = ap (every t 0) (sym (sub-zero (k + 1))) ∙ every-step t 0 k (omega arith) e ∙ ap (every t 0) (sub-zero k)
 
 -- one test that fails is enough
 pub every_fails_at : (t : ℕ → Bool) (o i n : ℕ) → o ≤ i → i < o + n → t i ≡ false → every t o n ≡ false

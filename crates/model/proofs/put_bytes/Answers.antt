@@ -1,14 +1,10 @@
 -- `model::put_bytes` meets its contract. The invariant: the first i places of row k stand behind the rows before it.
 -- Assumes nothing.
 use native.Mathlib.Omega.{arith}
-use mathlib.Core.Path.{◌≡◌, ap, ◌∙◌}
-use Prim.Native.Nat.{ℕ, ◌+◌, ◌*◌}
-use lib.IntN.{ℤ, pos, nat_abs}
-use lib.ListN.{get_or}
-use Rattle.laws.specs.Base.Bits.{read_back}
+use mathlib.Core.Path.{◌≡◌, ap₂, ◌∙◌}
+use Prim.Native.Nat.{ℕ, ◌*◌}
 use Rattle.laws.specs.Cut.Image.{image}
 use Rattle.model.specs.ByteRows.{byte_of}
-use Rattle.std.proofs.Common.{rules}
 use Rattle.model.proofs.Filled.{row_first, row_turn, row_done}
 use Rattle.model.proofs.put_bytes.Goals as goal
 
@@ -21,9 +17,7 @@ pub loop-i-preserved : goal.loop-i-preserved
 loop-i-preserved c =
     -- what is stored
     let stored : let a = c.args in c.byte_image.result ≡ byte_of a.machine.numbers a.operand.axes.sizes.now a.operand.axes.strides.now a.operand.k c.loop-i.i = let a = c.args in
-    let z : ℤ = get_or a.operand.axes.strides.now (a.operand.k * 64 + c.loop-i.i) (pos 0) in
-    c.byte_image.ensures
-    ∙ ap (λ (x : ℕ). image a.machine.numbers (x * get_or a.operand.axes.sizes.now a.operand.k 0)) (c.unsigned_abs.ensures.value ∙ ap nat_abs (read_back z (search rules))) in
+    c.byte_image.ensures ∙ ap₂ (λ (x y : ℕ). image a.machine.numbers (x * y)) c.stride_size.ensures c.size-size.ensures in
     let a = c.args in
     row_turn a.machine.numbers a.operand.axes.sizes.now a.operand.axes.strides.now a.operand.axes.rank a.operand.k c.loop-i.i c.loop-i.table _ (omega (arith, a.operand.there, a.operand.axes.few)) c.loop-i-test.true a.operand.axes.to c.loop-i.invariant stored
 

@@ -1,5 +1,5 @@
 -- `order::fusing_order_into` meets its contract. Assumes nothing.
-use mathlib.Core.Path.{◌≡◌, refl, sym, ap, ◌∙◌}
+use mathlib.Core.Path.{◌≡◌, sym, ap, ◌∙◌}
 use mathlib.Core.Bool.{Bool, true, false, cond}
 use mathlib.Core.List.{List}
 use Prim.Native.Nat.{ℕ, ◌≤◌}
@@ -42,9 +42,10 @@ returns-then-total_at_most c =
     let n = length a.layout.extents.now in
     let few : n ≤ 64 = c.args.layout.fits.rank-few in
     let g = c.as_given_into in
-    let front : length (take n (replicate {A = ℕ} 64 0)) ≡ n = omega (arith, length-take n (replicate {A = ℕ} 64 0), length-replicate {A = ℕ} 64 0, few) in record {
-      weights = zeros_behind _ n few refl;
-      order = front-padded 0 64 n _ (run 0 n) _ (g.ensures ∙ ap (run 0) front) refl (length_run 0 n) few
+    let long : length a.out.now ≡ 64 = ap length c.requires.zeros.1 ∙ length-replicate {A = ℕ} 64 0 in
+    let front : length (take n a.out.now) ≡ n = omega (arith, length-take n a.out.now, long, few) in record {
+      weights = zeros_behind _ n few c.requires.zeros.0;
+      order = front-padded 0 64 n _ (run 0 n) _ (g.ensures ∙ ap (run 0) front) c.requires.zeros.1 (length_run 0 n) few
           ∙ ap (padded 64 0) (small a.layout.extents.now a.layout.operands a.layout.strides.now a.purpose c.total_at_most.ensures c.if-total_at_most.true);
     }
 

@@ -2,7 +2,7 @@
 -- code may divide by it. Assumes nothing.
 use native.Mathlib.Omega.{arith}
 use mathlib.Core.Path.{◌≡◌, sym, ap, ◌∙◌}
-use Prim.Native.Nat.{ℕ, ◌-◌, ◌*◌, ◌≤◌, ◌<◌}
+use Prim.Native.Nat.{ℕ, ◌-◌, ◌≤◌, ◌<◌}
 use native.Mathlib.Nat.{div-le_self}
 use lib.ListN.{get_or}
 use borrow.Author.Tests.{lt-ltb, le-ltb}
@@ -10,39 +10,28 @@ use Rattle.strided.specs.Cut.{score}
 use Rattle.laws.specs.Cut.Picks.{pos_right}
 use Rattle.laws.specs.Cut.Jump.{clipped_over, over_start, over-step}
 use Rattle.shrink.proofs.clip_into.Goals as goal
-use Rattle.shrink.proofs.clip_into.Goals.{After-saturating_sub, then-level-saturating_sub, else-level-saturating_sub}
-
--- the product that the code compares is the score
-the-score : (c : After-saturating_sub) → let a = c.args in c.saturating_sub.result * get_or a.scores.costs.now c.loop-i.i 0 ≡ score a.scores.blocks.now a.scores.costs.now c.loop-i.i
-the-score c = ap (λ (x : ℕ). x * get_or c.args.scores.costs.now c.loop-i.i 0) c.saturating_sub.ensures
+use Rattle.shrink.proofs.clip_into.Goals.{then-level-at, else-level-at}
 
 pub loop-i-init : goal.loop-i-init
 loop-i-init c = sym (over_start _ _ _ _ _)
 
-pub overflow_mul-saturating_sub : goal.overflow_mul-saturating_sub
-overflow_mul-saturating_sub c =
-    let e = the-score (goal.at.overflow_mul-saturating_sub c).After-saturating_sub in
-    omega (arith, e, c.args.scores.fit c.loop-i.i (omega arith))
-
 pub nonzero_div-out : goal.nonzero_div-out
-nonzero_div-out c = pos_right c.saturating_sub.result _ _ c.if-level-saturating_sub.true
+nonzero_div-out c = let a = c.args in pos_right (get_or a.scores.blocks.now c.loop-i.i 0 - 1) _ c.args.level (omega (arith, c.at.ensures, c.if-level-at.true))
 
 pub overflow_add-out : goal.overflow_add-out
 overflow_add-out c =
-    let e = the-score (goal.at.overflow_add-out c).After-saturating_sub in
     let a = c.args in
-    omega (arith, e, c.args.scores.fit c.loop-i.i (omega arith), div-le_self a.level (get_or a.scores.costs.now c.loop-i.i 0))
+    omega (arith, c.at.ensures, c.if-level-at.true, a.scores.fit c.loop-i.i (omega arith), div-le_self a.level (get_or a.scores.costs.now c.loop-i.i 0))
 
 pub loop-i-preserved : goal.loop-i-preserved
 loop-i-preserved c =
-    let e = the-score (goal.at.loop-i-preserved c).After-saturating_sub in
     let a = c.args in
     let i : ℕ = c.loop-i.i in
     let sc : ℕ = score a.scores.blocks.now a.scores.costs.now i in
     let st = over-step a.level a.scores.costs.now a.scores.tail.offset i a.scores.blocks.now a.out.now c.loop-i.auto.i in
-    elim c.if-level-saturating_sub.branch [
-      | then-level-saturating_sub w ↦ let above : a.level < sc = omega (arith, e, w.if-level-saturating_sub.true) in (rw (w.out-is, c.loop-i.invariant, st, lt-ltb a.level sc above))
-      | else-level-saturating_sub w ↦ let within : sc ≤ a.level = omega (arith, e, w.if-level-saturating_sub.false) in (rw (w.out-is, c.loop-i.invariant, st, le-ltb a.level sc within))
+    elim c.if-level-at.branch [
+      | then-level-at w ↦ let above : a.level < sc = omega (arith, c.at.ensures, w.if-level-at.true) in (rw (w.out-is, c.loop-i.invariant, st, lt-ltb a.level sc above))
+      | else-level-at w ↦ let within : sc ≤ a.level = omega (arith, c.at.ensures, w.if-level-at.false) in (rw (w.out-is, c.loop-i.invariant, st, le-ltb a.level sc within))
     ]
 
 pub returns : goal.returns

@@ -3,8 +3,7 @@
 use native.Mathlib.Omega.{arith}
 use mathlib.Core.Path.{◌≡◌, refl, sym, ap, ◌∙◌}
 use Rattle.std.specs.Prelude.{Option}
-use Prim.Native.Nat.{ℕ, ◌-◌, ◌*◌, ◌≤◌, ◌<◌}
-use lib.ListN.{get_or}
+use Prim.Native.Nat.{ℕ, ◌-◌, ◌≤◌, ◌<◌}
 use Rattle.strided.specs.Cut.{score, greatest_score}
 use Rattle.laws.specs.Cut.Picks.{bar_of, pick_start, pick_wins, pick_loses}
 use Rattle.shrink.proofs.last_argmax_weighted.Goals as goal
@@ -13,20 +12,13 @@ use Rattle.shrink.proofs.last_argmax_weighted.Goals.{then-s-top, else-s-top}
 pub loop-i-init : goal.loop-i-init
 loop-i-init c = (sym (pick_start _ _ _), refl)
 
-pub overflow_mul-s : goal.overflow_mul-s
-overflow_mul-s c =
-    -- the product is the score
-    let the-score : let a = c.args in c.saturating_sub.result * get_or a.scores.costs.now c.loop-i.i 0 ≡ score a.scores.blocks.now a.scores.costs.now c.loop-i.i = ap (λ (x : ℕ). x * get_or c.args.scores.costs.now c.loop-i.i 0) c.saturating_sub.ensures in
-    omega (arith, the-score, c.args.scores.fit c.loop-i.i (omega arith))
-
 pub loop-i-preserved : goal.loop-i-preserved
 loop-i-preserved c =
-    let the-score : let a = c.args in c.saturating_sub.result * get_or a.scores.costs.now c.loop-i.i 0 ≡ score a.scores.blocks.now a.scores.costs.now c.loop-i.i = ap (λ (x : ℕ). x * get_or c.args.scores.costs.now c.loop-i.i 0) c.saturating_sub.ensures in
     let a = c.args in
     let i : ℕ = c.loop-i.i in
     let s : ℕ → ℕ = score a.scores.blocks.now a.scores.costs.now in
     let old : Option ℕ = greatest_score a.scores.blocks.now a.scores.costs.now a.scores.tail.offset (i - a.scores.tail.offset) in
-    let sc = the-score in
+    let sc = c.at-s.ensures in
     let e : bar_of s old ≡ c.loop-i.top = sym (c.loop-i.invariant.1 ∙ ap (bar_of s) c.loop-i.invariant.0) in
     elim c.if-s-top.branch [
       | then-s-top w ↦ let wins : bar_of s old ≤ s i = omega (arith, e, sc, w.if-s-top.true) in

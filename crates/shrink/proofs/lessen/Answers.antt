@@ -34,7 +34,7 @@ returns-then-memory_region-tail c =
 
 pub shorten-requires-clause-fit : goal.shorten-requires-clause-fit
 shorten-requires-clause-fit c =
-    let a = c.args in still-fit a.tail.machine.numbers a.tail.bytes.now a.tail.operands a.costs.now a.tail.offset (axes a.tail) a.tail.rank a.blocks.now c.level-s.result c.clip_into.ensures c.requires
+    let a = c.args in still-fit a.tail.machine.numbers a.tail.bytes.now a.tail.operands a.costs.now a.tail.offset (axes a.tail) a.tail.rank a.blocks.now c.level.result c.clip_into.ensures c.requires
 
 pub shorten-requires-clause-rule : goal.shorten-requires-clause-rule
 shorten-requires-clause-rule c = by_ones (λ x r h. search rules) _ _ _ _ _ _ _
@@ -43,4 +43,4 @@ pub returns : goal.returns
 returns c =
     let a = c.args in
     c.shorten.ensures (by_ones (λ x r h. search rules) _ _ _ _ _ _ _)
-    ∙ same_end a.tail.machine.numbers a.tail.bytes.now a.tail.operands a.costs.now a.tail.offset (axes a.tail) a.tail.rank a.blocks.now c.level-s.result c.clip_into.ensures c.level-s.ensures
+    ∙ same_end a.tail.machine.numbers a.tail.bytes.now a.tail.operands a.costs.now a.tail.offset (axes a.tail) a.tail.rank a.blocks.now c.level.result c.clip_into.ensures c.level.ensures

@@ -2,5 +2,5 @@
 use Rattle.span.proofs.Sums.{Left}
 use Rattle.span.proofs.down_of.Given as goal
 
-abbrev pub invariant-loop-i : goal.invariant-loop-i
-invariant-loop-i l = Left l.extents l.strides l.sum l.i
+abbrev pub invariant-loop-extent : goal.invariant-loop-extent
+invariant-loop-extent l = Left l.extents l.strides l.sum l.extent-iterator.a.rest.now l.extent-iterator.b.rest.now

@@ -4,8 +4,6 @@ use mathlib.Core.Path.{◌≡◌, refl, sym, ap, subst}
 use Rattle.std.specs.Prelude.{Ok}
 use Rattle.strided.specs.declared.Plan.{Plan}
 use Rattle.strided.specs.declared.Walk.{Walk}
-use Rattle.layout.specs.Lent.{Whole}
-use Rattle.states.specs.Lent.{WholeWalk}
 use Rattle.walk.specs.Lent.{Taken, Answers}
 use Rattle.walk.proofs.Stepping.{state_rejected, taken, ended_step}
 use Rattle.walk.proofs.answer_of.Goals as goal
@@ -21,15 +19,11 @@ pub returns-then-reaches : goal.returns-then-reaches
 returns-then-reaches c =
     let p = c.args.plan.now in
     let w = c.args.walk.now in
-    let A : Whole p = subst Whole c.plan.view_is c.plan.invariant in
-    let H : WholeWalk w = subst WholeWalk c.walk.view_is c.walk.invariant in
+    let t = c.reaches.ensures in
     subst (λ (e : Bool). Answers p w (Ok (not e))) (sym (ap (λ (v : Walk). v.ended) c.walk.view_is))
-    (answered_ok p w (taken p w A H.counters-all H.offsets_all c.reaches.ensures c.if-reaches.true))
+    (answered_ok p w (taken p w t.plan_whole t.walk_whole.counters-all t.walk_whole.offsets_all t.told c.if-reaches.true))
 
 pub returns : goal.returns
 returns c =
-    let p = c.args.plan.now in
-    let w = c.args.walk.now in
-    let A : Whole p = subst Whole c.plan.view_is c.plan.invariant in
-    let H : WholeWalk w = subst WholeWalk c.walk.view_is c.walk.invariant in
-    state_rejected p w A H.counters-all H.offsets_all c.reaches.ensures c.if-reaches.false
+    let t = c.reaches.ensures in
+    state_rejected _ _ t.plan_whole t.walk_whole.counters-all t.walk_whole.offsets_all t.told c.if-reaches.false

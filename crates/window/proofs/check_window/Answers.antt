@@ -1,6 +1,6 @@
 -- `window::check_window` meets its contract: the layout's rows with no chosen operand, then row 15. Assumes nothing.
 use Rattle.std.proofs.lemmas.Result.{err_from_is_err_and}
-use Rattle.layout.proofs.Checks.{checked-laid, checked_some}
+use Rattle.layout.proofs.Checks.{checked-through, checked_some}
 use Rattle.window.proofs.Row15.{parent_refused, own_refused, own_served}
 use Rattle.window.proofs.check_window.Goals as goal
 
@@ -13,9 +13,9 @@ returns-in_err-layout c =
 pub returns-then-window_wrong : goal.returns-then-window_wrong
 returns-then-window_wrong c =
     let a = c.args in
-    own_refused a.extents.now a.sizes.now a.strides.now a.picks.firsts.now a.picks.counts.now a.picks.steps.now (checked-laid a.extents.now a.sizes.now a.strides.now c.check_layout.ensures c.in_ok-layout.was) c.window_wrong.ensures c.if-window_wrong.true
+    own_refused a.extents.now a.sizes.now a.strides.now a.picks.firsts.now a.picks.counts.now a.picks.steps.now (checked-through a.extents.now a.sizes.now a.strides.now c.check_layout.ensures c.in_ok-layout.was) c.window_wrong.ensures c.if-window_wrong.true
 
 pub returns : goal.returns
 returns c =
     let a = c.args in
-    own_served a.extents.now a.sizes.now a.strides.now a.picks.firsts.now a.picks.counts.now a.picks.steps.now (checked-laid a.extents.now a.sizes.now a.strides.now c.check_layout.ensures c.in_ok-layout.was) c.window_wrong.ensures c.if-window_wrong.false
+    own_served a.extents.now a.sizes.now a.strides.now a.picks.firsts.now a.picks.counts.now a.picks.steps.now (checked-through a.extents.now a.sizes.now a.strides.now c.check_layout.ensures c.in_ok-layout.was) c.window_wrong.ensures c.if-window_wrong.false

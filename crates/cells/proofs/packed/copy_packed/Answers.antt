@@ -1,89 +1,50 @@
 -- `cells::packed::copy_packed` meets its contract. Assumes nothing.
-use mathlib.Core.Path.{◌≡◌, sym, ap, ◌∙◌}
-use Prim.Native.Nat.{◌+◌, ◌*◌, ◌≤◌}
-use native.Mathlib.Nat.{mul_comm}
+use mathlib.Core.Path.{◌≡◌}
+use Prim.Native.Nat.{◌+◌, ◌*◌, ◌^◌, ◌≤◌, ◌<◌}
 use native.Mathlib.Omega.{arith}
 use lib.IntN.{pos}
 use lib.ListN.{length}
-use mir.Syntax.{w64}
-use mir.Val.{SFits, to_z, of_z}
-use mir.Facts.{to_z-of_z}
 use borrow.Author.Rules.{rules}
-use Rattle.cells.specs.Copy.{moved}
-use Rattle.cells.specs.Moving.{moved_slice}
-use Rattle.cells.proofs.Packing.{begin, run-bytes, patch-bytes, packed-patch}
+use Rattle.cells.proofs.Steps.{steps_up}
+use Rattle.cells.proofs.Packing.{run-long, whole-to, whole-from, whole-copied}
 use Rattle.cells.proofs.packed.copy_packed.Goals as goal
+use Rattle.cells.proofs.packed.copy_packed.Goals.{Then-both}
 
 pub overflow_mul-bytes : goal.overflow_mul-bytes
-overflow_mul-bytes c =
-    -- a run's bytes lie in the destination
-    let one-run : begin c.args.patch.to 0 + c.args.patch.n0 * c.args.patch.width ≤ length c.args.destination.now = let a = c.args in run-bytes _ _ a.patch.n0 a.patch.n1 a.patch.to c.requires.reach.to c.requires.packed.cells c.requires.packed.to 0 c.requires.packed.runs in
-    let h = one-run in omega (arith, h)
+overflow_mul-bytes c = let a = c.args in omega (arith, run-long a.patch c.requires.packed c.requires.reach)
 
-pub both_step-requires : goal.both_step-requires
-both_step-requires c =
-    let one-run : begin c.args.patch.to 0 + c.args.patch.n0 * c.args.patch.width ≤ length c.args.destination.now = let a = c.args in run-bytes _ _ a.patch.n0 a.patch.n1 a.patch.to c.requires.reach.to c.requires.packed.cells c.requires.packed.to 0 c.requires.packed.runs in
-    let h = one-run in
-    let g = c.well_formed.0.1 in
-    omega (arith, h, g)
+pub overflow_cast-bytes : goal.overflow_cast-bytes
+overflow_cast-bytes c = let a = c.args in omega (arith, run-long a.patch c.requires.packed c.requires.reach, c.well_formed.0.1)
+
+-- each run begins where the one before ends, and all of them lie in the buffers
+follows : (c : Then-both) → let p = c.args.patch in (p.to.step1 ≡ pos (p.n0 * p.width)) × (p.from.step1 ≡ pos (p.n0 * p.width))
+follows c =
+    let p = c.args.patch in
+    let w : p.n0 * p.width < 2 ^ 63 = omega (arith, run-long p c.requires.packed c.requires.reach, c.well_formed.0.1) in
+    let e = c.both.ensures c.if-both.true in
+    (steps_up (search rules) w e.0, steps_up (search rules) w e.1)
+
+to-whole : (c : Then-both) → let p = c.args.patch in p.to.first + p.n0 * p.width * p.n1 ≤ length c.args.destination.now
+to-whole c = whole-to c.args.patch c.requires.packed c.requires.reach (follows c)
+
+from-whole : (c : Then-both) → let p = c.args.patch in p.from.first + p.n0 * p.width * p.n1 ≤ length c.args.source.now
+from-whole c = whole-from c.args.patch c.requires.packed c.requires.reach (follows c)
 
 pub overflow_mul-all : goal.overflow_mul-all
-overflow_mul-all c =
-    let a = c.args in
-    let turned : a.patch.n0 * a.patch.width * a.patch.n1 ≡ a.patch.n1 * (a.patch.n0 * a.patch.width) = mul_comm (a.patch.n0 * a.patch.width) a.patch.n1 in
-    let g : SFits w64 a.patch.to.step1 = search rules in
-    let e : to_z w64 (of_z w64 a.patch.to.step1) ≡ pos (a.patch.n0 * a.patch.width) = (c.both_step.ensures c.if-both_step.true).0 in
-    let within : a.patch.to.first + a.patch.n1 * (a.patch.n0 * a.patch.width) ≤ length a.destination.now = patch-bytes _ _ a.patch.n0 a.patch.n1 a.patch.to c.requires.reach.to c.requires.packed.cells c.requires.packed.to c.requires.packed.runs (sym (to_z-of_z {w = w64} g) ∙ e) in
-    omega (arith, within, turned, c.well_formed.0.1)
+overflow_mul-all c = omega (arith, to-whole c, c.well_formed.0.1)
 
 pub overflow_add-d : goal.overflow_add-d
-overflow_add-d c =
-    let a = c.args in
-    let turned : a.patch.n0 * a.patch.width * a.patch.n1 ≡ a.patch.n1 * (a.patch.n0 * a.patch.width) = mul_comm (a.patch.n0 * a.patch.width) a.patch.n1 in
-    let g : SFits w64 a.patch.to.step1 = search rules in
-    let e : to_z w64 (of_z w64 a.patch.to.step1) ≡ pos (a.patch.n0 * a.patch.width) = (c.both_step.ensures c.if-both_step.true).0 in
-    let within : a.patch.to.first + a.patch.n1 * (a.patch.n0 * a.patch.width) ≤ length a.destination.now = patch-bytes _ _ a.patch.n0 a.patch.n1 a.patch.to c.requires.reach.to c.requires.packed.cells c.requires.packed.to c.requires.packed.runs (sym (to_z-of_z {w = w64} g) ∙ e) in
-    omega (arith, within, turned, c.well_formed.0.1)
+overflow_add-d c = omega (arith, to-whole c, c.well_formed.0.1)
 
-pub slice_bounds-move_pieces-end : goal.slice_bounds-move_pieces-end
-slice_bounds-move_pieces-end c =
-    let a = c.args in
-    let turned : a.patch.n0 * a.patch.width * a.patch.n1 ≡ a.patch.n1 * (a.patch.n0 * a.patch.width) = mul_comm (a.patch.n0 * a.patch.width) a.patch.n1 in
-    let g : SFits w64 a.patch.to.step1 = search rules in
-    let e : to_z w64 (of_z w64 a.patch.to.step1) ≡ pos (a.patch.n0 * a.patch.width) = (c.both_step.ensures c.if-both_step.true).0 in
-    let within : a.patch.to.first + a.patch.n1 * (a.patch.n0 * a.patch.width) ≤ length a.destination.now = patch-bytes _ _ a.patch.n0 a.patch.n1 a.patch.to c.requires.reach.to c.requires.packed.cells c.requires.packed.to c.requires.packed.runs (sym (to_z-of_z {w = w64} g) ∙ e) in
-    omega (arith, within, turned)
+pub slice_bounds-move_bytes-end : goal.slice_bounds-move_bytes-end
+slice_bounds-move_bytes-end c = omega (arith, to-whole c)
 
 pub overflow_add-s : goal.overflow_add-s
-overflow_add-s c =
-    let a = c.args in
-    let turned : a.patch.n0 * a.patch.width * a.patch.n1 ≡ a.patch.n1 * (a.patch.n0 * a.patch.width) = mul_comm (a.patch.n0 * a.patch.width) a.patch.n1 in
-    let g : SFits w64 a.patch.from.step1 = search rules in
-    let e : to_z w64 (of_z w64 a.patch.from.step1) ≡ pos (a.patch.n0 * a.patch.width) = (c.both_step.ensures c.if-both_step.true).1 in
-    let within : a.patch.from.first + a.patch.n1 * (a.patch.n0 * a.patch.width) ≤ length a.source.now = patch-bytes _ _ a.patch.n0 a.patch.n1 a.patch.from c.requires.reach.from c.requires.packed.cells c.requires.packed.from c.requires.packed.runs (sym (to_z-of_z {w = w64} g) ∙ e) in
-    omega (arith, within, turned, c.well_formed.1.0.1)
+overflow_add-s c = omega (arith, from-whole (goal.at.overflow_add-s c).Then-both, c.well_formed.1.0.1)
 
-pub slice_bounds-move_pieces-end-then-both_step : goal.slice_bounds-move_pieces-end-then-both_step
-slice_bounds-move_pieces-end-then-both_step c =
-    let a = c.args in
-    let turned : a.patch.n0 * a.patch.width * a.patch.n1 ≡ a.patch.n1 * (a.patch.n0 * a.patch.width) = mul_comm (a.patch.n0 * a.patch.width) a.patch.n1 in
-    let g : SFits w64 a.patch.from.step1 = search rules in
-    let e : to_z w64 (of_z w64 a.patch.from.step1) ≡ pos (a.patch.n0 * a.patch.width) = (c.both_step.ensures c.if-both_step.true).1 in
-    let within : a.patch.from.first + a.patch.n1 * (a.patch.n0 * a.patch.width) ≤ length a.source.now = patch-bytes _ _ a.patch.n0 a.patch.n1 a.patch.from c.requires.reach.from c.requires.packed.cells c.requires.packed.from c.requires.packed.runs (sym (to_z-of_z {w = w64} g) ∙ e) in
-    omega (arith, within, turned)
+pub slice_bounds-move_bytes-end-then-both : goal.slice_bounds-move_bytes-end-then-both
+slice_bounds-move_bytes-end-then-both c = omega (arith, from-whole (goal.at.slice_bounds-move_bytes-end-then-both c).Then-both)
 
-pub returns-then-both_step : goal.returns-then-both_step
-returns-then-both_step c =
-    let turned : c.args.patch.n0 * c.args.patch.width * c.args.patch.n1 ≡ c.args.patch.n1 * (c.args.patch.n0 * c.args.patch.width) = mul_comm (c.args.patch.n0 * c.args.patch.width) c.args.patch.n1 in
-    let to-follows : c.args.patch.to.step1 ≡ pos (c.args.patch.n0 * c.args.patch.width) = let g : SFits w64 c.args.patch.to.step1 = search rules in
-    let e : to_z w64 (of_z w64 c.args.patch.to.step1) ≡ pos (c.args.patch.n0 * c.args.patch.width) = (c.both_step.ensures c.if-both_step.true).0 in
-    sym (to_z-of_z {w = w64} g) ∙ e in
-    let from-follows : c.args.patch.from.step1 ≡ pos (c.args.patch.n0 * c.args.patch.width) = let g : SFits w64 c.args.patch.from.step1 = search rules in
-    let e : to_z w64 (of_z w64 c.args.patch.from.step1) ≡ pos (c.args.patch.n0 * c.args.patch.width) = (c.both_step.ensures c.if-both_step.true).1 in
-    sym (to_z-of_z {w = w64} g) ∙ e in
-    let a = c.args in
-    let to-bytes : a.patch.to.first + a.patch.n1 * (a.patch.n0 * a.patch.width) ≤ length a.destination.now = patch-bytes _ _ a.patch.n0 a.patch.n1 a.patch.to c.requires.reach.to c.requires.packed.cells c.requires.packed.to c.requires.packed.runs to-follows in
-    let from_bytes : a.patch.from.first + a.patch.n1 * (a.patch.n0 * a.patch.width) ≤ length a.source.now = patch-bytes _ _ a.patch.n0 a.patch.n1 a.patch.from c.requires.reach.from c.requires.packed.cells c.requires.packed.from c.requires.packed.runs from-follows in
-    moved_slice a.destination.now a.patch.to.first a.source.now a.patch.from.first (a.patch.n0 * a.patch.width * a.patch.n1) (omega (arith, to-bytes, turned)) (omega (arith, from_bytes, turned)) c.move_pieces.new.to c.move_pieces.ensures
-    ∙ ap (moved a.destination.now a.patch.to.first a.source.now a.patch.from.first) turned
-    ∙ sym (packed-patch a.patch.width a.patch.n0 a.patch.to a.patch.from a.destination.now a.source.now c.requires.packed.to c.requires.packed.from to-follows from-follows a.patch.n1)
+pub returns-then-both : goal.returns-then-both
+returns-then-both c =
+    let r = c.requires in whole-copied c.args.patch r.packed r.reach (follows (goal.at.returns-then-both c).Then-both) c.move_bytes.ensures

@@ -6,7 +6,7 @@ use lib.ListN.{length}
 use borrow.Rule.Slice.PartMut.{put_mid}
 use Rattle.cells.specs.Copy.{moved}
 use Rattle.cells.specs.Patch.{place}
-use Rattle.cells.specs.Moving.{moved_slice}
+use Rattle.cells.proofs.Moving.{moved_slice}
 use Rattle.cells.proofs.Running.{as_long, run_more}
 use Rattle.cells.proofs.Patching.{patch_cell, patch_start}
 use Rattle.cells.proofs.Packing.{begin, packed-run, run-from, run-bytes, run-place}
@@ -40,8 +40,8 @@ overflow_add-d c =
     let within : begin a.patch.to j + a.patch.n0 * a.patch.width ≤ length a.destination.now = run-bytes _ _ a.patch.n0 a.patch.n1 a.patch.to c.requires.reach.to c.requires.packed.cells c.requires.packed.to j below in
     omega (arith, is, within, c.well_formed.0.1)
 
-pub slice_bounds-move_pieces-end : goal.slice_bounds-move_pieces-end
-slice_bounds-move_pieces-end c =
+pub slice_bounds-move_bytes-end : goal.slice_bounds-move_bytes-end
+slice_bounds-move_bytes-end c =
     let a = c.args in
     let j : ℕ = c.loop-j.j in
     let below : j < a.patch.n1 = c.loop-j-test.true in
@@ -59,8 +59,8 @@ overflow_add-s c =
     let within : begin a.patch.from j + a.patch.n0 * a.patch.width ≤ length a.source.now = run-bytes _ _ a.patch.n0 a.patch.n1 a.patch.from c.requires.reach.from c.requires.packed.cells c.requires.packed.from j below in
     omega (arith, is, within, c.well_formed.1.0.1)
 
-pub slice_bounds-move_pieces-end-in-loop-j : goal.slice_bounds-move_pieces-end-in-loop-j
-slice_bounds-move_pieces-end-in-loop-j c =
+pub slice_bounds-move_bytes-end-in-loop-j : goal.slice_bounds-move_bytes-end-in-loop-j
+slice_bounds-move_bytes-end-in-loop-j c =
     let a = c.args in
     let j : ℕ = c.loop-j.j in
     let below : j < a.patch.n1 = c.loop-j-test.true in
@@ -83,8 +83,8 @@ loop-j-preserved c =
     let to-bytes : begin a.patch.to j + b ≤ length a.destination.now = run-bytes _ _ a.patch.n0 a.patch.n1 a.patch.to c.requires.reach.to c.requires.packed.cells c.requires.packed.to j below in
     let from_bytes : begin a.patch.from j + b ≤ length a.source.now = run-bytes _ _ a.patch.n0 a.patch.n1 a.patch.from c.requires.reach.from c.requires.packed.cells c.requires.packed.from j below in
     let l = as_long _ _ _ _ c.loop-j.invariant.1 in
-    let f : put_mid c.place_of-d.result (c.place_of-d.result + b - c.place_of-d.result) c.loop-j.destination c.move_pieces.new.to ≡ moved c.loop-j.destination (begin a.patch.to j) a.source.now (begin a.patch.from j) b =
-    moved_slice c.loop-j.destination c.place_of-d.result a.source.now c.place_of-s.result b (omega (arith, to_is, to-bytes, l)) (omega (arith, from_is, from_bytes)) c.move_pieces.new.to c.move_pieces.ensures
+    let f : put_mid c.place_of-d.result (c.place_of-d.result + b - c.place_of-d.result) c.loop-j.destination c.move_bytes.new.to ≡ moved c.loop-j.destination (begin a.patch.to j) a.source.now (begin a.patch.from j) b =
+    moved_slice c.loop-j.destination c.place_of-d.result a.source.now c.place_of-s.result b (omega (arith, to_is, to-bytes, l)) (omega (arith, from_is, from_bytes)) c.move_bytes.new.to c.move_bytes.ensures
     ∙ ap₂ (λ (x y : ℕ). moved c.loop-j.destination x a.source.now y b) to_is from_is in
     let u = run-from _ _ a.patch.n0 a.patch.n1 a.patch.to c.requires.reach.to c.requires.packed.cells c.requires.packed.to j below in
     let v = run-from _ _ a.patch.n0 a.patch.n1 a.patch.from c.requires.reach.from c.requires.packed.cells c.requires.packed.from j below in (

@@ -1,20 +1,24 @@
--- `fuse::Column::stays` meets its contract. The invariant: the strides of the first k operands are 0. Assumes nothing.
-use mathlib.Core.Path.{sym, ◌∙◌}
+-- `fuse::Column::stays` meets its contract. Assumes nothing.
+use mathlib.Core.Path.{refl, ◌∙◌}
+use mathlib.Core.Bool.{Bool}
+use Prim.Native.Nat.{ℕ}
 use native.Mathlib.Omega.{arith}
-use borrow.Author.Count.{below_more}
-use Rattle.laws.specs.Cut.Tables.{still_each, still-not}
+use lib.Dec.{eqb}
+use borrow.Author.Tests.{tests}
+use Rattle.std.proofs.Common.{rules}
+use Rattle.std.proofs.lemmas.Iterator.{YieldsList-from_range}
+use Rattle.std.proofs.lemmas.Iterator.Search.{all_from_yields_List}
+use Rattle.laws.specs.Base.Ranges.{all_of_range}
+use Rattle.strided.specs.Costs.{still}
 use Rattle.fuse.specs.Sizes.{size_at}
 use Rattle.fuse.proofs.Column.stays.Goals as goal
 
-pub returns-then-size-ne0 : goal.returns-then-size-ne0
-returns-then-size-ne0 c =
-    let s = c.args.self in
-    sym (still-not (size_at s.rows.strides.now s.rows.pitch s.axis) s.rows.operands c.loop-k.k (omega arith) (λ e. c.if-size-ne0.true (c.size.ensures ∙ e)))
-
-pub loop-k-preserved : goal.loop-k-preserved
-loop-k-preserved c = below_more _ _ c.loop-k.invariant (sym c.size.ensures ∙ c.if-size-ne0.false)
-
 pub returns : goal.returns
+unfolding still
 returns c =
     let s = c.args.self in
-    sym (still_each (size_at s.rows.strides.now s.rows.pitch s.axis) s.rows.operands (λ j h. c.loop-k.invariant j (omega arith)))
+    let n : ℕ = s.rows.operands in
+    -- whether operand k does not move
+    let zero : ℕ → Bool = λ k. eqb (size_at s.rows.strides.now s.rows.pitch s.axis k) 0 in
+    all_from_yields_List zero _ _ _ c.all.ensures.ran (YieldsList-from_range 0 n n refl (omega arith)) (λ x b q k. search (rules, tests))
+    ∙ all_of_range zero 0 n

@@ -3,8 +3,6 @@ use mathlib.Core.Path.{◌≡◌, sym, ap, ◌∙◌}
 use mathlib.Core.List.{List}
 use Prim.Native.Nat.{ℕ}
 use lib.IntN.{ℤ, pos}
-use mir.Syntax.{w64}
-use mir.Facts.{to_z-of_z}
 use borrow.Author.Rules.{rules}
 use Rattle.std.specs.Prelude.{Option, Ok, Err, Result}
 use Rattle.strided.specs.Memory.{code_of}
@@ -13,6 +11,7 @@ use Rattle.strided.specs.declared.Purpose.{Purpose}
 use Rattle.strided.specs.declared.Refusal.{Refusal}
 use Rattle.layout.specs.Checked.{Checked}
 use Rattle.layout.specs.declared.Layout.{Layout}
+use Rattle.gougelily.proofs.Answers.{read_code}
 use Rattle.gougelily.proofs.checks.gougelily_check_layout.Goals as goal
 
 -- 0 where nothing is refused
@@ -26,7 +25,7 @@ checked_as refused es sizes ss (Err q) e = sym (ap told e)
 pub returns : goal.returns
 returns c =
     let a = c.args in
-    to_z-of_z {w = w64} (record { sfits = c.code.type_inv })
-    ∙ c.code.ensures (λ value. pos 0) (λ value m h p. search rules)
+    read_code c.code.type_inv
+    (c.code.ensures (λ value. pos 0) (λ value m h p. search rules)
     ∙ checked_as _ a.extents.now a.sizes.now a.strides.now _ c.check_layout-answer.ensures
-    ∙ ap (λ (u : Purpose). told (layout_refused a.extents.now a.sizes.now a.strides.now u)) c.purpose_of.ensures
+    ∙ ap (λ (u : Purpose). told (layout_refused a.extents.now a.sizes.now a.strides.now u)) c.purpose_of.ensures)

@@ -2,13 +2,12 @@
 use mathlib.Core.Path.{◌≡◌, refl, ◌∙◌}
 use lib.IntN.{pos}
 use borrow.Author.Rules.{rules}
-use mir.Syntax.{w64}
-use mir.Facts.{to_z-of_z}
 use Rattle.std.specs.Prelude.{Ok, Err, Result}
 use Rattle.strided.specs.Memory.{code_of}
 use Rattle.strided.specs.declared.Refusal.{Refusal}
 use Rattle.judge.specs.Memory.{verdict_number, judged_number}
 use Rattle.judge.specs.declared.Verdict.{Verdict}
+use Rattle.gougelily.proofs.Answers.{read_code}
 use Rattle.gougelily.proofs.judging.gougelily_judge.Goals as goal
 
 judged_as : (answer : Result Verdict Refusal) → code_of (λ verdict. pos (verdict_number verdict)) answer ≡ judged_number answer
@@ -21,7 +20,6 @@ returns c =
       answer = c.judge-judged.result;
       judges = c.judge-judged.ensures;
       code =
-          to_z-of_z {w = w64} (record { sfits = c.code.type_inv })
-          ∙ c.code.ensures (λ verdict. pos (verdict_number verdict)) (λ verdict m h p. search rules)
-          ∙ judged_as c.judge-judged.result;
+          read_code c.code.type_inv
+          (c.code.ensures (λ verdict. pos (verdict_number verdict)) (λ verdict m h p. search rules) ∙ judged_as c.judge-judged.result);
     }

@@ -1,15 +1,14 @@
 -- `gougelily::sessions::gougelily_begin_session` meets its contract. Assumes nothing.
-use mathlib.Core.Path.{◌≡◌, ◌∙◌, subst}
+use mathlib.Core.Path.{◌≡◌, subst}
 use Rattle.strided.specs.Memory.{purpose_of}
 use Rattle.strided.specs.Machine.{machine_of}
 use Rattle.strided.specs.declared.Purpose.{Purpose}
 use Rattle.session.specs.Session.{Given, given, begun}
 use Rattle.session.specs.declared.Session.{Session}
 use Rattle.session.specs.Made.{Lent}
-use mir.Facts.{to_z-of_z}
 use Rattle.gougelily.proofs.Numbers.{handed}
+use Rattle.gougelily.proofs.Answers.{read_code}
 use Rattle.gougelily.proofs.sessions.gougelily_begin_session.Goals as goal
-use mir.Syntax.{w64}
 use Rattle.std.specs.Prelude.{Result}
 use Rattle.strided.specs.declared.Refusal.{Refusal}
 
@@ -24,5 +23,5 @@ returns c =
     handed (λ (s : Session). begun (of (purpose_of a.wanted a.leading)))
     c.read_numbers-numbers.ensures
     c.put_numbers.ensures
-    (to_z-of_z {w = w64} (record { sfits = c.code_of.type_inv }) ∙ c.code_of.ensures)
+    (read_code c.code_of.type_inv c.code_of.ensures)
     (lent_as of c.purpose_of.ensures c.begin_lent-answer.ensures)

@@ -1,11 +1,9 @@
 -- `gougelily::sessions::gougelily_join_session` meets its contract. Assumes nothing.
 use Rattle.session.specs.Session.{joined}
 use Rattle.session.specs.declared.Session.{Session}
-use mir.Facts.{to_z-of_z}
-use mathlib.Core.Path.{◌∙◌}
 use Rattle.gougelily.proofs.Numbers.{handed}
+use Rattle.gougelily.proofs.Answers.{read_code}
 use Rattle.gougelily.proofs.sessions.gougelily_join_session.Goals as goal
-use mir.Syntax.{w64}
 
 pub returns : goal.returns
 returns c =
@@ -13,5 +11,5 @@ returns c =
     handed (λ (s : Session). joined s args.size args.joining.now)
     c.read_numbers-numbers.ensures
     c.put_numbers.ensures
-    (to_z-of_z {w = w64} (record { sfits = c.code_of.type_inv }) ∙ c.code_of.ensures)
+    (read_code c.code_of.type_inv c.code_of.ensures)
     c.join_lent-answer.ensures

@@ -8,4 +8,4 @@ pub returns : goal.returns
 returns c =
     let a = c.args in
     let p = c.requires in
-    ap (set a.table.now a.operands) c.index_order.ensures ∙ row-added 8 (replicate 64 0) a.table.now a.operands p.table_value p.operands_bound _
+    ap (set a.table.now a.operands) c.index_order_into.ensures ∙ row-added 8 (replicate 64 0) a.table.now a.operands p.table_value p.operands_bound _

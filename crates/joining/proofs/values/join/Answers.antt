@@ -12,11 +12,11 @@ pub returns-in_err-join_lent : goal.returns-in_err-join_lent
 returns-in_err-join_lent c =
     let a = c.args in
     let p = err_from_is_err_and c.from_residual.result c.from_residual.ensures.1 in
-    rw (p.1, p.2) (value_refused _ c.join_lent.ensures.answers c.in_err-join_lent.was ∙ ap (λ (n : Numbers). joined (laid_out a.session n) a.size a.joining.now) c.numbers_of-numbers.ensures)
+    rw (p.1, p.2) (value_refused _ c.join_lent.ensures.answers c.in_err-join_lent.was ∙ ap (λ (n : Numbers). joined (laid_out a.session n) a.size a.joining.now) c.from-numbers.ensures)
 
 pub returns : goal.returns
 returns c =
     let a = c.args in
     ap (λ (s : Session). Ok s) c.put_numbers.ensures
     ∙ value_served _ c.join_lent.ensures c.in_ok-join_lent.was
-    ∙ ap (λ (n : Numbers). joined (laid_out a.session n) a.size a.joining.now) c.numbers_of-numbers.ensures
+    ∙ ap (λ (n : Numbers). joined (laid_out a.session n) a.size a.joining.now) c.from-numbers.ensures

@@ -12,11 +12,11 @@ pub returns-in_err-leave_lent : goal.returns-in_err-leave_lent
 returns-in_err-leave_lent c =
     let a = c.args in
     let p = err_from_is_err_and c.from_residual.result c.from_residual.ensures.1 in
-    rw (p.1, p.2) (value_refused _ c.leave_lent.ensures.answers c.in_err-leave_lent.was ∙ ap (λ (n : Numbers). left (laid_out a.session n) a.operand) c.numbers_of-numbers.ensures)
+    rw (p.1, p.2) (value_refused _ c.leave_lent.ensures.answers c.in_err-leave_lent.was ∙ ap (λ (n : Numbers). left (laid_out a.session n) a.operand) c.from-numbers.ensures)
 
 pub returns : goal.returns
 returns c =
     let a = c.args in
     ap (λ (s : Session). Ok s) c.put_numbers.ensures
     ∙ value_served _ c.leave_lent.ensures c.in_ok-leave_lent.was
-    ∙ ap (λ (n : Numbers). left (laid_out a.session n) a.operand) c.numbers_of-numbers.ensures
+    ∙ ap (λ (n : Numbers). left (laid_out a.session n) a.operand) c.from-numbers.ensures

@@ -4,7 +4,7 @@ use Rattle.judge.proofs.Passing.{Checking}
 use Rattle.judge.proofs.pass.see_text.Given as goal
 
 abbrev pub invariant-loop-rest : goal.invariant-loop-rest
-invariant-loop-rest l = Checking l.extents l.text l.rest l.out
+invariant-loop-rest l = Checking l.cells.extents.now l.text l.rest l.out
 
 abbrev pub decreases-loop-rest : goal.decreases-loop-rest
 decreases-loop-rest l = length l.rest

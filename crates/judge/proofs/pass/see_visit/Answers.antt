@@ -8,4 +8,4 @@ use Rattle.judge.proofs.pass.see_visit.Goals as goal
 
 pub returns : goal.returns
 returns c =
-    sees_to c.args.extents.now c.read_visit.ensures c.in_ok-axis.was c.requires (search rules) _ (ap not c.stays-inside.ensures)
+    sees_to c.args.cells.extents.now c.read_visit.ensures c.in_ok-run.was c.args.cells.few (search rules) _ (ap not c.stays-inside.ensures)

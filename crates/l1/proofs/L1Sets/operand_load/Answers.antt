@@ -1,16 +1,15 @@
 -- `l1::L1Sets::operand_load` meets its contract. The invariant: m is the product of the blocks before i that bring lines into one set,
 -- saturated. Assumes nothing.
 use native.Mathlib.Omega.{arith}
-use mathlib.Core.Path.{◌≡◌, ap, ◌∙◌}
+use mathlib.Core.Path.{◌≡◌, sym, ap, ◌∙◌}
 use Prim.Native.Nat.{ℕ, ◌*◌, min}
 use native.Mathlib.Nat.{mul-one}
 use lib.ListN.{get_or}
-use borrow.Author.Tests.{eq-eqb, ne_eqb}
 use Rattle.laws.specs.Cut.Saturate.{min-mul-left}
 use Rattle.l1.proofs.Loads.{product_by_none, product_by_more}
 use Rattle.l1.specs.Live.{top, product_by}
 use Rattle.l1.proofs.L1Sets.operand_load.Goals as goal
-use Rattle.l1.proofs.L1Sets.operand_load.Goals.{then-live-i-eq1, else-live-i-eq1}
+use Rattle.l1.proofs.L1Sets.operand_load.Goals.{then-alias_at, else-alias_at}
 
 -- a product that is saturated is cut off as the product itself
 cut_off : (x : ℕ) {y r : ℕ} → y ≡ min x 18446744073709551615 → r ≡ min y top → r ≡ min x top
@@ -25,9 +24,9 @@ loop-i-preserved c = let a = c.args in
     let p : ℕ = product_by a.live a.blocks.now i in
     let b : ℕ = get_or a.blocks.now i 0 in
     let e = product_by_more a.live a.blocks.now i in
-    elim c.if-live-i-eq1.branch [
-      | then-live-i-eq1 w ↦ rw (e, eq-eqb _ _ w.if-live-i-eq1.true) (w.m-is ∙ cut_off (c.loop-i.m * b) w.saturating_mul.ensures w.min-m.ensures ∙ ap (λ (x : ℕ). min (x * b) top) c.loop-i.invariant ∙ min-mul-left p b top)
-      | else-live-i-eq1 w ↦ rw (e, ne_eqb _ _ w.if-live-i-eq1.false, mul-one) (w.m-is ∙ c.loop-i.invariant)
+    elim c.if-alias_at.branch [
+      | then-alias_at w ↦ rw (e, sym w.if-alias_at.ensures) (w.m-is ∙ cut_off (c.loop-i.m * b) w.saturating_mul.ensures w.min-m.ensures ∙ ap (λ (x : ℕ). min (x * b) top) c.loop-i.invariant ∙ min-mul-left p b top)
+      | else-alias_at w ↦ rw (e, sym w.if-alias_at.ensures, mul-one) (w.m-is ∙ c.loop-i.invariant)
     ]
 
 pub returns : goal.returns

@@ -1,25 +1,17 @@
 -- `mark::quick::some_stays` meets its contract. Assumes nothing.
-use Rattle.std.proofs.Common.{rules, sym, ◌∙◌, ap, ◌≡◌}
-use Rattle.std.proofs.Math.Nat.{le_antisymm}
-use Rattle.strided.specs.Base.{some_of}
+use mathlib.Core.Path.{refl, ◌∙◌}
+use native.Mathlib.Omega.{arith}
+use lib.ListN.{length}
+use Rattle.std.proofs.Common.{rules}
+use Rattle.std.proofs.lemmas.Iterator.{YieldsList-from_range}
+use Rattle.std.proofs.lemmas.Iterator.Search.{any_from_yields_List}
 use Rattle.strided.specs.Mark.{stays_at}
-use Rattle.laws.specs.Refusals.Operands.{some_of_empty, some_of_step, some_of_found}
+use Rattle.mark.proofs.Counting.{any_counted}
 use Rattle.mark.proofs.quick.some_stays.Goals as goal
 
-pub loop-i-init : goal.loop-i-init
-loop-i-init c = some_of_empty _
-
-pub returns-then-stays : goal.returns-then-stays
-returns-then-stays c =
-    let a = c.args in
-    let holds : stays_at a.operand.extents.now a.operand.strides.now c.loop-i.i ≡ c.stays.result = search rules in
-    sym (some_of_found _ c.loop-i.i _ c.loop-i-test.true (holds ∙ c.if-stays.true))
-
-pub loop-i-preserved : goal.loop-i-preserved
-loop-i-preserved c =
-    let a = c.args in
-    let fails : stays_at a.operand.extents.now a.operand.strides.now c.loop-i.i ≡ c.stays.result = search rules in
-    some_of_step _ c.loop-i.i c.loop-i.invariant (fails ∙ c.if-stays.false)
-
 pub returns : goal.returns
-returns c = sym (ap (some_of _ 0) (le_antisymm c.loop-i-test.false c.loop-i.auto.i-end) ∙ c.loop-i.invariant)
+returns c =
+    let o = c.args.operand in
+    let n = length o.extents.now in
+    let t = stays_at o.extents.now o.strides.now in
+    any_from_yields_List t _ _ _ c.any.ensures.ran (YieldsList-from_range 0 n n refl (omega arith)) (λ i b q k. search rules) ∙ any_counted t 0 n

@@ -7,19 +7,22 @@ use Rattle.strided.specs.Memory.{plan_memory, purpose_of}
 use Rattle.laws.specs.Plan.Answers.{not-refused, planned_is}
 use Rattle.parts.proofs.Laws.{some-refused, none_served, plan_refused}
 use Rattle.parts.proofs.plans.parts_plan.Goals as goal
+use Rattle.parts.proofs.plans.parts_plan.Goals.{After-plan}
+
+-- what was returned
+made : (c : After-plan) → let a = c.args in c.plan.result ≡ planned (machine_of a.line a.cache a.way a.live) a.extents.now a.sizes.now a.strides.now (purpose_of a.kind a.chosen)
+made c = let a = c.args in c.plan.ensures ∙ ap (planned (machine_of a.line a.cache a.way a.live) a.extents.now a.sizes.now a.strides.now) c.purpose_of.ensures
 
 pub returns-in-Err : goal.returns-in-Err
 returns-in-Err c =
-    -- what was returned
     let a = c.args in
     let m = machine_of a.line a.cache a.way a.live in
-    let made : c.plan-planned.result ≡ planned m a.extents.now a.sizes.now a.strides.now (purpose_of a.kind a.chosen) = c.plan-planned.ensures ∙ ap (planned m a.extents.now a.sizes.now a.strides.now) c.purpose_of.ensures in
-    some-refused _ (plan_refused m a.extents.now a.sizes.now a.strides.now (purpose_of a.kind a.chosen) (sym made ∙ c.in-Err.is)) c.number.ensures
+    let is = sym (made (goal.at.returns-in-Err c).After-plan) ∙ c.in-Err.is in
+    some-refused _ (plan_refused m a.extents.now a.sizes.now a.strides.now (purpose_of a.kind a.chosen) is) c.number.ensures
 
-pub returns-in-Ok : goal.returns-in-Ok
-returns-in-Ok c =
+pub returns : goal.returns
+returns c =
     let a = c.args in
     let m = machine_of a.line a.cache a.way a.live in
-    let made : c.plan-planned.result ≡ planned m a.extents.now a.sizes.now a.strides.now (purpose_of a.kind a.chosen) = c.plan-planned.ensures ∙ ap (planned m a.extents.now a.sizes.now a.strides.now) c.purpose_of.ensures in
-    let is = sym made ∙ c.in-Ok.is in
+    let is = sym (made (goal.at.returns c).After-plan) ∙ c.in-Ok.is in
     none_served _ (not-refused m a.extents.now a.sizes.now a.strides.now (purpose_of a.kind a.chosen) is) (ap plan_memory (planned_is m a.extents.now a.sizes.now a.strides.now (purpose_of a.kind a.chosen) is))

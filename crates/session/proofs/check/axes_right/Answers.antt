@@ -18,18 +18,18 @@ use Rattle.session.proofs.check.axes_right.Goals.{After-session, After-layout-la
 
 -- the layout's slices, and its purpose
 module _ (c : After-layout-layout) where
-  extents_are : c.layout-layout.result.extents.now ≡ take c.args.session.now.rank c.args.session.now.extents
+  extents_are : c.layout-layout.result.extents.now ≡ take c.args.right.session.now.rank c.args.right.session.now.extents
   extents_are = let q = c.laid-laid.ensures in c.layout-layout.ensures.extents ∙ (λ i. take (q.numbers i).rank (q.extents i))
 
-  strides_are : c.layout-layout.result.strides.now ≡ take (c.args.session.now.rank * c.args.session.now.operands) c.args.session.now.strides
+  strides_are : c.layout-layout.result.strides.now ≡ take (c.args.right.session.now.rank * c.args.right.session.now.operands) c.args.right.session.now.strides
   strides_are = let q = c.laid-laid.ensures in c.layout-layout.ensures.strides ∙ (λ i. take ((q.numbers i).rank * (q.numbers i).operands) (q.strides i))
 
-  operands_are : c.layout-layout.result.operands ≡ c.args.session.now.operands
+  operands_are : c.layout-layout.result.operands ≡ c.args.right.session.now.operands
   operands_are = c.layout-layout.ensures.operands ∙ ap (λ n. n.operands) c.laid-laid.ensures.numbers
 
 -- the weights are the layout's
-weighed : (c : After-session) → c.session.inside.weights.now ≡ weights_in (numbers_of c.args.session.now) c.args.session.now.extents c.args.session.now.strides
-weighed c = ap (λ s. s.weights) c.session.view_is ∙ c.requires.weights_right
+weighed : (c : After-session) → c.session.inside.weights.now ≡ weights_in (numbers_of c.args.right.session.now) c.args.right.session.now.extents c.args.right.session.now.strides
+weighed c = ap (λ s. s.weights) c.session.view_is ∙ c.requires
 
 -- the fresh extents have their places still
 places : (c : After-stays_kept_into-found) → length c.stays_kept_into-found.new.es ≡ 64
@@ -69,7 +69,7 @@ strides_right-moves-requires c =
 
 pub returns : goal.returns
 returns c =
-    let s = c.args.session.now in
+    let s = c.args.right.session.now in
     let i = c.session.inside in
     let q = c.laid-laid.ensures in
     let at = (goal.at.returns c).After-layout-layout in

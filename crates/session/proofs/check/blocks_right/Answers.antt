@@ -9,7 +9,7 @@ use Rattle.session.proofs.check.blocks_right.Goals.{After-session, After-blocks_
 -- the plan's axes can be cut
 cut : (c : After-session) → let i = c.session.inside in Cuttable i.numbers i.extents.now i.sizes.now i.plan_extents.now i.plan_strides.now
 cut c =
-    subst (λ s. Cuttable (numbers_of s) s.extents s.sizes s.plan.extents s.plan.strides) (sym c.session.view_is) (cuttable_of c.args.session.now c.requires.layout_right c.requires.axes_right)
+    subst (λ s. Cuttable (numbers_of s) s.extents s.sizes s.plan.extents s.plan.strides) (sym c.session.view_is) (cuttable_of c.args.right.session.now c.args.right.right c.requires)
 
 -- the fresh costs and blocks
 laid : (c : After-blocks_kept_into) → let i = c.session.inside in BlocksAt i.numbers i.extents.now i.sizes.now i.plan_extents.now i.plan_strides.now c.compute_costs-c.result c.blocks_kept_into.new.blocks

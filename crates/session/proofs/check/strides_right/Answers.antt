@@ -1,6 +1,10 @@
 -- `session::check::strides_right` meets its contract. Assumes nothing.
 use mathlib.Core.Path.{◌≡◌, sym, ap, ◌∙◌}
-use Prim.Native.Nat.{ℕ, ◌-◌, ◌*◌}
+use mathlib.Core.List.{List}
+use lib.IntN.{ℤ, pos}
+use Rattle.strided.specs.Base.{padded}
+use Rattle.strided.specs.Order.{pick}
+use Prim.Native.Nat.{ℕ, ◌+◌, ◌-◌, ◌*◌}
 use native.Mathlib.Omega.{arith}
 use native.Mathlib.Nat.{le_antisymm}
 use lib.ListN.{take, drop}
@@ -21,7 +25,8 @@ loop-k-preserved c =
       l.invariant.1,
       l.invariant.2,
       omega (arith, t),
-      rows_next a.rows.strides.now a.rows.pitch a.axes.now a.plan_strides.now l.invariant.2 l.k (omega (arith, f, t)) l.alike c.row_picked-alike.result l.invariant.4 c.row_picked-alike.ensures,
+      rows_next a.rows.strides.now a.rows.pitch a.axes.now a.plan_strides.now l.invariant.2 l.k (omega (arith, f, t)) l.alike c.row_picked-alike.result l.invariant.4
+          (c.row_picked-alike.ensures ∙ ap (λ (r : List ℤ). same_ints (padded 64 (pos 0) (pick (pos 0) r a.axes.now)) (take (l.k * 64 + 64 - l.k * 64) (drop (l.k * 64) a.plan_strides.now))) (rest_is (l.k * a.rows.pitch) a.rows.strides.now)),
     )
 
 pub returns : goal.returns

@@ -12,7 +12,7 @@ use Rattle.session.proofs.check.weights_right.Goals as goal
 pub weights_kept-w-requires : goal.weights_kept-w-requires
 weights_kept-w-requires c =
     let q = c.laid-laid.ensures in
-    laid_as (λ n E Z S. TableOf (take (n.rank * n.operands) S) n.rank n.operands c.args.table.now) (sym q.numbers) (sym q.extents) (sym q.sizes) (sym q.strides) c.requires.table_of
+    laid_as (λ n E Z S. TableOf (take (n.rank * n.operands) S) n.rank n.operands c.args.ranked.table.now) (sym q.numbers) (sym q.extents) (sym q.sizes) (sym q.strides) c.args.ranked.ranks
 
 pub same-requires : goal.same-requires
 same-requires c =
@@ -24,9 +24,9 @@ same-requires c =
 
 pub returns : goal.returns
 returns c =
-    let s = c.args.session.now in
+    let s = c.args.ranked.right.session.now in
     let q = c.laid-laid.ensures in
-    let e : c.weights_kept-w.result ≡ weights_in (numbers_of c.args.session.now) c.args.session.now.extents c.args.session.now.strides =
+    let e : c.weights_kept-w.result ≡ weights_in (numbers_of c.args.ranked.right.session.now) c.args.ranked.right.session.now.extents c.args.ranked.right.session.now.strides =
     c.weights_kept-w.ensures ∙ (λ i. weights_in (q.numbers i) (q.extents i) (q.strides i)) in
     decides_for (λ x. x.weights ≡ weights_in (numbers_of s) s.extents s.strides) c.session.view_is
     (decides_as (decides_is c.same.ensures (decides_nats _ _)) (λ w. sym w ∙ e) (λ w. e ∙ sym w))

@@ -1,22 +1,17 @@
 -- `session::compare::same` meets its contract. Assumes nothing.
-use mathlib.Core.Path.{refl}
-use native.Mathlib.Omega.{arith}
-use Rattle.session.proofs.Comparing.{same_next, same_over}
+use mathlib.Core.Path.{◌≡◌, refl, sym, ap, ◌∙◌}
+use Prim.Native.Nat.{ℕ}
+use lib.Bits.{bit_xor}
+use lib.Dec.{eqb}
+use lib.ListN.{get_or}
+use Rattle.std.proofs.Common.{rules}
+use Rattle.session.specs.Session.{same_nats}
+use Rattle.session.proofs.Comparing.{xor_none, none_same}
 use Rattle.session.proofs.compare.same.Goals as goal
-
-pub loop-i-init : goal.loop-i-init
-loop-i-init c = (c.requires, omega arith, refl)
-
-pub loop-i-preserved : goal.loop-i-preserved
-loop-i-preserved c =
-    let l = c.loop-i in
-    let e = l.invariant.0 in
-    let t = c.loop-i-test.true in
-    (e, omega arith, same_next c.args.a.now c.args.b.now l.i l.differing t (omega (arith, e, t)) l.invariant.2)
 
 pub returns : goal.returns
 returns c =
-    let l = c.loop-i in
-    let e = l.invariant.0 in
-    let t = c.loop-i-test.false in
-    same_over c.args.a.now c.args.b.now l.i l.differing t (omega (arith, e, t)) l.invariant.2
+    let a = c.args.a.now in
+    let b = c.args.b.now in
+    none_same 0 eqb same_nats refl (λ x y xs ys. refl) a b c.alike.ensures refl (sym c.requires)
+    (λ i x h p. let is : x ≡ bit_xor (get_or a i 0) (get_or b i 0) = search (rules, p) in ap (λ (y : ℕ). eqb y 0) is ∙ xor_none (get_or a i 0) (get_or b i 0))

@@ -3,32 +3,27 @@ use mathlib.Core.Path.{◌≡◌, sym, ◌∙◌}
 use lib.ListN.{length}
 use Rattle.strided.specs.Base.{padded}
 use Rattle.strided.specs.Fuse.{plan_axes}
-use Rattle.strided.specs.Layout.{lead, extents}
+use Rattle.strided.specs.Layout.{extents}
 use Rattle.strided.specs.Order.{fusing_order}
 use Rattle.strided.specs.Plan.{stride_table}
-use Rattle.strided.specs.Weights.{weights}
 use Rattle.arrange.specs.Fusing.{in_order_lem, as_planned}
 use Rattle.session.specs.Made.{purpose_in}
-use Rattle.session.proofs.Keeping.{order_is}
 use Rattle.session.proofs.kept.axes_kept_into.Goals as goal
-use Rattle.session.proofs.kept.axes_kept_into.Goals.{After-order_into}
+use Rattle.session.proofs.kept.axes_kept_into.Goals.{After-order_kept_into}
 
 -- the order that the weights give
-ordered : (c : After-order_into) → let l = c.layout-layout.result in
-    c.order_into.new.out ≡ padded 64 0 (fusing_order l.extents.now l.operands l.strides.now (purpose_in c.args.laid.now.numbers))
+ordered : (c : After-order_kept_into) → let l = c.layout-layout.result in
+    c.order_kept_into.new.order ≡ padded 64 0 (fusing_order l.extents.now l.operands l.strides.now (purpose_in c.args.laid.now.numbers))
 ordered c =
-    let l = c.layout-layout.result in
     let q = c.layout-layout.ensures in
     let u = purpose_in c.args.laid.now.numbers in
-    c.order_into.ensures
-    ∙ order_is l.extents.now l.operands l.strides.now u l.fits.rank-few l.fits.operands_few _
-    (c.requires.weights_value ∙ sym (λ i. padded 64 0 (weights (q.extents i) (q.operands i) (q.strides i) (lead u))))
+    c.order_kept_into.ensures ∙ sym (λ i. padded 64 0 (fusing_order (q.extents i) (q.operands i) (q.strides i) u))
 
 pub plan_axes_into-requires : goal.plan_axes_into-requires
 plan_axes_into-requires c =
     let l = c.layout-layout.result in
     record {
-      order = in_order_lem l.extents.now l.operands l.strides.now (purpose_in c.args.laid.now.numbers) l.fits.rank-few (ordered (goal.at.plan_axes_into-requires c).After-order_into);
+      order = in_order_lem l.extents.now l.operands l.strides.now (purpose_in c.args.laid.now.numbers) l.fits.rank-few (ordered (goal.at.plan_axes_into-requires c).After-order_kept_into);
       zeros = (c.requires.zeros.extents, c.requires.zeros.strides);
     }
 
@@ -40,7 +35,7 @@ returns c =
     let es = l.extents.now in
     let ss = l.strides.now in
     let few = l.fits.rank-few in
-    let o = ordered (goal.at.returns c).After-order_into in
+    let o = ordered (goal.at.returns c).After-order_kept_into in
     let found = c.plan_axes_into.ensures in
     record {
       weights = c.requires.weights_value;

@@ -5,8 +5,7 @@ use native.Mathlib.Omega.{arith}
 use lib.ListN.{length, take}
 use lib.Seq.{get_or-take, length-take-le}
 use Rattle.strided.specs.Base.{padded}
-use Rattle.strided.specs.Layout.{lead, extents}
-use Rattle.strided.specs.Weights.{weights}
+use Rattle.strided.specs.Layout.{extents}
 use Rattle.strided.specs.Order.{fusing_order}
 use Rattle.strided.specs.Plan.{stride_table}
 use Rattle.laws.specs.Base.Arrays.{length-padded}
@@ -15,36 +14,32 @@ use Rattle.fuse.specs.Kept.{stays}
 use Rattle.fuse.proofs.Keeping.{Stand, stand_count, stand_inside, stand_rank, stand_extents, stand_strides}
 use Rattle.fuse.proofs.Planning.{zeros_behind, made_long, as_planned as as-fused}
 use Rattle.session.specs.Made.{purpose_in}
-use Rattle.session.proofs.Keeping.{order_is}
 use Rattle.session.proofs.Holding.{stays_as}
 use Rattle.session.proofs.kept.stays_kept_into.Goals as goal
-use Rattle.session.proofs.kept.stays_kept_into.Goals.{After-order_into}
+use Rattle.session.proofs.kept.stays_kept_into.Goals.{After-order_kept_into}
 
 -- the number of an axis is a byte
 below-256 : {x n : ℕ} → x < n → n ≤ 64 → x < 256
 below-256 h k = omega arith
 
 -- the order that the weights give
-ordered : (c : After-order_into) → let l = c.layout-layout.result in
-    c.order_into.new.out ≡ padded 64 0 (fusing_order l.extents.now l.operands l.strides.now (purpose_in c.args.laid.now.numbers))
+ordered : (c : After-order_kept_into) → let l = c.layout-layout.result in
+    c.order_kept_into.new.order ≡ padded 64 0 (fusing_order l.extents.now l.operands l.strides.now (purpose_in c.args.laid.now.numbers))
 ordered c =
-    let l = c.layout-layout.result in
     let q = c.layout-layout.ensures in
     let u = purpose_in c.args.laid.now.numbers in
-    c.order_into.ensures
-    ∙ order_is l.extents.now l.operands l.strides.now u l.fits.rank-few l.fits.operands_few _
-    (c.requires.weights_value ∙ sym (λ i. padded 64 0 (weights (q.extents i) (q.operands i) (q.strides i) (lead u))))
+    c.order_kept_into.ensures ∙ sym (λ i. padded 64 0 (fusing_order (q.extents i) (q.operands i) (q.strides i) u))
 
 pub fused_into-requires : goal.fused_into-requires
 fused_into-requires c =
     let l = c.layout-layout.result in
-    let t = in_order_lem l.extents.now l.operands l.strides.now (purpose_in c.args.laid.now.numbers) l.fits.rank-few (ordered (goal.at.fused_into-requires c).After-order_into) in
-    record { order = t; out = zeros_behind (length (take (length l.extents.now) c.order_into.new.out)) (omega (arith, t.all, l.fits.rank-few)) }
+    let t = in_order_lem l.extents.now l.operands l.strides.now (purpose_in c.args.laid.now.numbers) l.fits.rank-few (ordered (goal.at.fused_into-requires c).After-order_kept_into) in
+    record { order = t; out = zeros_behind (length (take (length l.extents.now) c.order_kept_into.new.order)) (omega (arith, t.all, l.fits.rank-few)) }
 
 pub kept_axes_into-requires : goal.kept_axes_into-requires
 kept_axes_into-requires c =
     let l = c.layout-layout.result in
-    let t = in_order_lem l.extents.now l.operands l.strides.now (purpose_in c.args.laid.now.numbers) l.fits.rank-few (ordered (goal.at.kept_axes_into-requires c).After-order_into) in
+    let t = in_order_lem l.extents.now l.operands l.strides.now (purpose_in c.args.laid.now.numbers) l.fits.rank-few (ordered (goal.at.kept_axes_into-requires c).After-order_kept_into) in
     let long = made_long l.extents.now l.fits t {rs = l.strides.now} refl refl refl c.fused_into.ensures (sym t.all) in
     record { arrays = (long, omega (arith, long, t.all, l.fits.rank-few)); inside = (λ j h. below-256 (t.inside j (omega (arith, long, t.all))) l.fits.rank-few); zeros = c.requires.es_value }
 
@@ -55,11 +50,11 @@ returns c =
     let ss = l.strides.now in
     let m = l.operands in
     let u = purpose_in c.args.laid.now.numbers in
-    let is = ordered (goal.at.returns c).After-order_into in
+    let is = ordered (goal.at.returns c).After-order_kept_into in
     let t = in_order_lem es m ss u l.fits.rank-few is in
     let made = c.fused_into.ensures in
     let k = c.kept_axes_into in
-    let O = take (length es) c.order_into.new.out in
+    let O = take (length es) c.order_kept_into.new.order in
     let F = take (length es) c.fused_into.new.fused in
     let long = made_long es l.fits t {rs = ss} refl refl refl made (sym t.all) in
     let few : length F ≤ 64 = omega (arith, long, t.all, l.fits.rank-few) in

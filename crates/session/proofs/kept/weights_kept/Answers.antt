@@ -11,15 +11,17 @@ use Rattle.session.specs.Tabled.{tabled_ranked}
 use Rattle.session.proofs.Tabling.{table_of}
 use Rattle.session.proofs.kept.weights_kept.Goals as goal
 
-pub first_weights_into-requires : goal.first_weights_into-requires
-first_weights_into-requires c =
+pub invariant_of-ranked : goal.invariant_of-ranked
+invariant_of-ranked c =
     let a = c.args.laid.now in
     let l = c.layout.result in
     let q = c.layout.ensures in
     let rank : length c.layout.result.extents.now ≡ c.args.laid.now.numbers.rank =
     ap length q.extents ∙ length-take-le a.numbers.rank a.extents.now (let e = a.all.0 in let f = a.axes in omega (arith, e, f)) in
-    (tabled_ranked l.extents.now l.strides.now c.args.table.now l.operands
-    (record { fits = l.fits; ranks = c.requires.is ∙ sym (λ i. table_of (q.strides i) (rank i) (q.operands i)) })).1
+    record {
+      moving = (tabled_ranked l.extents.now l.strides.now c.args.table.now l.operands
+          (record { fits = l.fits; ranks = c.requires.is ∙ sym (λ i. table_of (q.strides i) (rank i) (q.operands i)) })).1;
+    }
 
 pub returns : goal.returns
 returns c =

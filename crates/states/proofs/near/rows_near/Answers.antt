@@ -1,22 +1,25 @@
 -- `states::near::rows_near` meets its contract. Assumes nothing.
-use mathlib.Core.Bool.{false≢true}
-use mathlib.Core.Path.{subst}
-use Prim.Native.Nat.{◌≤◌, ◌<◌}
+use mathlib.Core.Path.{refl, sym, ap, ◌∙◌}
+use mathlib.Core.Bool.{Bool}
+use Prim.Native.Nat.{ℕ, ◌^◌}
+use native.Mathlib.Omega.{arith}
+use lib.IntN.{nat_abs}
+use Rattle.std.proofs.Common.{rules}
+use Rattle.std.proofs.lemmas.Iterator.{YieldsList-from_range}
+use Rattle.std.proofs.lemmas.Iterator.Search.{all_from_yields_List}
+use Rattle.strided.specs.Base.{every}
+use Rattle.strided.specs.Begin.{plan_row}
 use Rattle.strided.specs.declared.Plan.{Plan}
-use Rattle.states.proofs.Nearness.{rows_none, rows_next, rows_all}
+use Rattle.laws.specs.Base.Ranges.{all_of_range}
+use Rattle.layout.specs.Near.{all_below}
+use Rattle.states.proofs.Nearness.{rows_all}
 use Rattle.states.proofs.near.rows_near.Goals as goal
 
-pub loop-k-init : goal.loop-k-init
-loop-k-init c = rows_none c.args.plan.now
-
-pub row_near-requires : goal.row_near-requires
-row_near-requires c = subst (λ (p : Plan). c.loop-k.k < p.operands) c.plan.view_is c.loop-k-test.true
-
-pub loop-k-preserved : goal.loop-k-preserved
-loop-k-preserved c = rows_next c.args.plan.now c.loop-k.k c.loop-k.invariant c.row_near.ensures c.if-not-row_near.false
-
-pub returns-then-not-row_near : goal.returns-then-not-row_near
-returns-then-not-row_near c = λ h. absurd (false≢true h)
-
 pub returns : goal.returns
-returns c = λ h. rows_all c.args.plan.now c.loop-k.k c.loop-k.invariant (subst (λ (p : Plan). p.operands ≤ c.loop-k.k) c.plan.view_is c.loop-k-test.false)
+returns c =
+    let p = c.args.plan.now in
+    let n : ℕ = c.plan.inside.operands in
+    let near : ℕ → Bool = λ k. all_below nat_abs (2 ^ 40) (plan_row p k) in
+    let told = all_from_yields_List near _ _ _ c.all.ensures.ran (YieldsList-from_range 0 n n refl (omega arith)) (λ x b q k. search rules)
+    ∙ all_of_range near 0 n ∙ ap (λ (q : Plan). every near 0 q.operands) c.plan.view_is in
+    λ h. rows_all p (sym told ∙ h)

@@ -13,8 +13,8 @@ use Rattle.strided.specs.Begin.{plan_extents}
 use Rattle.strided.specs.Layout.{has_zero}
 use Rattle.strided.specs.declared.Plan.{Plan}
 use Rattle.summary.specs.Ahead.{rows_from, Ahead, met}
-use Rattle.walk.proofs.Stepping.{widths_here}
-use Rattle.walker.proofs.Walked.{course_acts, course_leads, may_move, walked_asks, walking_number, walking_less}
+use Rattle.walker.proofs.Walked.{course_acts, course_leads, may_move, walked_asks}
+use Rattle.walker.proofs.Left.{walking_fewer}
 use Rattle.summary.proofs.Summing.{no_cells, first_taken, summing_start, summing_while, summing_fit, summing_rows, summing_next, summing_end}
 use Rattle.summary.proofs.visits.summary_on.Goals as goal
 
@@ -29,12 +29,6 @@ moves-d-requires c =
     let some : false ≡ has_zero (plan_extents c.args.plan.now) = sym c.if-no_block.false ∙ c.no_block.ensures in
     let x = c.of-course in
     rw x.ensures (may_move (course_acts x.result x.ensures) (course_leads x.result x.ensures) (first_taken c.requires some))
-
-pub state_at-at-requires : goal.state_at-at-requires
-state_at-at-requires c =
-    let some : false ≡ has_zero (plan_extents c.args.plan.now) = sym c.if-no_block.false ∙ c.no_block.ensures in
-    let x = c.of-course in
-    rw x.ensures (widths_here _ _ (first_taken c.requires some) _ (course_acts x.result x.ensures))
 
 pub loop-more-init : goal.loop-more-init
 loop-more-init c =
@@ -60,15 +54,10 @@ with_blocks-sum-requires c =
     (sym c.plan.view_is) (summing_rows runs (rw c.of-course.ensures at c.take_stretch-x.ensures) d) in
     rw (from_is, by-is, stride-is) (record { runs_fit = summing_fit runs (rw c.of-course.ensures at c.take_stretch-x.ensures) d; ahead = ahead })
 
-pub overflow_add-number : goal.overflow_add-number
-overflow_add-number c =
-    let runs = summing_while c.loop-more.invariant c.loop-more-test.true in
-    record { fits = walking_number runs.walking (rw c.of-course.ensures at c.take_stretch-x.ensures) }
-
 pub loop-more-smaller : goal.loop-more-smaller
 loop-more-smaller c =
     let runs = summing_while c.loop-more.invariant c.loop-more-test.true in
-    walking_less runs.walking (rw c.of-course.ensures at c.take_stretch-x.ensures) (omega arith)
+    rw c.loop-more-test.true (walking_fewer runs.walking (rw c.of-course.ensures at c.take_stretch-x.ensures) (omega arith))
 
 pub loop-more-preserved : goal.loop-more-preserved
 loop-more-preserved c =

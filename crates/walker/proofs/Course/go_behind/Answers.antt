@@ -1,71 +1,57 @@
 -- `walker::Course::go_behind` meets its contract. Assumes nothing.
-use mathlib.Core.Bool.{false}
-use mathlib.Core.Path.{◌≡◌, sym, subst}
-use Prim.Native.Nat.{◌+◌, ◌-◌, ◌*◌, ◌^◌, ◌≤◌, ◌<◌}
-use lib.ListN.{get_or}
-use Rattle.strided.specs.declared.Plan.{Plan}
-use Rattle.walker.proofs.Going.{striding, may_go, gone_on, last_less, left_above, end_below, at_end, limit_less, gone_last, passed_short, passed_all}
+use borrow.Author.Rules.{rules}
+use mathlib.Core.Path.{subst}
+use Prim.Native.Nat.{ℕ, ◌^◌, ◌<◌}
+use Rattle.walker.proofs.Going.{course_on, left_asks, may_go, gone_on, last_less, left_above, end_below, at_end, limit_less, gone_last, passed_short, passed_all}
 use Rattle.walker.proofs.Course.go_behind.Goals as goal
+
+pub place-place-requires : goal.place-place-requires
+place-place-requires c = record { axis_bound = c.in-Some.y.small; standing = left_asks (course_on c.args.self.now c.in-Some.is c.requires.strides) }
 
 pub go_steps-requires : goal.go_steps-requires
 go_steps-requires c =
-    let k = c.requires in
-    let m = striding c.args.self.now.leads k.strides in
-    may_go m _ (limit_less m k.left_value.0 _ c.if-limit-left.true) k.left_value.1
+    let m = course_on c.args.self.now c.in-Some.is c.requires.strides in
+    let f : c.place-place.result.extent < 2 ^ 64 = search rules in
+    may_go m _ (limit_less m (rw c.in-Some.is at c.requires.left_value) _ c.if-limit-left.true) (subst (λ (n : ℕ). n < 2 ^ 64) c.place-place.ensures.extent f)
 
 pub returns-then-limit-left : goal.returns-then-limit-left
 returns-then-limit-left c =
-    let k = c.requires in
-    let m = striding c.args.self.now.leads k.strides in
-    passed_short m k.left_value.0 _ c.if-limit-left.true c.go_steps.ensures
+    rw c.in-Some.is (passed_short (course_on c.args.self.now c.in-Some.is c.requires.strides) (rw c.in-Some.is at c.requires.left_value) _ c.if-limit-left.true c.go_steps.ensures)
 
 pub ends_axis-requires : goal.ends_axis-requires
 ends_axis-requires c =
-    let k = c.requires in
-    let m = striding c.args.self.now.leads k.strides in
-    let a = c.args in
-    record {
-      by_bound = subst (λ (p : Plan). 0 < a.self.now.way.by → get_or a.at.now.counters a.self.now.way.axis 0 + (a.left - 1) * a.self.now.way.by ≤ get_or p.extents a.self.now.way.axis 0) (sym c.plan.view_is) (end_below m k.left_value.0);
-      left_nonzero = (left_above m k.left_value.0, subst (λ (p : Plan). get_or p.extents a.self.now.way.axis 0 < 2 ^ 64) (sym c.plan.view_is) k.left_value.1);
-    }
-
-pub overflow_sub-left : goal.overflow_sub-left
-overflow_sub-left c = let k = c.requires in
-    let m = striding c.args.self.now.leads k.strides in left_above m k.left_value.0
+    let m = course_on c.args.self.now c.in-Some.is c.requires.strides in
+    let v = rw c.in-Some.is at c.requires.left_value in
+    rw (c.place-place.ensures.here, c.place-place.ensures.extent) (left_above m v, end_below m v)
 
 pub leave-requires : goal.leave-requires
 leave-requires c =
-    let k = c.requires in
-    let m = striding c.args.self.now.leads k.strides in
-    let a = c.args in
-    let x = c.ends_axis.ensures c.if-ends_axis.true in
-    record {
-      strides = k.strides;
-      by_nonzero = (
-        x.0,
-        at_end m k.left_value.0 x.0
-            (subst (λ (p : Plan). a.self.now.way.inside ≡ false → get_or p.extents a.self.now.way.axis 0 - (get_or a.at.now.counters a.self.now.way.axis 0 + (a.left - 1) * a.self.now.way.by) ≤ a.self.now.way.by) c.plan.view_is x.1),
-      );
+    let m = course_on c.args.self.now c.in-Some.is c.requires.strides in record {
+      strides = c.requires.strides;
+      way = c.in-Some.is;
+      at_end = at_end m (rw c.in-Some.is at c.requires.left_value) (rw (c.place-place.ensures.here, c.place-place.ensures.extent) at (c.ends_axis.ensures c.if-ends_axis.true));
     }
 
 pub returns-then-ends_axis : goal.returns-then-ends_axis
-returns-then-ends_axis c = let k = c.requires in
-    let m = striding c.args.self.now.leads k.strides in passed_all m k.left_value.0 _ c.if-limit-left.false c.leave.ensures
+returns-then-ends_axis c =
+    rw c.in-Some.is (passed_all (course_on c.args.self.now c.in-Some.is c.requires.strides) (rw c.in-Some.is at c.requires.left_value) _ c.if-limit-left.false c.leave.ensures)
+
+pub overflow_sub-left : goal.overflow_sub-left
+overflow_sub-left c = left_above (course_on c.args.self.now c.in-Some.is c.requires.strides) (rw c.in-Some.is at c.requires.left_value)
 
 pub go_steps-requires-2 : goal.go_steps-requires-2
 go_steps-requires-2 c =
-    let k = c.requires in
-    let m = striding c.args.self.now.leads k.strides in
-    may_go m _ (last_less m k.left_value.0) k.left_value.1
+    let m = course_on c.args.self.now c.in-Some.is c.requires.strides in
+    let f : c.place-place.result.extent < 2 ^ 64 = search rules in
+    may_go m _ (last_less m (rw c.in-Some.is at c.requires.left_value)) (subst (λ (n : ℕ). n < 2 ^ 64) c.place-place.ensures.extent f)
 
-pub advance-requires : goal.advance-requires
-advance-requires c =
-    let k = c.requires in
-    let m = striding c.args.self.now.leads k.strides in
-    let g = gone_on m _ (last_less m k.left_value.0) c.go_steps-2.ensures in record { roomy = g.roomy; tiled = g.tiled; single = m.leads.single }
+pub advance-requires-2 : goal.advance-requires-2
+advance-requires-2 c =
+    let m = course_on c.args.self.now c.in-Some.is c.requires.strides in
+    let g = gone_on m _ (last_less m (rw c.in-Some.is at c.requires.left_value)) c.go_steps-2.ensures in record { roomy = g.roomy; tiled = g.tiled; single = c.args.self.now.single }
 
 pub returns : goal.returns
 returns c =
-    let k = c.requires in
-    let m = striding c.args.self.now.leads k.strides in
-    passed_all m k.left_value.0 _ c.if-limit-left.false (gone_last m k.left_value.0 c.go_steps-2.ensures c.advance.ensures)
+    let m = course_on c.args.self.now c.in-Some.is c.requires.strides in
+    let v = rw c.in-Some.is at c.requires.left_value in
+    rw c.in-Some.is (passed_all m v _ c.if-limit-left.false (gone_last m v c.go_steps-2.ensures c.advance-2.ensures))

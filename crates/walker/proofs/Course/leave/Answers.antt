@@ -6,66 +6,54 @@ use Prim.Native.Nat.{◌+◌, ◌≤◌}
 use lib.ListN.{set}
 use Rattle.strided.specs.declared.Plan.{Plan}
 use Rattle.advance.specs.Carry.{CarriedTo, state_of}
-use Rattle.walker.proofs.Going.{striding}
+use Rattle.walker.proofs.Going.{course_on}
 use Rattle.walker.proofs.Leaving.{shifts_there, tiled_there, roomy_there, left_inside_at, left_tile_at, left-whole-at, home_tile, home-zero, start_same}
 use Rattle.walker.proofs.Course.leave.Goals as goal
 
 pub shift-requires : goal.shift-requires
-shift-requires c =
-    let k = c.requires in
-    let m = striding c.args.self.now.leads k.strides in
-    shifts_there m k.by_nonzero.0 (home_tile m k.by_nonzero.0 c.if-y.true)
+shift-requires c = let m = course_on c.args.self.now c.requires.way c.requires.strides in shifts_there m (home_tile m c.if-y.true)
 
 pub carry-requires : goal.carry-requires
 carry-requires c =
-    let k = c.requires in
-    let m = striding c.args.self.now.leads k.strides in
-    let h = k.by_nonzero.0 in
-    let e = home_tile m h c.if-y.true in
-    record { roomy = roomy_there m h e (start_same m h) c.shift.ensures; tiled = tiled_there m h e (start_same m h) c.shift.ensures; last_le_rank = m.leads.single.most }
+    let m = course_on c.args.self.now c.requires.way c.requires.strides in
+    let e = home_tile m c.if-y.true in
+    record { roomy = roomy_there m e (start_same m) c.shift.ensures; tiled = tiled_there m e (start_same m) c.shift.ensures; last_le_rank = c.args.self.now.single.most }
 
 pub returns-then-carry : goal.returns-then-carry
 returns-then-carry c =
     let k = c.requires in
-    let m = striding c.args.self.now.leads k.strides in
-    let h = k.by_nonzero.0 in
-    rw c.if-carry.true (left_inside_at m h (home_tile m h c.if-y.true) (start_same m h) c.shift.ensures k.by_nonzero.1 c.if-y.true c.carry.ensures c.if-carry.true)
+    let m = course_on c.args.self.now k.way k.strides in
+    rw c.if-carry.true (left_inside_at m (home_tile m c.if-y.true) (start_same m) c.shift.ensures k.at_end c.args.self.now.single c.if-y.true c.carry.ensures c.if-carry.true)
 
 pub returns-else-carry : goal.returns-else-carry
 returns-else-carry c =
     let k = c.requires in
-    let m = striding c.args.self.now.leads k.strides in
-    let h = k.by_nonzero.0 in
     let a = c.args in
+    let m = course_on a.self.now k.way k.strides in
     let x = c.carry-else-carry in
-    left_tile_at m h (home_tile m h c.if-y.true) (start_same m h) c.shift.ensures k.by_nonzero.1 c.if-y.true c.carry.ensures c.if-carry.false
-    (subst (λ (q : Plan). CarriedTo false 0 q.rank a.self.now.plan.now a.self.now.widths c.carry.new.at x.result x.new.at) c.plan.view_is x.ensures)
+    left_tile_at m (home_tile m c.if-y.true) (start_same m) c.shift.ensures k.at_end a.self.now.single c.if-y.true c.carry.ensures c.if-carry.false
+    (subst (λ (q : Plan). CarriedTo false 0 q.rank a.self.now.tiling.plan.now a.self.now.tiling.widths c.carry.new.at x.result x.new.at) c.plan.view_is x.ensures)
 
 pub shift-requires-2 : goal.shift-requires-2
-shift-requires-2 c =
-    let k = c.requires in
-    let m = striding c.args.self.now.leads k.strides in
-    shifts_there m k.by_nonzero.0 (home-zero m k.by_nonzero.0 c.if-y.false)
+shift-requires-2 c = let m = course_on c.args.self.now c.requires.way c.requires.strides in shifts_there m (home-zero m c.if-y.false)
 
 pub carry-requires-2 : goal.carry-requires-2
 carry-requires-2 c =
-    let k = c.requires in
-    let m = striding c.args.self.now.leads k.strides in
-    let h = k.by_nonzero.0 in
-    let e = home-zero m h c.if-y.false in
+    let p = c.args.self.now.tiling.plan.now in
+    let m = course_on c.args.self.now c.requires.way c.requires.strides in
+    let e = home-zero m c.if-y.false in
     record {
-      roomy = roomy_there m h e refl c.shift-2.ensures;
-      tiled = tiled_there m h e refl c.shift-2.ensures;
-      last_le_rank = subst (λ (q : Plan). q.rank ≤ c.args.self.now.plan.now.rank) (sym c.plan.view_is) (le_refl c.args.self.now.plan.now.rank);
+      roomy = roomy_there m e refl c.shift-2.ensures;
+      tiled = tiled_there m e refl c.shift-2.ensures;
+      last_le_rank = subst (λ (q : Plan). q.rank ≤ p.rank) (sym c.plan.view_is) (le_refl p.rank);
     }
 
 pub returns : goal.returns
 returns c =
     let k = c.requires in
-    let m = striding c.args.self.now.leads k.strides in
-    let h = k.by_nonzero.0 in
     let a = c.args in
+    let m = course_on a.self.now k.way k.strides in
     let x = c.carry-2 in
-    let there = state_of (set a.at.now.tile_starts a.self.now.way.axis 0) (set a.at.now.counters a.self.now.way.axis 0) c.shift-2.new.o in
-    left-whole-at m h (home-zero m h c.if-y.false) refl c.shift-2.ensures k.by_nonzero.1 c.if-y.false
-    (subst (λ (q : Plan). CarriedTo false (a.self.now.way.axis + 1) q.rank a.self.now.plan.now a.self.now.widths there x.result x.new.at) c.plan.view_is x.ensures)
+    let there = state_of (set a.at.now.tile_starts a.y.axis 0) (set a.at.now.counters a.y.axis 0) c.shift-2.new.o in
+    left-whole-at m (home-zero m c.if-y.false) refl c.shift-2.ensures k.at_end c.if-y.false
+    (subst (λ (q : Plan). CarriedTo false (a.y.axis + 1) q.rank a.self.now.tiling.plan.now a.self.now.tiling.widths there x.result x.new.at) c.plan.view_is x.ensures)

@@ -1,5 +1,5 @@
 -- `window::strides::strides_into` meets its contract. Assumes nothing.
-use mathlib.Core.Path.{◌≡◌, sym, ◌∙◌, ap, ap₂}
+use mathlib.Core.Path.{◌≡◌, sym, ◌∙◌, ap}
 use mathlib.Core.List.{List}
 use Prim.Native.Nat.{ℕ, ◌+◌, ◌*◌, ◌≤◌}
 use native.Mathlib.Nat.{le_antisymm, zero-mul}
@@ -36,9 +36,9 @@ pub new_stride-requires : goal.new_stride-requires
 new_stride-requires c =
     let s = c.args.selection in
     let i = c.loop-i.i in
-    let t : ℤ = get_or s.picks.steps.now i (pos 0) in
     let u : ℤ = get_or c.row.result.strides.now i (pos 0) in
-    rw (back t (search rules), back u (search rules))
+    let e = c.at.ensures in
+    rw (e.1, e.2, back u (search rules))
     (held_made s c.loop-k.k c.loop-k-test.true c.row.ensures i c.loop-i-test.true c.requires.held)
 
 pub loop-i-preserved : goal.loop-i-preserved
@@ -50,11 +50,11 @@ loop-i-preserved c =
     let at : ℕ = k * length s.layout.extents.now + i in
     -- the stride that is stored
     let stored : to_z w64 (of_z w64 c.new_stride.result) ≡ get_or ws at (pos 0) =
-    let n : ℕ = get_or s.picks.counts.now i 0 in
-    let t : ℤ = get_or s.picks.steps.now i (pos 0) in
     let u : ℤ = get_or c.row.result.strides.now i (pos 0) in
+    let e = c.at.ensures in
+    let b : to_z w64 (of_z w64 u) ≡ u = back u (search rules) in
     back c.new_stride.result (record { sfits = c.new_stride.type_inv }) ∙ c.new_stride.ensures
-    ∙ ap₂ (stepped_stride n) (back t (search rules)) (back u (search rules))
+    ∙ (λ n. stepped_stride (e.1 n) (e.2 n) (b n))
     ∙ sym (stride_made s k c.loop-k-test.true c.row.ensures i c.loop-i-test.true) in
     let few : length ws ≤ 512 = omega (arith, strides_length s, strides_few s) in
     let e : at + 1 ≡ k * length s.layout.extents.now + (i + 1) = omega arith in

@@ -1,7 +1,7 @@
 -- `writing::number::put_byte` meets its contract: one element set is one byte put.
 -- Assumes nothing.
 use mathlib.Core.Path.{refl}
-use Rattle.writing.proofs.Putting.{put_one}
+use Rattle.writing.specs.Putting.{put_one}
 use Rattle.writing.proofs.number.put_byte.Goals as goal
 
 pub returns : goal.returns

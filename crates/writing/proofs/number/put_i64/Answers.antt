@@ -3,7 +3,7 @@
 use native.Mathlib.Omega.{arith}
 use mathlib.Core.Path.{sym, ap}
 use lib.ListN.{length}
-use Rattle.writing.proofs.Putting.{wrote_then, wrote_is}
+use Rattle.writing.specs.Putting.{wrote_then, wrote_is}
 use Rattle.writing.proofs.Sign.{signed-neg}
 use Rattle.writing.proofs.number.put_i64.Goals as goal
 

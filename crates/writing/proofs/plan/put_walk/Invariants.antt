@@ -2,14 +2,15 @@
 use Prim.Native.Nat.{◌-◌}
 use lib.ListN.{length}
 use Rattle.writing.specs.Plan.{rest_from}
-use Rattle.writing.proofs.Putting.{Doing}
+use Rattle.writing.proofs.Taking.{Taking}
 use Rattle.writing.proofs.Walks.{W, Walks}
 use Rattle.writing.proofs.plan.put_walk.Given as goal
 
 abbrev pub invariant-loop-more : goal.invariant-loop-more
-invariant-loop-more l =
-    Walks l.plan l.course.way l.course.widths l.number l.cells l.more l.stands
-    × Doing l.initial.out l.at (rest_from l.plan 0) l.out l.next (rest_from l.plan l.number)
+invariant-loop-more g l =
+    let k = g.S.Sink in
+    Walks l.plan l.course.way l.course.tiling.widths l.number l.cells l.more l.at
+    × Taking k.May k.Took l.fn.sink l.initial.out (rest_from l.plan 0) l.s l.out (rest_from l.plan l.number)
 
 abbrev pub decreases-loop-more : goal.decreases-loop-more
-decreases-loop-more l = length (W l.plan) - l.number
+decreases-loop-more g l = length (W l.plan) - l.number

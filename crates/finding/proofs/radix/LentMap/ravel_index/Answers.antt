@@ -1,5 +1,5 @@
 -- `finding::radix::LentMap::ravel_index` meets its contract. The invariant: the axes from i on are done. Assumes nothing.
-use mathlib.Core.Path.{◌≡◌, subst}
+use mathlib.Core.Path.{◌≡◌, refl, subst}
 use Prim.Native.Nat.{ℕ, ◌+◌, ◌-◌, ◌*◌, ◌^◌, ◌<◌}
 use native.Mathlib.Omega.{arith}
 use lib.ListN.{length, get_or, take}
@@ -25,7 +25,7 @@ loop-i-init c =
     let a = c.args in (
       omega arith,
       omega (arith, c.requires.rank, extents-few (take (length a.self.extents.now) a.self.fused.now), fused_counted c.args.self.sound, c.args.self.sound.few-axes),
-      done_none c.args.self.sound a.index.now c.requires.inside a.rank a.out.now c.requires.rank c.requires.zeros,
+      done_none c.args.self.sound a.index.now c.requires.inside a.rank _ c.requires.rank refl,
     )
 
 pub offset_bounds-self-i-in-loop-i : goal.offset_bounds-self-i-in-loop-i

@@ -1,5 +1,5 @@
 -- `finding::radix::LentMap::unravel_index` meets its contract. The invariant: the axes before i are told, and what is left tells the others. Assumes nothing.
-use mathlib.Core.Path.{◌≡◌, ◌∙◌}
+use mathlib.Core.Path.{◌≡◌, refl, ◌∙◌}
 use mathlib.Core.Bool.{cond}
 use mathlib.Core.List.{List}
 use Prim.Native.Nat.{ℕ, suc, ◌+◌, ◌≤◌}
@@ -11,7 +11,7 @@ use Rattle.finding.proofs.radix.LentMap.unravel_index.Goals as goal
 use Rattle.finding.proofs.radix.LentMap.unravel_index.Goals.{then-self-i-ne1, else-self-i-ne1}
 
 pub loop-i-init : goal.loop-i-init
-loop-i-init c = tell_none c.args.self.sound c.args.counters.now c.args.out.now c.requires.zeros
+loop-i-init c = tell_none c.args.self.sound c.args.counters.now _ refl
 
 pub offset_bounds-self-i : goal.offset_bounds-self-i
 offset_bounds-self-i c = omega (arith, c.args.self.sound.few-axes)
@@ -38,7 +38,7 @@ bounds-self-a c =
 
 pub remainder-requires : goal.remainder-requires
 remainder-requires c =
-    extent_positive c.args.self.sound c.loop-i.i c.loop-i-test.true c.requires.extents
+    extent_positive c.args.self.sound c.loop-i.i c.loop-i-test.true c.requires
 
 pub offset_bounds-out-a : goal.offset_bounds-out-a
 offset_bounds-out-a c =
@@ -50,7 +50,7 @@ bounds-out-a c =
 
 pub quotient-x-requires : goal.quotient-x-requires
 quotient-x-requires c =
-    extent_positive c.args.self.sound c.loop-i.i c.loop-i-test.true c.requires.extents
+    extent_positive c.args.self.sound c.loop-i.i c.loop-i-test.true c.requires
 
 pub loop-i-preserved : goal.loop-i-preserved
 loop-i-preserved c =

@@ -1,7 +1,0 @@
--- The invariants of `run::step_at`.
-use mathlib.Core.Path.{◌≡◌}
-use Rattle.judge.specs.Laying.{step_of}
-use Rattle.judge.proofs.run.step_at.Given as goal
-
-abbrev pub invariant-loop-extent : goal.invariant-loop-extent
-invariant-loop-extent l = l.step ≡ step_of l.extents l.extent-index
