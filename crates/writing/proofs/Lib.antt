@@ -1,3 +1,4 @@
+pub mod Doing
 -- Laws that belong to no one function.
 pub mod Taking
 pub mod Digits

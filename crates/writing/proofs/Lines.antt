@@ -12,7 +12,7 @@ use Rattle.strided.specs.Base.{over}
 use Rattle.strided.specs.Text.{field, signed_field, line_of, rank_line, axis_line, block_line}
 use Rattle.writing.specs.Put.{Wrote}
 use Rattle.writing.specs.Line.{fields_of, figures_line}
-use Rattle.writing.specs.Putting.{Doing, doing_next}
+use Rattle.writing.proofs.Doing.{Doing, doing_next}
 
 -- ---- what a loop over the elements has left, from element i on
 

@@ -6,7 +6,7 @@ use Rattle.std.proofs.Common.{rules}
 use Rattle.std.proofs.lemmas.Iterator.{YieldsList-from_range}
 use Rattle.std.proofs.lemmas.Iterator.Search.{any_from_yields_List}
 use Rattle.strided.specs.Mark.{stays_at}
-use Rattle.mark.proofs.Counting.{any_counted}
+use Rattle.laws.specs.Base.Ranges.{any_of_range}
 use Rattle.mark.proofs.quick.some_stays.Goals as goal
 
 pub returns : goal.returns
@@ -14,4 +14,4 @@ returns c =
     let o = c.args.operand in
     let n = length o.extents.now in
     let t = stays_at o.extents.now o.strides.now in
-    any_from_yields_List t _ _ _ c.any.ensures.ran (YieldsList-from_range 0 n n refl (omega arith)) (λ i b q k. search rules) ∙ any_counted t 0 n
+    any_from_yields_List t _ _ _ c.any.ensures.ran (YieldsList-from_range 0 n n refl (omega arith)) (λ i b q k. search rules) ∙ any_of_range t 0 n

@@ -2,7 +2,7 @@
 -- Assumes nothing.
 use Rattle.laws.specs.Text.Once.{celled}
 use Rattle.writing.proofs.Lines.{each_next}
-use Rattle.writing.specs.Putting.{doing_start}
+use Rattle.writing.proofs.Doing.{doing_start}
 use Rattle.writing.proofs.line.put_fields.Goals as goal
 
 pub loop-n-init : goal.loop-n-init

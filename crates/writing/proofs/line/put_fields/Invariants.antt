@@ -2,7 +2,7 @@
 use lib.ListN.{drop}
 use Rattle.strided.specs.Base.{over}
 use Rattle.laws.specs.Text.Once.{celled}
-use Rattle.writing.specs.Putting.{Doing}
+use Rattle.writing.proofs.Doing.{Doing}
 use Rattle.writing.proofs.line.put_fields.Given as goal
 
 abbrev pub invariant-loop-n : goal.invariant-loop-n
