@@ -1,10 +1,11 @@
 // Cutting: block sizes whose region fits the cache, by the axis ranks, the byte strides and the costs of the plan's axes.
 #![tactic(auto)]
 
-ghost use Rattle.std.specs.Prelude.{◌≡◌, ℕ, ◌<◌};
+ghost use Rattle.std.specs.Prelude.{◌≡◌, ℕ, ◌<◌, min};
 ghost use Rattle.strided.specs.Base.{least};
-ghost use Rattle.strided.specs.Region.{byte_at};
+ghost use Rattle.strided.specs.Region.{byte_at, region};
 ghost use Rattle.strided.specs.Cut.{rank_at, keeps_first, ones, cutting};
+ghost use Rattle.laws.specs.Cut.Saturate.{cap};
 ghost use Rattle.laws.specs.Cut.Steps.{ScoresFit};
 ghost use Rattle.region.specs.Tail.{axes};
 
@@ -85,21 +86,24 @@ fn set_ones(tail: Tail, blocks: &mut [u64; 64])
 }
 
 // Cutting, on a tail: a first axis that is innermost for every operand is kept whole, and the rule starts over on the next tail. The
-// ranks are those of all the plan's axes on every level.
+// ranks are those of all the plan's axes on every level. `r` is the region of the tail.
 // Kept: the clause on the scores, as in shrink, since the blocks are lent to be changed.
 pub fn compute_blocks_at<'a>(
     tail: Tail<'a>,
     costs: &'a [u64; 64],
     ranks: &'a [[u8; 64]; 8],
+    r: u64,
     blocks: &mut [u64; 64],
 )
-    requires { (0 < tail.operands) × ScoresFit tail.rank costs.now blocks.old }
+    requires some { 0 < tail.operands }
+    requires fit { ScoresFit tail.rank costs.now blocks.old }
+    requires told { let t = tail in r ≡ min (region t.machine.numbers t.bytes.now t.operands blocks.old t.offset (axes t)) (cap t.machine.numbers) }
     ensures { let t = tail.entry in blocks.new ≡ cutting t.machine.numbers t.bytes.now t.operands costs.now ranks.now t.offset (axes t) blocks.old }
 {
     if tail.offset == tail.rank {
         return;
     }
-    if memory_region(tail, blocks) <= tail.machine.numbers.cache {
+    if r <= tail.machine.numbers.cache {
         return;
     }
     let some = NonEmptyTail { tail };
@@ -113,12 +117,12 @@ pub fn compute_blocks_at<'a>(
             offset,
             rank: tail.rank,
         };
-        compute_blocks_at(rest, costs, ranks, blocks);
+        compute_blocks_at(rest, costs, ranks, memory_region(rest, blocks), blocks);
         return;
     }
     if tail.machine.numbers.cache < least_in(tail.bytes, some) {
         set_ones(tail, blocks);
         return;
     }
-    shrink(tail, costs, blocks);
+    shrink(tail, costs, r, blocks);
 }

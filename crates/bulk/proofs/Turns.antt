@@ -18,7 +18,6 @@ use Rattle.strided.specs.declared.Block.{Block}
 use Rattle.strided.specs.declared.Plan.{Plan}
 use Rattle.strided.specs.declared.Walk.{Walk}
 use Rattle.strided.specs.declared.Stepped.{Stepped}
-use Rattle.strided.specs.declared.Several.{Several}
 use Rattle.laws.specs.Base.Filling.{rows_alike}
 use Rattle.laws.specs.Base.Lists.{over-append, over-map}
 use Rattle.laws.specs.Walk.Placed.{Placed, placed_of}
@@ -26,7 +25,7 @@ use Rattle.advance.specs.declared.State.{State}
 use Rattle.advance.specs.Carry.{state_of}
 use Rattle.advance.specs.Axis.{widths, starts_to}
 use Rattle.advance.specs.Blocks.{length_of}
-use Rattle.strided.specs.Memory.{walk_of}
+use Rattle.strided.specs.Memory.{walk_of, WalkMemory, walk_memory}
 use Rattle.walk.specs.Lent.{Taken}
 use Rattle.walk.proofs.Stepping.{block_here}
 use Rattle.walker.specs.declared.way.Way.{Way}
@@ -167,24 +166,28 @@ module _ {p : Plan} {u : Walk} {y : Option Way} {w ls₀ : List ℕ} {os₀ : Li
         }
 
         -- there is none: no later block was left out
-        pub wrote_last : r.more ≡ false → Taken p u → u.ended ≡ false → {a : Several} → a ≡ handed (n + r.count) (walk_of true at'.counters at'.offsets) → Wrote room p u ls₀ os₀ a ls' os'
+        pub wrote_last : r.more ≡ false → Taken p u → u.ended ≡ false → {m : WalkMemory} → m ≡ walk_memory (walk_of true at'.counters at'.offsets) → Wrote room p u ls₀ os₀ (n + r.count) m ls' os'
         wrote_last g k z q =
             let v : Walked p u y w (n + r.count) false at' = rw g at (walked_next d.walked x) in
             let b = count_fits h refl x.count in
-            let m : n + r.count + (room - (n + r.count)) ≡ room = omega (arith, b) in
-            let same : next_blocks room p u ≡ next_blocks (n + r.count) p u = ap (λ (i : ℕ). next_blocks i p u) (sym m) ∙ walked_all v (room - (n + r.count)) in
+            let all : n + r.count + (room - (n + r.count)) ≡ room = omega (arith, b) in
+            let same : next_blocks room p u ≡ next_blocks (n + r.count) p u = ap (λ (i : ℕ). next_blocks i p u) (sym all) ∙ walked_all v (room - (n + r.count)) in
             record {
-              several = ap Ok q ∙ returned room (n + r.count) k z same v.full v.state;
+              walk = walk_of true at'.counters at'.offsets;
+              stands = q;
+              several = returned room (n + r.count) k z same v.full v.state;
               lengths = lengths_are ∙ ap (λ (l : List Block). laid_on (lengths_of l) ls₀) (sym same);
               offsets = offsets_are ∙ ap (λ (l : List Block). laid_on (offsets_of p.operands l) os₀) (sym same);
             }
 
   -- the slices are full
-  pub wrote_full : n ≡ room → Taken p u → u.ended ≡ false → {a : Several} → a ≡ handed n (walk_of false at.counters at.offsets) → Wrote room p u ls₀ os₀ a ls os
+  pub wrote_full : n ≡ room → Taken p u → u.ended ≡ false → {m : WalkMemory} → m ≡ walk_memory (walk_of false at.counters at.offsets) → Wrote room p u ls₀ os₀ n m ls os
   wrote_full e k z q =
       let same : next_blocks room p u ≡ next_blocks n p u = ap (λ (i : ℕ). next_blocks i p u) (sym e) in
       record {
-        several = ap Ok q ∙ returned room n k z same d.walked.full d.walked.state;
+        walk = walk_of false at.counters at.offsets;
+        stands = q;
+        several = returned room n k z same d.walked.full d.walked.state;
         lengths = d.lengths ∙ ap (λ (l : List Block). laid_on (lengths_of l) ls₀) (sym same);
         offsets = d.offsets ∙ ap (λ (l : List Block). laid_on (offsets_of p.operands l) os₀) (sym same);
       }

@@ -4,27 +4,30 @@
 ghost use Rattle.std.specs.Prelude.{◌≡◌, false, ◌+◌, ◌*◌, ◌≤◌, ◌<◌, length, replicate};
 ghost use Rattle.std.proofs.Math.Seq.{paste};
 ghost use Rattle.strided.specs.Bulk.{room_for, many_of, stepped_many};
-ghost use Rattle.strided.specs.Memory.{walk_of};
+ghost use Rattle.strided.specs.Memory.{walk_of, walk_at, walk_in, walk_memory, many_at};
 ghost use Rattle.walk.specs.Lent.{Taken};
-ghost use Rattle.bulk.specs.Blocks.{handed, HasRoom, Wrote, row_at, rows_for, RowFits, MayPut};
+ghost use Rattle.bulk.specs.Blocks.{SteppedManyInto, HasRoom, Wrote, row_at, rows_for, RowFits, MayPut};
 
+use advance::State;
 use layout::LentPlan;
 use strided::{Plan, Refusal, Several, Walk};
+use walk::memory::{flag, walk_of};
 use walk::{LentWalk, answer_of};
 use walker::Course;
 
-// Blocks were written, and the walk stands there.
-fn blocks_written(blocks: usize, ended: bool, counters: [u64; 64], offsets: [i64; 8]) -> Several
-    ensures { result ≡ handed blocks (walk_of ended counters offsets) }
+// The walk stands at a state, or has ended with it.
+fn put_state(
+    over: bool,
+    at: &State,
+    ended: &mut [u64; 1],
+    counters: &mut [u64; 64],
+    offsets: &mut [i64; 8],
+)
+    ensures { walk_at ended.new counters.new offsets.new ≡ walk_memory (walk_of over at.now.counters at.now.offsets) }
 {
-    Several {
-        blocks: Some(blocks),
-        walk: Walk {
-            ended,
-            counters,
-            offsets,
-        },
-    }
+    *ended = [flag(over)];
+    *counters = at.counters;
+    *offsets = at.offsets;
 }
 
 // How many blocks two slices of so many places have room for.
@@ -74,23 +77,26 @@ fn put_rows<'a>(
     }
 }
 
-// Writes the next blocks, at most `most`, from a state that runs, stretch by stretch. It checks nothing.
+// Writes the next blocks, at most `most`, from a state that runs, stretch by stretch, and says how many they are. It checks nothing. The lent
+// state is copied once, and written back once.
 fn put_blocks(
     most: usize,
     plan: &LentPlan,
-    counters: [u64; 64],
-    start: [i64; 8],
+    ended: &mut [u64; 1],
+    counters: &mut [u64; 64],
+    start: &mut [i64; 8],
     lengths: &mut [u64],
     offsets: &mut [i64],
-) -> Several
-    requires taken { Taken plan.now (walk_of false counters start) }
+) -> usize
+    requires taken { Taken plan.now (walk_of false counters.old start.old) }
     requires has_room { HasRoom most plan.now.operands lengths.old offsets.old }
-    ensures { Wrote most plan.now (walk_of false counters start)
-        lengths.old offsets.old result lengths.new offsets.new }
+    ensures { let w = walk_of false counters.old start.old in
+        let w' = walk_at ended.new counters.new start.new in
+        Wrote most plan.now w lengths.old offsets.old result w' lengths.new offsets.new }
 {
     let course = Course::of(plan);
     let d = course.moves();
-    let mut at = course.state_at(counters, start);
+    let mut at = course.state_at(*counters, *start);
     let mut n = 0;
     while n < most {
         let x = course.stretch_here(&at);
@@ -100,14 +106,45 @@ fn put_blocks(
         put_rows(count, plan, n, &d, &at.offsets, &mut *offsets);
         n += count;
         if !course.hop(limit, x.left, &mut at) && !course.go_behind(limit, x.left, &mut at) {
-            return blocks_written(n, true, at.counters, at.offsets);
+            put_state(true, &at, ended, counters, start);
+            return n;
         }
     }
-    blocks_written(n, false, at.counters, at.offsets)
+    put_state(false, &at, ended, counters, start);
+    n
 }
 
-// Many steps on a plan that is lent: row 10, whatever the values; then as many of the next blocks as both slices have room for. Block j's
-// length goes to place j of `lengths`, its offset of operand k to place j * operands + k of `offsets`.
+// Many steps in the lent arrays: row 10, whatever the values; then as many of the next blocks as both slices have room for. Block j's length
+// goes to place j of `lengths`, its offset of operand k to place j * operands + k of `block_offsets`. It says how many blocks they are, if the
+// walk had not ended. Neither the plan nor the state is handed over by value.
+pub fn step_many_into(
+    plan: &LentPlan,
+    ended: &mut [u64; 1],
+    counters: &mut [u64; 64],
+    offsets: &mut [i64; 8],
+    lengths: &mut [u64],
+    block_offsets: &mut [i64],
+) -> Result<Option<usize>, Refusal>
+    ensures { let w = walk_at ended.old counters.old offsets.old in
+        let w' = walk_at ended.new counters.new offsets.new in
+        let old = many_at w lengths.old block_offsets.old in
+        let new = many_at w' lengths.new block_offsets.new in
+        SteppedManyInto (stepped_many plan.now (walk_in w) lengths.old block_offsets.old) old new result }
+{
+    let walk = LentWalk {
+        ended: ended[0] != 0,
+        counters: &*counters,
+        offsets: &*offsets,
+    };
+    if answer_of(plan, &walk)? {
+        let room = room_for(plan, lengths.len(), block_offsets.len());
+        let blocks = put_blocks(room, plan, ended, counters, offsets, lengths, block_offsets);
+        return Ok(Some(blocks));
+    }
+    Ok(None)
+}
+
+// Many steps on a plan that is lent, with the state by value.
 pub fn step_many_on(
     plan: &LentPlan,
     walk: Walk,
@@ -116,18 +153,21 @@ pub fn step_many_on(
 ) -> Result<Several, Refusal>
     ensures { many_of result lengths.new offsets.new ≡ stepped_many plan.now walk lengths.old offsets.old }
 {
-    if answer_of(plan, &LentWalk::from(&walk))? {
-        let room = room_for(plan, lengths.len(), offsets.len());
-        return Ok(put_blocks(
-            room,
-            plan,
-            walk.counters,
-            walk.offsets,
-            &mut *lengths,
-            &mut *offsets,
-        ));
-    }
-    Ok(Several { blocks: None, walk })
+    let mut ended = [flag(walk.ended)];
+    let mut counters = walk.counters;
+    let mut starts = walk.offsets;
+    let blocks = step_many_into(
+        plan,
+        &mut ended,
+        &mut counters,
+        &mut starts,
+        lengths,
+        offsets,
+    )?;
+    Ok(Several {
+        blocks,
+        walk: walk_of(&ended, &counters, &starts),
+    })
 }
 
 // MANY STEPS of a walk, whatever the values of plan and state.

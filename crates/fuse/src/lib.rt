@@ -10,7 +10,7 @@ ghost use Rattle.strided.specs.Order.{pick};
 ghost use Rattle.strided.specs.Fuse.{joins as joins_at, all_join, fuse as fuseAxes, compress};
 ghost use Rattle.strided.specs.Plan.{stride_table};
 ghost use Rattle.strided.specs.Step.{blank};
-ghost use Rattle.strided.specs.Costs.{still, cost_of, costs};
+ghost use Rattle.strided.specs.Costs.{still, cost_of, cost_number, costs};
 ghost use Rattle.laws.specs.Fuse.Places.{axes_by};
 ghost use Rattle.arrange.specs.Axes.{InOrder};
 ghost use Rattle.fuse.specs.Kept.{stays};
@@ -220,18 +220,25 @@ impl<'a> Column<'a> {
     }
 }
 
-// The costs of a plan's axes, 0 where an axis has none, and behind them.
-pub fn compute_costs(rows: Rows, rank: usize) -> [u64; 64]
+// The cost of one of the axes, 0 where it has none.
+pub fn cost_at(rows: Rows, axis: usize) -> u64
+    requires { (0 < rows.operands) × (axis < rows.pitch) }
+    ensures { let r = rows.entry in result ≡ cost_number (cost_of (size_at r.strides.now r.pitch axis) r.operands) }
+{
+    let column = Column { rows, axis };
+    column.cost().unwrap_or(0)
+}
+
+// The costs of a plan's axes, 0 where an axis has none, written into an array of zeros.
+pub fn costs_into(rows: Rows, rank: usize, found: &mut [u64; 64])
     requires operands { 0 < rows.operands }
     requires pitch { rows.pitch ≡ 64 }
     requires rank { rank ≤ 64 }
-    ensures { result ≡ padded 64 0 (costs rows.entry.strides.now rows.entry.operands rank) }
+    requires zeros { found.old ≡ replicate 64 0 }
+    ensures { found.new ≡ padded 64 0 (costs rows.entry.strides.now rows.entry.operands rank) }
 {
-    let mut found = [0u64; 64];
-    // Kept: an index, which is the column's axis, too.
+    // Kept: an index, which is the axis, too.
     for i in 0..rank {
-        let column = Column { rows, axis: i };
-        found[i] = column.cost().unwrap_or(0);
+        found[i] = cost_at(rows, i);
     }
-    found
 }

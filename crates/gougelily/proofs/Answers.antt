@@ -8,9 +8,9 @@ use lib.ListN.{length}
 use mir.Syntax.{w64}
 use mir.Val.{of_z, to_z}
 use Rattle.strided.specs.Refusals.{negated}
-use Rattle.strided.specs.Step.{stepped, handed_block, walk_after}
-use Rattle.strided.specs.Bulk.{next_blocks, lengths_of, offsets_of, room_for, laid_on, written, several_by, SteppedMany, stepped_many}
-use Rattle.strided.specs.Memory.{code_of, whether, WalkMemory, walk_memory, Handed, Tells, StepMemory, Steps, ManyMemory, many_memory, StepsMany}
+use Rattle.strided.specs.Step.{stepped, walk_after}
+use Rattle.strided.specs.Bulk.{next_blocks, room_for, written, several_by, SteppedMany, stepped_many}
+use Rattle.strided.specs.Memory.{code_of, whether, Handed, Tells, StepMemory, Steps, ManyMemory, StepsMany, many_count, many_code}
 use Rattle.strided.specs.declared.Purpose.{Purpose}
 use Rattle.strided.specs.declared.Refusal.{Refusal}
 use Rattle.strided.specs.declared.Plan.{Plan}
@@ -21,7 +21,8 @@ use Rattle.strided.specs.declared.Several.{Several}
 use Rattle.strided.specs.declared.Told.{Told}
 use Rattle.std.specs.Int.Signed.{mag}
 use Rattle.laws.specs.Base.Bits.{read_back}
-use Rattle.laws.specs.Walk.Bulk.{blocks_few, blocks_none}
+use Rattle.laws.specs.Walk.Bulk.{blocks_few}
+use Rattle.bulk.specs.Blocks.{blocks_in, SteppedManyInto}
 use Rattle.finding.specs.Memory.{Leaves}
 use Rattle.std.specs.Prelude.{Option, None, Some, Ok, Err, Result}
 
@@ -62,84 +63,30 @@ step-refused {old = old} {n = n} h e = subst (λ (s : Result Stepped Refusal). S
 
 -- ---- many steps
 
--- how many blocks were written, if any
-abbrev pub blocks_in : Result Several Refusal → Option ℕ
-blocks_in (Ok s) = s.blocks
-blocks_in (Err r) = None
+few : (x : Option Block) {n count : ℕ} → Some count ≡ written x n → count ≡ n
+few (Some b) q = cc q
+few None q = let z : ◌≡◌ {A = ℕ} 0 1 = cc q in absurd (omega arith)
 
-module _ (n : ℕ) (v : Walk) where
-  counted : (s : Result Stepped Refusal) {count : ℕ} → blocks_in (several_by s n v) ≡ Some count → count ≡ n
-  counted (Ok s) {count} h = go s.block h
-    where
-      go : (o : Option Block) → written o n ≡ Some count → count ≡ n
-      go None q = let z : ◌≡◌ {A = ℕ} 0 1 = cc q in absurd (omega arith)
-      go (Some b) q = cc q
-  counted (Err r) h = let z : ◌≡◌ {A = ℕ} 0 1 = cc h in absurd (omega arith)
+-- no more blocks are written than the slice of lengths has places
+module _ (p : Plan) (w : Walk) (ls : List ℕ) (os : List ℤ) where
+  abbrev room : ℕ
+  room = room_for p.operands (length ls) (length os)
 
-  uncounted : (s : Result Stepped Refusal) → blocks_in (several_by s n v) ≡ None → handed_block s ≡ None
-  uncounted (Ok s) h = go s.block h
-    where
-      go : (o : Option Block) → written o n ≡ None → o ≡ None
-      go None q = refl
-      go (Some b) q = let z : ◌≡◌ {A = ℕ} 0 1 = cc q in absurd (omega arith)
-  uncounted (Err r) h = refl
+  abbrev n : ℕ
+  n = length (next_blocks room p w)
 
--- in the call's result x
-module _ (p : Plan) (w : Walk) (ls : List ℕ) (os : List ℤ) {x : SteppedMany} (is : x ≡ stepped_many p w ls os) where
-  abbrev S : SteppedMany
-  S = stepped_many p w ls os
-
-  several_is : x.several ≡ several_by (stepped p w) (length (next_blocks (room_for p.operands (length ls) (length os)) p w)) (walk_after p (length (next_blocks (room_for p.operands (length ls) (length os)) p w)) w)
+  pub many-count : {old new : ManyMemory} {count : ℕ} → SteppedManyInto (stepped_many p w ls os) old new (Ok (Some count)) → count ≤ length ls
   unfolding stepped_many
-  several_is = ap (λ (y : SteppedMany). y.several) is
+  many-count {count = count} l = go (stepped p w) l.said
+    where
+      go : (s : Result Stepped Refusal) → Ok (Some count) ≡ blocks_in (several_by s n (walk_after p n w)) → count ≤ length ls
+      go (Ok s) q = let e : count ≡ n = few s.block (cc q) in omega (arith, e, blocks_few p room w)
+      go (Err r) q = let z : ◌≡◌ {A = ℕ} 0 1 = cc q in absurd (omega arith)
 
-  -- without a block the slices are as they were
-  kept_slices : handed_block (stepped p w) ≡ None → (x.lengths ≡ ls) × (x.offsets ≡ os)
-  unfolding stepped_many
-  kept_slices h =
-      let e = blocks_none p (room_for p.operands (length ls) (length os)) w h in (
-        ap (λ (y : SteppedMany). y.lengths) is ∙ ap (λ (b : List Block). laid_on (lengths_of b) ls) e,
-        ap (λ (y : SteppedMany). y.offsets) is ∙ ap (λ (b : List Block). laid_on (offsets_of p.operands b) os) e,
-      )
+-- what is answered in lent memory, as a number
+number_of : (t : Result Several Refusal) → code_of (λ o. pos (many_count o)) (blocks_in t) ≡ many_code t
+number_of (Ok s) = refl
+number_of (Err r) = refl
 
-  module _ {t : Result Several Refusal} (h : x.several ≡ t) where
-    same : S.several ≡ t
-    same = sym (ap (λ (y : SteppedMany). y.several) is) ∙ h
-
-    -- no more blocks than places
-    pub many-count : {count : ℕ} → blocks_in t ≡ Some count → count ≤ length ls
-    many-count {count} q =
-        let e : count ≡ length (next_blocks (room_for p.operands (length ls) (length os)) p w) =
-        counted _ _ (stepped p w) (ap blocks_in (sym several_is ∙ h) ∙ q) in
-        omega (arith, e, blocks_few p (room_for p.operands (length ls) (length os)) w)
-
-    module _ (u : WalkMemory) where
-      abbrev old : ManyMemory
-      old = record { walk = u; lengths = ls; offsets = os }
-
-      unwritten : blocks_in t ≡ None → ◌≡◌ {A = ManyMemory} (record { walk = u; lengths = x.lengths; offsets = x.offsets }) old
-      unwritten q =
-          let k = kept_slices (uncounted _ _ (stepped p w) (ap blocks_in (sym several_is ∙ h) ∙ q)) in
-          λ i. record { walk = u; lengths = k.0 i; offsets = k.1 i }
-
-pub many-refused : (p : Plan) (w : Walk) (ls : List ℕ) (os : List ℤ) {x : SteppedMany} → x ≡ stepped_many p w ls os → (u : WalkMemory) {r : Refusal} {n : ℤ} → x.several ≡ Err r → n ≡ negated r
-    → StepsMany (stepped_many p w ls os) (record { walk = u; lengths = ls; offsets = os }) (record { walk = u; lengths = x.lengths; offsets = x.offsets }) n
-many-refused p w ls os is u h e =
-    let g = same p w ls os is h in
-    record { code = rw g e; memory = rw g (unwritten p w ls os is h u refl) }
-
-pub many_ended : (p : Plan) (w : Walk) (ls : List ℕ) (os : List ℤ) {x : SteppedMany} → x ≡ stepped_many p w ls os → (u : WalkMemory) {s : Several} → x.several ≡ Ok s → s.blocks ≡ None
-    → StepsMany (stepped_many p w ls os) (record { walk = u; lengths = ls; offsets = os }) (record { walk = u; lengths = x.lengths; offsets = x.offsets }) (pos 0)
-many_ended p w ls os is u h q =
-    let g = same p w ls os is h in
-    record { code = rw (g, q); memory = rw (g, q) (unwritten p w ls os is h u q) }
-
-pub many_blocks : (p : Plan) (w : Walk) (ls : List ℕ) (os : List ℤ) {x : SteppedMany} → x ≡ stepped_many p w ls os → (u : WalkMemory) {s : Several} → x.several ≡ Ok s
-    → {count : ℕ} → s.blocks ≡ Some count → {new : WalkMemory} {n : ℤ} → new ≡ walk_memory s.walk → n ≡ pos count
-    → StepsMany (stepped_many p w ls os) (record { walk = u; lengths = ls; offsets = os }) (record { walk = new; lengths = x.lengths; offsets = x.offsets }) n
-many_blocks p w ls os {x} is u {s} h q {new} f e =
-    let g = same p w ls os is h in
-    record {
-      code = rw (g, q) e;
-      memory = rw (g, q) ((λ i. record { walk = f i; lengths = x.lengths; offsets = x.offsets }) ∙ ap (many_memory s.walk) is);
-    }
+pub steps_many : {m : SteppedMany} {old new : ManyMemory} {answer : Result (Option ℕ) Refusal} {n : ℤ} → SteppedManyInto m old new answer → n ≡ code_of (λ o. pos (many_count o)) answer → StepsMany m old new n
+steps_many {m} l e = record { code = e ∙ ap (code_of (λ o. pos (many_count o))) l.said ∙ number_of m.several; memory = l.memory }

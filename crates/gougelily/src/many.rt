@@ -2,9 +2,8 @@
 ghost use Rattle.strided.specs.Bulk.{stepped_many};
 ghost use Rattle.strided.specs.Memory.{plan_of, walk_at, walk_in, many_at, StepsMany};
 
-use bulk::step_many_on;
+use bulk::step_many_into;
 use layout::LentPlan;
-use walk::memory::{put_walk, walk_of};
 
 // Many steps of a lent walk: as many of its next blocks as both slices have room for.
 #[unsafe(no_mangle)]
@@ -29,13 +28,16 @@ pub extern "C" fn gougelily_step_many<'a>(
         result }
 {
     let plan = served!(LentPlan::of(rank, operands, extents, blocks, strides));
-    let walk = walk_of(ended, counters, offsets);
-    let several = served!(step_many_on(&plan, walk, block_lengths, block_offsets));
-    match several.blocks {
+    let several = served!(step_many_into(
+        &plan,
+        ended,
+        counters,
+        offsets,
+        block_lengths,
+        block_offsets,
+    ));
+    match several {
         None => 0,
-        Some(count) => {
-            put_walk(several.walk, ended, counters, offsets);
-            count as i64
-        }
+        Some(count) => count as i64,
     }
 }

@@ -9,10 +9,10 @@ use super::layouts::{
     add_row, drop_row, kind_of, purpose_without, put_row, put_strides, ranks_into,
 };
 use auxiliary::rank_table_into;
-use fuse::compute_costs;
+use fuse::costs_into;
 use kernel::Aim;
 use layout::{Layout, Row, Rows, lay_into, lead, purpose_of};
-use session::kept::{axes_kept_into, blocks_kept_into, weights_kept};
+use session::kept::{axes_kept_into, blocks_kept_into, weights_kept_into};
 use session::{Numbers, SessionLayout};
 
 // ---- the numbers
@@ -170,7 +170,8 @@ pub fn keep(
     ensures kept { let g = given_in laid.now.numbers laid.now.extents.now laid.now.sizes.now laid.now.strides.now in
         KeptIn g result.plan_rank weights.new costs.new plan_extents.new blocks.new plan_strides.new }
 {
-    *weights = weights_kept(laid, table);
+    *weights = [0u64; 64];
+    weights_kept_into(laid, table, &mut *weights);
     *plan_extents = [0u64; 64];
     let axes = axes_kept_into(laid, weights, &mut *plan_extents, &mut *plan_strides);
     let numbers = planned(laid.numbers, axes);
@@ -179,7 +180,8 @@ pub fn keep(
         pitch: 64,
         operands: numbers.operands,
     };
-    *costs = compute_costs(rows, axes);
+    *costs = [0u64; 64];
+    costs_into(rows, axes, &mut *costs);
     // Kept: `..*laid` is refused by the compiler in a literal of a struct with ghost fields.
     let after = SessionLayout {
         numbers,

@@ -1,5 +1,5 @@
 -- What is gathered of numbers above a bound; and no reach of a small layout is above 2^63 - 1. Assumes nothing.
-use mathlib.Core.Path.{◌≡◌, refl, sym, ap, ◌∙◌}
+use mathlib.Core.Path.{◌≡◌, refl, sym, ap, ap₂, ◌∙◌}
 use mathlib.Core.Bool.{Bool, true, false, not, ◌&&◌, and_assoc, and-true, and-false}
 use mathlib.Core.List.{List, [], ◌∷◌}
 use Prim.Native.Nat.{ℕ, zero, suc, ◌+◌, ◌-◌, ◌*◌, ◌/◌, ◌^◌, ◌≤◌, ◌<◌}
@@ -10,11 +10,13 @@ use lib.Bits.{bit_or, or_add_and, and_le_l, and_le_r}
 use lib.Dec.{ltb, eqb}
 use lib.IntN.{ℤ, nat_abs}
 use lib.ListN.{length, get_or, take, drop, drop_of_length-le}
-use lib.Seq.{drop-cons}
+use lib.Seq.{drop-cons, take-add}
 use borrow.Author.Tests.{ltb-true, ltb-false, le-ltb, eqb-true, eqb-false, eq-eqb, ne_eqb}
 use Rattle.std.specs.List.{list_all}
 use Rattle.strided.specs.Layout.{has_zero, reach, max_i}
 use Rattle.strided.specs.Refusals.{some_operand}
+use Rattle.std.proofs.lemmas.List.{take-append-drop}
+use Rattle.std.proofs.lemmas.List.Folds.{list_all-append}
 use Rattle.std.proofs.lemmas.Nat.{pow_pos}
 use Rattle.laws.specs.Base.Tests.{and_both}
 use Rattle.laws.specs.Refusals.Operands.{some_of_none}
@@ -55,6 +57,35 @@ module _ {A : Type 0} (test : A → Bool) (xs : List A) (i seen : ℕ) where
 
   pub gathered_end : length xs ≤ i → (eqb seen 0 && list_all test (drop i xs)) ≡ list_all test xs → eqb seen 0 ≡ list_all test xs
   gathered_end h e = sym (and-true (eqb seen 0)) ∙ ap (λ (l : List A). eqb seen 0 && list_all test l) (sym (drop_of_length-le xs h)) ∙ e
+
+-- numbers gathered row by row: the last row, which ends with the list, and those from its head on
+module _ {A : Type 0} (test : A → Bool) where
+  pub row_next : (last : Bool) (xs : List A) (from width seen n : ℕ) → eqb seen 0 ≡ (last && list_all test (take from xs))
+      → eqb n 0 ≡ list_all test (take width (drop from xs)) → eqb (bit_or seen n) 0 ≡ (last && list_all test (take (from + width) xs))
+  row_next last xs from width seen n h q =
+      or_none seen n
+      ∙ ap₂ (λ (x y : Bool). x && y) h q
+      ∙ and_assoc last (list_all test (take from xs)) (list_all test (take width (drop from xs)))
+      ∙ ap (λ (y : Bool). last && y) (sym (ap (list_all test) (take-add from width xs) ∙ list_all-append test (take from xs) (take width (drop from xs))))
+
+  -- where they meet no number is left out
+  pub rows_cover : (xs : List A) (from to : ℕ) → from ≤ to → (list_all test (drop from xs) && list_all test (take to xs)) ≡ list_all test xs
+  rows_cover xs zero to h =
+      let parts : list_all test xs ≡ (list_all test (take to xs) && list_all test (drop to xs)) =
+      ap (list_all test) (sym (take-append-drop to xs)) ∙ list_all-append test (take to xs) (drop to xs) in
+      ap (λ (y : Bool). y && list_all test (take to xs)) parts ∙ absorb (list_all test (take to xs)) (list_all test (drop to xs)) ∙ sym parts
+    where
+      absorb : (a b : Bool) → ((a && b) && a) ≡ (a && b)
+      absorb true b = and-true b
+      absorb false b = refl
+  rows_cover xs (suc from) zero h = absurd (omega arith)
+  rows_cover [] (suc from) (suc to) h = refl
+  rows_cover (x ∷ xs) (suc from) (suc to) h =
+      turned (list_all test (drop from xs)) (test x) (list_all test (take to xs)) ∙ ap (λ (y : Bool). test x && y) (rows_cover xs from to (omega arith))
+    where
+      turned : (a b c : Bool) → (a && (b && c)) ≡ (b && (a && c))
+      turned a true c = refl
+      turned a false c = and-false a
 
 -- the bits from a bound on are none exactly if the size is below it
 pub below_bits : (bits n size : ℕ) → n ≡ size → eqb (n / 2 ^ bits) 0 ≡ ltb size (2 ^ bits)

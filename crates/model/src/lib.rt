@@ -3,7 +3,7 @@
 // holds a number of 32 bits that no rule of cutting or fitting tells from it.
 #![tactic(auto)]
 
-ghost use Rattle.std.specs.Prelude.{◌≡◌, ◌+◌, ◌*◌, ◌<◌, ◌≤◌, leb, length, replicate, false};
+ghost use Rattle.std.specs.Prelude.{◌≡◌, ◌+◌, ◌*◌, ◌<◌, ◌≤◌, min, length, replicate, false};
 ghost use Rattle.strided.specs.Base.{every};
 ghost use Rattle.strided.specs.Layout.{chosen};
 ghost use Rattle.strided.specs.Refusals.{missing};
@@ -12,13 +12,14 @@ ghost use Rattle.strided.specs.Machine.{Allowed};
 ghost use Rattle.strided.specs.Region.{byte_table, region};
 ghost use Rattle.strided.specs.declared.Purpose.TheVariants.{Pointwise};
 ghost use Rattle.laws.specs.Cut.Image.{Images};
+ghost use Rattle.laws.specs.Cut.Saturate.{cap};
 ghost use Rattle.model.specs.Plannable.{Plannable};
 ghost use Rattle.model.specs.ByteRows.{byte_rows};
 ghost use Rattle.model.specs.Exits.{increasing, in_order, ruled};
 
 use block::compute_blocks_at;
 use decline::declines_tiles;
-use fuse::compute_costs;
+use fuse::costs_into;
 use l1::L1Sets;
 use layout::Rows;
 use region::{AllowedMachine, Axes, Cut, Operand, memory_region};
@@ -85,12 +86,12 @@ fn keeps_order(axes: Axes) -> bool
     axes.rank == 0 || all_grow(axes)
 }
 
-// Whether the whole fits the cache, so that no axis is cut either.
-fn fits_whole(cut: Cut) -> bool
+// The region of the whole. If it fits the cache, no axis is cut either; else cutting begins with it.
+fn whole_region(cut: Cut) -> u64
     ensures { let c = cut.entry in let a = c.axes in result
-        ≡ leb (region c.machine.numbers c.bytes.now (length a.sizes.now) a.extents.now 0 a.rank) c.machine.numbers.cache }
+        ≡ min (region c.machine.numbers c.bytes.now (length a.sizes.now) a.extents.now 0 a.rank) (cap c.machine.numbers) }
 {
-    memory_region(cut.all(), cut.axes.extents) <= cut.machine.numbers.cache
+    memory_region(cut.all(), cut.axes.extents)
 }
 
 // A copy into the chosen operand is fitted to the L1 sets. A fold keeps the model's blocks, which order its sum; walks with more operands
@@ -109,9 +110,11 @@ fn fit_for(cut: Cut, purpose: Purpose, blocks: &mut [u64; 64])
     }
 }
 
-// The cutting rule on all the plan's axes, which `blocks` holds whole. Costs and ranks are those of the plan's axes, worked out once.
-fn cut_axes(cut: Cut, blocks: &mut [u64; 64])
+// The cutting rule on all the plan's axes, which `blocks` holds whole. Costs and ranks are those of the plan's axes, worked out once. `r` is
+// the region of the whole.
+fn cut_axes(cut: Cut, r: u64, blocks: &mut [u64; 64])
     requires plannable { let a = cut.axes in Plannable a.sizes.now blocks.old a.strides.now a.rank Pointwise }
+    requires told { let a = cut.axes in r ≡ min (region cut.machine.numbers cut.bytes.now (length a.sizes.now) blocks.old 0 a.rank) (cap cut.machine.numbers) }
     requires images { let a = cut.axes in Images cut.machine.numbers (length a.sizes.now) a.rank cut.bytes.now (byte_table a.sizes.now a.strides.now) }
     ensures { let c = cut.entry in let a = c.axes in blocks.new ≡ ruled c.machine.numbers a.sizes.now blocks.old a.strides.now a.rank }
 {
@@ -122,10 +125,11 @@ fn cut_axes(cut: Cut, blocks: &mut [u64; 64])
         pitch: 64,
         operands: axes.sizes.len(),
     };
-    let costs = compute_costs(rows, axes.rank);
+    let mut costs = [0u64; 64];
+    costs_into(rows, axes.rank, &mut costs);
     let mut ranks = [[0u8; 64]; 8];
     plan_ranks_into(axes, &mut ranks);
-    compute_blocks_at(cut.all(), &costs, &ranks, blocks);
+    compute_blocks_at(cut.all(), &costs, &ranks, r, blocks);
 }
 
 // The blocks of a plan whose total is above 1,024, from its axes. The tests that keep every axis whole come before what they can spare.
@@ -146,10 +150,11 @@ pub fn block_sizes_into(machine: Machine, axes: Axes, purpose: Purpose, blocks: 
         bytes: &bytes,
         axes,
     };
-    if fits_whole(cut) {
+    let r = whole_region(cut);
+    if r <= machine.numbers.cache {
         return;
     }
-    cut_axes(cut, blocks);
+    cut_axes(cut, r, blocks);
     if declines_tiles(machine, axes, blocks) {
         *blocks = *axes.extents;
         return;

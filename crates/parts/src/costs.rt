@@ -4,7 +4,7 @@ ghost use Rattle.std.specs.Prelude.{◌≡◌, ◌<◌};
 ghost use Rattle.strided.specs.Base.{padded};
 ghost use Rattle.parts.specs.Answers.{plan_costs};
 
-use fuse::compute_costs;
+use fuse::costs_into;
 use kernel::axes_into;
 use layout::{Layout, Rows};
 use strided::Purpose;
@@ -22,5 +22,7 @@ pub fn costs_of(layout: Layout, purpose: Purpose) -> [u64; 64]
         pitch: 64,
         operands: layout.operands,
     };
-    compute_costs(rows, rank)
+    let mut costs = [0u64; 64];
+    costs_into(rows, rank, &mut costs);
+    costs
 }

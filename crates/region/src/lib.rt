@@ -36,14 +36,13 @@ fn region_of(tail: Tail, blocks: &[u64; 64], k: usize) -> u64
         let s = u64::from(tail.bytes[from + i]);
         let b = blocks[i];
         if s < tail.machine.numbers.line {
-            // A block that is cut here is above every limit already; the sum of 64 such terms stays small.
+            // A block that is cut off is above every limit already; the sum of 64 such terms, and each product, stays small.
             c += s * b.saturating_sub(1).min(top);
         } else {
-            m = m.saturating_mul(b).min(top);
+            m = (m * b.min(top)).min(top);
         }
     }
-    m.saturating_mul(whole_lines(tail.machine, c.min(top)))
-        .min(top)
+    (m * whole_lines(tail.machine, c.min(top))).min(top)
 }
 
 // The region over a tail, summed over the operands. A sum at the limit stays there: the operands that are left are not looked at.

@@ -1,15 +1,19 @@
 -- Loops that compare: the bits gathered of the places so far, which are none exactly if these are the same. Assumes nothing.
 use mathlib.Core.Path.{◌≡◌, refl, sym, ap, ap₂, ◌∙◌, subst}
-use mathlib.Core.Bool.{Bool, true, false, ◌&&◌}
-use mathlib.Core.List.{List, [], ◌∷◌}
+use mathlib.Core.Bool.{Bool, true, false, ◌&&◌, and_assoc}
+use mathlib.Core.List.{List, [], ◌∷◌, ◌++◌}
 use mathlib.Core.Logic.{⊎_elim}
 use Prim.Native.Nat.{ℕ, zero, suc, ◌+◌, ◌≤◌, ◌<◌}
 use native.Mathlib.Nat.{eq-or-lt_of_le}
 use native.Mathlib.Omega.{arith}
 use lib.Bits.{bit_or, bit_xor, or_add_and, xor_add_and, and_le_l, and_le_r, xor_self}
 use lib.Dec.{eqb}
-use lib.ListN.{length, get_or}
+use lib.ListN.{length, get_or, take, drop, length-drop, take-append-drop}
+use lib.Seq.{get_or-take, length-take-le}
 use borrow.Author.Tests.{eqb-true, eqb-false, eq-eqb, ne_eqb}
+use Rattle.strided.specs.Step.{blank}
+use Rattle.laws.specs.Base.Tests.{and_both}
+use Rattle.session.specs.Session.{same_nats}
 use Rattle.session.specs.Same.{NoneDiffer}
 
 -- two numbers differ in no bit exactly if they are the same
@@ -68,6 +72,17 @@ module _ {A : Type 0} (d : A) (test : A → A → Bool) (same : List A → List 
       and_false true = refl
       and_false false = refl
 
+  -- one behind the other they are compared one after the other
+  pub same_append : (ps bs xs ys : List A) → length ps ≡ length xs → same (ps ++ bs) (xs ++ ys) ≡ (same ps xs && same bs ys)
+  same_append [] bs [] ys e = ap (λ (r : Bool). r && same bs ys) (sym nil)
+  same_append [] bs (x ∷ xs) ys e = absurd (omega (arith, e))
+  same_append (p ∷ ps) bs [] ys e = absurd (omega (arith, e))
+  same_append (p ∷ ps) bs (x ∷ xs) ys e =
+      cons p x (ps ++ bs) (xs ++ ys)
+      ∙ ap (λ (r : Bool). test p x && r) (same_append ps bs xs ys (omega (arith, e)))
+      ∙ sym (and_assoc (test p x) (same ps xs) (same bs ys))
+      ∙ ap (λ (r : Bool). r && same bs ys) (sym (cons p x ps xs))
+
   -- the bits of a place are none exactly if the test says that the two are the same
   pub none_same : (xs ys : List A) {P : ℕ → ℕ → Type 0} {r : Bool} {n : ℕ} → NoneDiffer P n r → length xs ≡ n → length ys ≡ n
       → ((i x : ℕ) → i < n → P i x → eqb x 0 ≡ test (get_or xs i d) (get_or ys i d)) → r ≡ same xs ys
@@ -79,3 +94,32 @@ module _ {A : Type 0} (d : A) (test : A → A → Bool) (same : List A → List 
       go : (r : Bool) → NoneDiffer P n r → r ≡ same xs ys
       go true t = sym (all_same xs ys even (λ i h. let l : i < n = omega (arith, h, ex) in sym (is i 0 l (t.all refl i l))))
       go false t = let w = t.one refl in sym (one_other xs ys even w.0 (omega (arith, w.2, ex)) (sym (is w.0 w.1 w.2 w.3) ∙ ne_eqb w.1 0 w.4))
+
+  -- the first n places of two lists, and the rest of them
+  pub front_same : (xs ys : List A) {P : ℕ → ℕ → Type 0} {seen : Bool} {n : ℕ} → NoneDiffer P n seen → n ≤ length xs → n ≤ length ys
+      → ((i x : ℕ) → i < n → P i x → eqb x 0 ≡ test (get_or xs i d) (get_or ys i d)) → {rest : Bool} → rest ≡ same (drop n xs) (drop n ys)
+      → (seen && rest) ≡ same xs ys
+  front_same xs ys {P} {seen} {n} told hx hy is {rest} r =
+      let lx : length (take n xs) ≡ n = length-take-le n xs hx in
+      let ly : length (take n ys) ≡ n = length-take-le n ys hy in
+      ap₂ (λ (a b : Bool). a && b)
+      (none_same (take n xs) (take n ys) {P = P} told lx ly (λ i x h p. is i x h p ∙ ap₂ test (sym (get_or-take n xs i d h)) (sym (get_or-take n ys i d h)))) r
+      ∙ sym (same_append (take n xs) (drop n xs) (take n ys) (drop n ys) (lx ∙ sym ly))
+      ∙ ap₂ same (take-append-drop n xs) (take-append-drop n ys)
+
+-- ---- numbers that are compared with some that are 0 from a place on
+
+same_blank : (xs zs : List ℕ) → length xs ≡ length zs → blank zs ≡ true → same_nats xs zs ≡ blank xs
+same_blank [] [] e h = refl
+same_blank [] (z ∷ zs) e h = absurd (omega (arith, e))
+same_blank (x ∷ xs) [] e h = absurd (omega (arith, e))
+same_blank (x ∷ xs) (z ∷ zs) e h =
+    let b = and_both (eqb z 0) (blank zs) h in
+    ap₂ (λ (a c : Bool). a && c) (ap (eqb x) (eqb-true z 0 b.0)) (same_blank xs zs (omega (arith, e)) b.1)
+
+pub nats_over : (xs zs : List ℕ) {P : ℕ → ℕ → Type 0} {seen : Bool} {n : ℕ} → NoneDiffer P n seen → n ≤ length xs → length xs ≡ length zs
+    → ((i x : ℕ) → i < n → P i x → eqb x 0 ≡ eqb (get_or xs i 0) (get_or zs i 0)) → blank (drop n zs) ≡ true → {rest : Bool} → rest ≡ blank (drop n xs)
+    → (seen && rest) ≡ same_nats xs zs
+nats_over xs zs {P} {seen} {n} told h e is z {rest} r =
+    front_same 0 eqb same_nats refl (λ x y xs ys. refl) xs zs {P = P} told h (omega (arith, h, e)) is
+    (r ∙ sym (same_blank (drop n xs) (drop n zs) (omega (arith, length-drop n xs, length-drop n zs, e)) z))

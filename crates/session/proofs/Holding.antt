@@ -1,7 +1,7 @@
 -- Row 10's test, part by part: what each part decides, and that all of them decide whether the session is right. Assumes nothing.
 use mathlib.Core.Path.{◌≡◌, refl, sym, ap, ap₂, ◌∙◌, subst}
 use mathlib.Core.Bool.{Bool, true, false, ◌&&◌, not, cond, false≢true}
-use mathlib.Core.List.{List, [], ◌∷◌, ◌++◌}
+use mathlib.Core.List.{List, [], ◌∷◌}
 use mathlib.Core.Logic.{⊎_elim}
 use Rattle.std.specs.Prelude.{Option, None, Some, Result, Ok, Err, is_ok}
 use Prim.Native.Nat.{ℕ, ◌+◌, ◌-◌, ◌*◌, ◌≤◌, ◌<◌}
@@ -40,9 +40,10 @@ use Rattle.layout.specs.Checked.{Checked}
 use Rattle.session.specs.Session.{Given, given_of, ranks_of, weights_of, costs_of, plan_of, kind_of, fresh_of, same_nats, same_ints, Right, holds, row10}
 use Rattle.session.specs.Same.{Decides, same_nats_lem, nats_same, same_ints_lem, ints_same, right-holds, decides_holds}
 use Rattle.session.specs.Afresh.{taken_of, allowed_of, few_strides}
-use Rattle.session.specs.Made.{Even, rows_of, ranks_in, TableOf, AxesIn, StaysIn, AxesAt, Cuttable, BlocksAt, KeptIn, Keeps, LayoutRight, with_plan, given_in, numbers_of, LaidRight, Tables, AxesRight, BlocksRight, KeepsRight}
+use Rattle.session.specs.Made.{Even, rows_of, ranks_in, TableOf, AxesIn, StaysIn, AxesAt, Cuttable, BlocksAt, blocks_in, KeptIn, Keeps, LayoutRight, with_plan, given_in, numbers_of, LaidRight, Tables, AxesRight, BlocksRight, KeepsRight}
 use Rattle.session.specs.Tabled.{Tabled}
-use Rattle.session.proofs.Tabling.{table_even, rows_more, own_tabled, exact_ranks}
+use Rattle.session.proofs.Comparing.{same_append}
+use Rattle.session.proofs.Tabling.{table_even, row_blank, own_strides, rows_more, own_tabled, exact_ranks}
 
 -- ---- tests and claims
 
@@ -159,18 +160,6 @@ module _ (n : Numbers) (E Z : List ℕ) (S : List ℤ) (e : length E ≡ 64) (z 
 
 -- ---- the ranks
 
--- two rows more are compared
-same-append : (ps bs xs ys : List ℕ) → length ps ≡ length xs → same_nats (ps ++ bs) (xs ++ ys) ≡ (same_nats ps xs && same_nats bs ys)
-same-append [] bs [] ys e = refl
-same-append [] bs (x ∷ xs) ys e = absurd (omega (arith, e))
-same-append (a ∷ ps) bs [] ys e = absurd (omega (arith, e))
-same-append (a ∷ ps) bs (x ∷ xs) ys e =
-    ap (λ (r : Bool). eqb a x && r) (same-append ps bs xs ys (omega (arith, e))) ∙ sym (and_assoc (eqb a x) (same_nats ps xs) (same_nats bs ys))
-  where
-    and_assoc : (p q r : Bool) → ((p && q) && r) ≡ (p && (q && r))
-    and_assoc true q r = refl
-    and_assoc false q r = refl
-
 module _ (table : List (List ℕ)) (R : List ℕ) (even : Even table) (long : length R ≡ 512) where
   rows_long : (k : ℕ) → k ≤ 8 → length (rows_of table k) ≡ k * 64
   rows_long k h = length_over 64 (λ j. get_or table j []) k 0 (λ j a b. (even.rows j (omega arith)).long)
@@ -183,7 +172,7 @@ module _ (table : List (List ℕ)) (R : List ℕ) (even : Even table) (long : le
       let m : (k + 1) * 64 ≡ k * 64 + 64 = omega arith in
       let front : length (take (k * 64) R) ≡ k * 64 = length-take-le (k * 64) R (omega (arith, long, h)) in
       sym (ap₂ same_nats (ap (λ (n : ℕ). take n R) m ∙ take-add (k * 64) 64 R) (rows_more (λ j. get_or table j []) k)
-      ∙ same-append (take (k * 64) R) (take 64 (drop (k * 64) R)) (rows_of table k) (get_or table k []) (front ∙ sym (rows_long k (omega (arith, h))))
+      ∙ same_append 0 eqb same_nats refl (λ x y xs ys. refl) (take (k * 64) R) (take 64 (drop (k * 64) R)) (rows_of table k) (get_or table k []) (front ∙ sym (rows_long k (omega (arith, h))))
       ∙ ap₂ (λ (x y : Bool). x && y) (sym p) (sym (q ∙ ap (λ (n : ℕ). same_nats (take n (drop (k * 64) R)) (get_or table k [])) w)))
 
   -- and 0 behind them
@@ -229,23 +218,13 @@ pub stays_as : {es es' : List ℕ} {m m' : ℕ} {ss ss' : List ℤ} {u u' : Purp
 stays_as {es} {es'} {m} {m'} {ss} {ss'} {u} {u'} {rank} {E} {A} a b c d p =
     subst (λ x. StaysIn x m' ss' u' rank E A) a (subst (λ x. StaysIn es x ss' u' rank E A) b (subst (λ x. StaysIn es m x u' rank E A) c (subst (λ x. StaysIn es m ss x rank E A) d p)))
 
-pub blocks_places : (n : Numbers) (E Z PE : List ℕ) (PS : List ℤ) {C B : List ℕ} → length PE ≡ 64 → BlocksAt n E Z PE PS C B → (length C ≡ 64) × (length B ≡ 64)
-blocks_places n E Z PE PS e b = (
-  ap length b.costs ∙ length-padded 0 64 (costs PS n.operands n.plan_rank),
-  ap length b.blocks ∙ go (leb (total (take n.rank E)) 1024),
-)
+-- blocks have as many places as the extents
+pub blocks_long : (n : Numbers) (E Z PE : List ℕ) (PS : List ℤ) → length (blocks_in n E Z PE PS) ≡ length PE
+blocks_long n E Z PE PS = go (leb (total (take n.rank E)) 1024)
   where
-    go : (t : Bool) → length (cond t PE (cut_blocks n.machine (take n.operands Z) PE PS n.plan_rank (purpose_of n.purpose n.chosen))) ≡ 64
-    go true = e
-    go false = blocks_length n.machine (take n.operands Z) PE PS n.plan_rank (purpose_of n.purpose n.chosen) ∙ e
-
--- costs and blocks
-pub blocks_decide : (n : Numbers) (E Z PE : List ℕ) (PS : List ℤ) {C B : List ℕ} → BlocksAt n E Z PE PS C B → (C' B' : List ℕ) {c b : Bool} → c ≡ same_nats C C' → b ≡ same_nats B B'
-    → Decides (c && b) (BlocksAt n E Z PE PS C' B')
-blocks_decide n E Z PE PS {C} {B} fresh C' B' {c} {b} ic ib =
-    decides_as (decides_both c b (decides_is ic (decides_nats C C')) (decides_is ib (decides_nats B B')))
-    (λ q. record { costs = sym q.0 ∙ fresh.costs; blocks = sym q.1 ∙ fresh.blocks })
-    (λ a. (fresh.costs ∙ sym a.costs, fresh.blocks ∙ sym a.blocks))
+    go : (t : Bool) → length (cond t PE (cut_blocks n.machine (take n.operands Z) PE PS n.plan_rank (purpose_of n.purpose n.chosen))) ≡ length PE
+    go true = refl
+    go false = blocks_length n.machine (take n.operands Z) PE PS n.plan_rank (purpose_of n.purpose n.chosen)
 
 -- the arrays of a layout that is right
 module _ (n : Numbers) (E Z : List ℕ) (S : List ℤ) (l : LayoutRight n E Z S) where
@@ -343,6 +322,12 @@ module _ (n : Numbers) (E Z : List ℕ) (S : List ℤ) (l : LayoutRight n E Z S)
 -- the table of the ranks of a layout that is right has its rows
 pub even_of : (s : Session) → LaidRight s → {table : List (List ℕ)} → Tables s table → Even table
 even_of s l {table} t = table_even _ s.rank s.operands l.axes table t.is
+
+-- and each is 0 behind the rank
+pub row_ends : (s : Session) → LaidRight s → {table : List (List ℕ)} → Tables s table → (k : ℕ) → k < s.operands → blank (drop s.rank (get_or table k [])) ≡ true
+row_ends s l {table} t k h =
+    row_blank (take (s.rank * s.operands) s.strides) s.rank s.operands
+    (own_strides s.rank s.operands l.axes l.few s.strides (strides_long (numbers_of s) s.extents s.sizes s.strides l)) l.few table t.is k h
 
 module _ (s : Session) where
   abbrev g : Given

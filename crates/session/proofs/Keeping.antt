@@ -1,6 +1,6 @@
 -- The order by the weights is that of fusing. Assumes nothing.
-use mathlib.Core.Path.{◌≡◌, ap, ◌∙◌}
-use mathlib.Core.Bool.{cond, ◌&&◌, ◌||◌}
+use mathlib.Core.Path.{◌≡◌, sym, ap, ◌∙◌}
+use mathlib.Core.Bool.{Bool, false, cond, ◌&&◌, ◌||◌}
 use mathlib.Core.List.{List}
 use Prim.Native.Nat.{ℕ, ◌≤◌}
 use native.Mathlib.Omega.{arith}
@@ -21,11 +21,14 @@ order_padded ws es n h =
     λ j. let w : ℕ → ℕ = λ i. read_padded 64 0 ws h i j in
     order_to (λ x y. ltb (w x) (w y) || (eqb (w x) (w y) && leb (get_or es x 0) (get_or es y 0))) n
 
-pub order_is : (es : List ℕ) (m : ℕ) (ss : List ℤ) (u : Purpose) → length es ≤ 64 → m ≤ 8 → (W : List ℕ) → W ≡ padded 64 0 (weights es m ss (lead u))
-    → padded 64 0 (cond (leb (total es) 1024) (run 0 (length es)) (order_to (follows W es) (length es))) ≡ padded 64 0 (fusing_order es m ss u)
+-- more than 1,024 cells are put into the loop order
+pub order_is : (es : List ℕ) (m : ℕ) (ss : List ℤ) (u : Purpose) → length es ≤ 64 → m ≤ 8 → leb (total es) 1024 ≡ false → (W : List ℕ) → W ≡ padded 64 0 (weights es m ss (lead u))
+    → padded 64 0 (order_to (follows W es) (length es)) ≡ padded 64 0 (fusing_order es m ss u)
 unfolding fusing_order loop_order
-order_is es m ss u few less W is =
+order_is es m ss u few less large W is =
     let ws : List ℕ = weights es m ss (lead u) in
     let long : length ws ≤ 64 = omega (arith, weights_long es m ss (lead u) less, few) in
-    ap (λ (o : List ℕ). padded 64 0 (cond (leb (total es) 1024) (run 0 (length es)) o))
-    (ap (λ (w : List ℕ). order_to (follows w es) (length es)) is ∙ order_padded ws es (length es) long)
+    ap (padded 64 0)
+    (ap (λ (w : List ℕ). order_to (follows w es) (length es)) is
+    ∙ order_padded ws es (length es) long
+    ∙ sym (ap (λ (t : Bool). cond t (run 0 (length es)) (loop_order es m ss u)) large))

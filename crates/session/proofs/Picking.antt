@@ -1,7 +1,7 @@
 -- A plan's strides compared with those of the axes that stay in it, row by row, where no table of them is made. Assumes nothing.
 use mathlib.Core.Path.{◌≡◌, refl, sym, ap, ap₂, ◌∙◌}
-use mathlib.Core.Bool.{Bool, true, false, ◌&&◌}
-use mathlib.Core.List.{List, [], ◌∷◌, ◌++◌}
+use mathlib.Core.Bool.{Bool, ◌&&◌}
+use mathlib.Core.List.{List, [], ◌∷◌}
 use Prim.Native.Nat.{ℕ, zero, suc, ◌+◌, ◌-◌, ◌*◌, ◌≤◌, ◌<◌}
 use native.Mathlib.Omega.{arith}
 use borrow.Author.Tests.{ne_eqb}
@@ -20,20 +20,8 @@ use Rattle.laws.specs.Fuse.Arrays.{get_d_pick, pick_row, pick_rows}
 use Rattle.laws.specs.Order.Picked.{length-pick}
 use Rattle.session.specs.Session.{same_ints}
 use Rattle.session.specs.Same.{NoneDiffer}
-use Rattle.session.proofs.Comparing.{none_same}
+use Rattle.session.proofs.Comparing.{none_same, same_append}
 use Rattle.session.proofs.Tabling.{rows_more}
-
--- rows behind rows are compared one after the other
-same_z-append : (ps bs xs ys : List ℤ) → length ps ≡ length xs → same_ints (ps ++ bs) (xs ++ ys) ≡ (same_ints ps xs && same_ints bs ys)
-same_z-append [] bs [] ys e = refl
-same_z-append [] bs (x ∷ xs) ys e = absurd (omega (arith, e))
-same_z-append (a ∷ ps) bs [] ys e = absurd (omega (arith, e))
-same_z-append (a ∷ ps) bs (x ∷ xs) ys e =
-    ap (λ (r : Bool). eq_z a x && r) (same_z-append ps bs xs ys (omega (arith, e))) ∙ sym (and_assoc (eq_z a x) (same_ints ps xs) (same_ints bs ys))
-  where
-    and_assoc : (p q r : Bool) → ((p && q) && r) ≡ (p && (q && r))
-    and_assoc true q r = refl
-    and_assoc false q r = refl
 
 -- zeros are compared by looking for bits
 zero_is : (x : ℤ) → eq_z (pos 0) x ≡ eqb (nat_abs x) 0
@@ -86,7 +74,7 @@ module _ (ss : List ℤ) (A : List ℕ) (few : length A ≤ 64) where
         ap₂ (λ (a b : Bool). a && b) h
         (q ∙ sym (same-blank (64 - length A) (drop (length A) row) (omega (arith, d, e)))
         ∙ ap (λ (l : List ℤ). same_ints l (drop (length A) row)) (sym (drop_behind 64 (length A) (pos 0) (pick (pos 0) ss A) (omega (arith, counted)))))
-        ∙ sym (same_z-append (take (length A) (fresh ss A)) (drop (length A) (fresh ss A)) (take (length A) row) (drop (length A) row) front_as_long)
+        ∙ sym (same_append (pos 0) eq_z same_ints refl (λ x y xs ys. refl) (take (length A) (fresh ss A)) (drop (length A) (fresh ss A)) (take (length A) row) (drop (length A) row) front_as_long)
         ∙ ap₂ same_ints (take-append-drop (length A) (fresh ss A)) (take-append-drop (length A) row)
 
 -- all rows
@@ -102,7 +90,7 @@ module _ (ss : List ℤ) (p : ℕ) (o : List ℕ) (PS : List ℤ) (long : length
       let m : (k + 1) * 64 ≡ k * 64 + 64 = omega arith in
       let front : length (take (k * 64) PS) ≡ k * 64 = length-take-le (k * 64) PS (omega (arith, long, h)) in
       sym (ap₂ same_ints (rows_more (λ j. padded 64 (pos 0) (pick_row ss p o j)) k) (ap (λ (n : ℕ). take n PS) m ∙ take-add (k * 64) 64 PS)
-      ∙ same_z-append (pick_rows ss p o k) (padded 64 (pos 0) (pick_row ss p o k)) (take (k * 64) PS) (take 64 (drop (k * 64) PS)) (rows_long k ∙ sym front)
+      ∙ same_append (pos 0) eq_z same_ints refl (λ x y xs ys. refl) (pick_rows ss p o k) (padded 64 (pos 0) (pick_row ss p o k)) (take (k * 64) PS) (take 64 (drop (k * 64) PS)) (rows_long k ∙ sym front)
       ∙ ap₂ (λ (x y : Bool). x && y) (sym a) (sym (q ∙ ap (λ (n : ℕ). same_ints (padded 64 (pos 0) (pick_row ss p o k)) (take n (drop (k * 64) PS))) w)))
 
   pub rows-over : (m : ℕ) → m ≤ 8 → (alike rest : Bool) → alike ≡ same_ints (pick_rows ss p o m) (take (m * 64) PS) → rest ≡ blank_z (drop (m * 64) PS)
@@ -112,5 +100,5 @@ module _ (ss : List ℤ) (p : ℕ) (o : List ℕ) (PS : List ℤ) (long : length
       let front : length (take (m * 64) PS) ≡ m * 64 = length-take-le (m * 64) PS (omega (arith, long, few)) in
       let d = length-drop (m * 64) PS in
       ap₂ (λ (x y : Bool). x && y) a (q ∙ sym (same-blank (512 - length (pick_rows ss p o m)) (drop (m * 64) PS) (omega (arith, d, long, r))))
-      ∙ sym (same_z-append (pick_rows ss p o m) (padded (512 - length (pick_rows ss p o m)) (pos 0) []) (take (m * 64) PS) (drop (m * 64) PS) (r ∙ sym front))
+      ∙ sym (same_append (pos 0) eq_z same_ints refl (λ x y xs ys. refl) (pick_rows ss p o m) (padded (512 - length (pick_rows ss p o m)) (pos 0) []) (take (m * 64) PS) (drop (m * 64) PS) (r ∙ sym front))
       ∙ ap₂ same_ints (sym (padded_is 512 (pos 0) (pick_rows ss p o m) (omega (arith, r, few)))) (take-append-drop (m * 64) PS)

@@ -2,6 +2,7 @@
 -- table of the layout with an operand more or less. Assumes nothing.
 use mathlib.Core.Path.{◌≡◌, refl, sym, ap, ap₂, ◌∙◌, subst}
 use mathlib.Core.Logic.{◌⊎◌, inl, inr, ⊎_elim}
+use mathlib.Core.Bool.{true}
 use mathlib.Core.List.{List, [], ◌∷◌, ◌++◌, map, map-append}
 use Prim.Native.Nat.{ℕ, zero, suc, ◌+◌, ◌-◌, ◌*◌, ◌≤◌, ◌<◌}
 use native.Mathlib.Decide.{dec_le}
@@ -12,7 +13,9 @@ use lib.Seq.{length-take-le}
 use Rattle.strided.specs.Base.{padded, over, run}
 use Rattle.strided.specs.Layout.{stride_row}
 use Rattle.strided.specs.Ranks.{rank_of, ranks, rank_table}
-use Rattle.laws.specs.Base.Arrays.{length-padded, get_d_padded, take_counted}
+use Rattle.strided.specs.Step.{blank}
+use Rattle.laws.specs.Base.Arrays.{length-padded, get_d_padded, take_counted, blank-ℕ, blank_behind}
+use Rattle.laws.specs.Base.Rows.{length_strides}
 use Rattle.laws.specs.Base.Filling.{length-rows, fill_at}
 use Rattle.laws.specs.Base.Lists.{All, get_d_run, over-map, over_last, run-append}
 use Rattle.laws.specs.Order.Ranks.{rank_le, ranks_places, table_rows}
@@ -72,6 +75,19 @@ table_even ss rank m h table is =
       rows = λ k l. subst (λ (t : List (List ℕ)). RankRow (get_or t k [])) (sym (is ∙ ap (padded 8 zero_row) (table_rows ss rank m)))
           (padded-rows 8 (map row (run 0 m)) (all-rows row m 0 (λ j. rank-row (stride_row ss rank j) (let e = length-take rank (drop (j * rank) ss) in omega (arith, e, h)))) k l);
     }
+
+-- a row is 0 behind the rank
+pub row_blank : (ss : List ℤ) (rank m : ℕ) → length ss ≡ rank * m → m ≤ 8 → (table : List (List ℕ)) → table ≡ table_of ss rank m → (k : ℕ) → k < m
+    → blank (drop rank (get_or table k [])) ≡ true
+row_blank ss rank m e few table is k h =
+    let row : ℕ → List ℕ = λ k. padded 64 0 (ranks (stride_row ss rank k)) in
+    let at : get_or table k [] ≡ row k =
+    ap (λ (t : List (List ℕ)). get_or t k []) (is ∙ ap (padded 8 zero_row) (table_rows ss rank m)) ∙ fill_at 8 zero_row [] row m k h few in
+    let long : length (ranks (stride_row ss rank k)) ≡ rank =
+    ap length (ranks_places (stride_row ss rank k))
+    ∙ length-rows (λ i. rank_of (stride_row ss rank k) (nat_abs (get_or (stride_row ss rank k) i (pos 0)))) 0 (length (stride_row ss rank k))
+    ∙ length_strides ss rank m k e h in
+    ap (λ (r : List ℕ). blank (drop rank r)) at ∙ blank_behind blank-ℕ 64 rank (ranks (stride_row ss rank k)) long
 
 -- ---- laid one behind the other
 

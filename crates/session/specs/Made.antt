@@ -1,7 +1,7 @@
 -- A session in lent arrays: what its functions ask of arrays and tell of them, and what a call leaves in them. Assumes nothing.
 use Rattle.std.specs.Prelude.{◌≡◌, cond, List, [], map, ℕ, ◌+◌, ◌-◌, ◌*◌, ◌≤◌, ◌<◌, leb, ℤ, pos, length, get_or, take, replicate, None, Result}
 use Rattle.strided.specs.Base.{padded, over, run}
-use Rattle.strided.specs.Layout.{total, lead, extents as extents_of}
+use Rattle.strided.specs.Layout.{Axis, total, lead, extents as extents_of}
 use Rattle.strided.specs.Machine.{Allowed}
 use Rattle.strided.specs.Memory.{purpose_of, kept, whether}
 use Rattle.strided.specs.Ranks.{rank_table}
@@ -132,14 +132,18 @@ pub record AxesIn (es : List ℕ) (m : ℕ) (ss : List ℤ) (u : Purpose) (rank 
   pub extents : E ≡ padded 64 0 (extents_of (plan_axes es m ss u))
   pub strides : S ≡ stride_table (plan_axes es m ss u) m
 
--- the extents of its plan's axes are in an array, and in another which axes of the layout have their strides
-pub record StaysIn (es : List ℕ) (m : ℕ) (ss : List ℤ) (u : Purpose) (rank : ℕ) (E A : List ℕ) : Type 0 where
-  pub count : rank ≡ length (plan_axes es m ss u)
+-- the extents of axes that were fused are in an array, and in another which of a layout's n axes have their strides
+pub record StaysOf (n m : ℕ) (ss : List ℤ) (axs : List Axis) (rank : ℕ) (E A : List ℕ) : Type 0 where
+  pub count : rank ≡ length axs
   pub few : rank ≤ 64
-  pub extents : E ≡ padded 64 0 (extents_of (plan_axes es m ss u))
+  pub extents : E ≡ padded 64 0 (extents_of axs)
   pub places : length A ≡ 64
-  pub inside : (j : ℕ) → j < rank → get_or A j 0 < length es
-  pub strides : padded 512 (pos 0) (pick_rows ss (length es) (take rank A) m) ≡ stride_table (plan_axes es m ss u) m
+  pub inside : (j : ℕ) → j < rank → get_or A j 0 < n
+  pub strides : padded 512 (pos 0) (pick_rows ss n (take rank A) m) ≡ stride_table axs m
+
+-- those of the plan's axes
+abbrev pub StaysIn : List ℕ → ℕ → List ℤ → Purpose → ℕ → List ℕ → List ℕ → Type 0
+StaysIn es m ss u rank E A = StaysOf (length es) m ss (plan_axes es m ss u) rank E A
 
 abbrev pub AxesAt : Numbers → List ℕ → List ℤ → ℕ → List ℕ → List ℕ → List ℤ → Type 0
 AxesAt n E S rank W PE PS = AxesIn (take n.rank E) n.operands (take (n.rank * n.operands) S) (purpose_in n) rank W PE PS

@@ -11,13 +11,13 @@ ghost use Rattle.strided.specs.Refusals.{refused_by, answered};
 ghost use Rattle.laws.specs.Fuse.Arrays.{pick_rows};
 ghost use Rattle.session.specs.Session.{kind_of, same_nats, same_ints, Right, row21, new_rows};
 ghost use Rattle.session.specs.Same.{Decides};
-ghost use Rattle.session.specs.Made.{RankRow, ranks_in, LaidRight, Tables, WeightsRight, AxesRight, BlocksRight, KeepsRight};
+ghost use Rattle.session.specs.Made.{RankRow, ranks_in, costs_in, blocks_in, numbers_of, LaidRight, Tables, WeightsRight, AxesRight, BlocksRight, KeepsRight};
 
 use super::LentSession;
 use super::compare::{alike, same};
-use super::kept::{blocks_kept_into, stays_kept_into, weights_kept};
+use super::kept::{cut_kept_into, stays_kept_into, weights_kept_into};
 use auxiliary::rank_table_into;
-use fuse::compute_costs;
+use fuse::cost_at;
 use layout::{
     Rows, all_zero, check_planning, operands_wrong, rank_over, reach_over, strides_wrong,
 };
@@ -104,12 +104,15 @@ fn table_into(right: RightLayout, table: &mut [[u8; 64]; 8])
     rank_table_into(laid.layout(), table);
 }
 
-// Whether a row of ranks is that of the table.
-fn row_right<'a>(row: &'a [u8; 64], ranks: &'a [u64]) -> bool
-    requires { RankRow row.now × (length ranks.now ≡ 64) }
+// Whether a row of ranks is that of the table, which is 0 behind the rank.
+fn row_right<'a>(row: &'a [u8; 64], rank: usize, ranks: &'a [u64]) -> bool
+    requires row { RankRow row.now × (length ranks.now ≡ 64) }
+    requires rank { (rank ≤ 64) × (blank (drop rank row.now) ≡ true) }
     ensures { result ≡ same_nats ranks.now row.now }
 {
-    alike(64, |i| ranks[i] ^ row[i] as u64)
+    let told = alike(rank, |i| ranks[i] ^ row[i] as u64);
+    let rest = all_zero(&ranks[rank..]);
+    told & rest
 }
 
 // Whether the ranks are those of the table.
@@ -120,13 +123,14 @@ fn ranks_right(ranked: Ranked) -> bool
 {
     let session = ranked.right.session;
     let table = ranked.table;
+    let rank = session.numbers.rank;
     let operands = session.numbers.operands;
     let ranks = session.ranks;
     let mut alike = true;
     for k in 0..operands {
         let start = k * 64;
         let end = start + 64;
-        alike &= row_right(&table[k], &ranks[start..end]);
+        alike &= row_right(&table[k], rank, &ranks[start..end]);
     }
     let behind = operands * 64;
     let rest = all_zero(&ranks[behind..]);
@@ -140,7 +144,8 @@ fn weights_right(ranked: Ranked) -> bool
     let session = ranked.right.session;
     let weights = session.weights;
     let laid = session.laid();
-    let w = weights_kept(&laid, ranked.table);
+    let mut w = [0u64; 64];
+    weights_kept_into(&laid, ranked.table, &mut w);
     same(&w, weights)
 }
 
@@ -203,26 +208,51 @@ fn axes_right(right: RightLayout) -> bool
     counts & (loops & moves)
 }
 
-// Whether costs and blocks are what the layout gives, where the plan's axes are.
-fn blocks_right(right: RightLayout) -> bool
+// Whether the costs are those of the plan's axes, and 0 behind them, where the plan's axes are what the layout gives.
+fn costs_right(right: RightLayout) -> bool
     requires { AxesRight right.session.now }
-    ensures { Decides result (BlocksRight right.entry.session.now) }
+    ensures { let s = right.entry.session.now in Decides result (s.costs ≡ costs_in (numbers_of s) s.plan.strides) }
 {
     let session = right.session;
     let numbers = session.numbers;
+    let costs = session.costs;
     let plan_strides = session.plan_strides;
     let rows = Rows {
         strides: plan_strides,
         pitch: 64,
         operands: numbers.operands,
     };
-    let c = compute_costs(rows, numbers.plan_rank);
-    let mut b = [0u64; 64];
+    let told = alike(numbers.plan_rank, |i| costs[i] ^ cost_at(rows, i));
+    let rest = all_zero(&costs[numbers.plan_rank..]);
+    told & rest
+}
+
+// Whether the blocks are what the layout gives, where the plan's axes are: at most 1,024 cells are not cut.
+fn cut_right(right: RightLayout) -> bool
+    requires { AxesRight right.session.now }
+    ensures { let s = right.entry.session.now in
+        Decides result (s.plan.blocks ≡ blocks_in (numbers_of s) s.extents s.sizes s.plan.extents s.plan.strides) }
+{
+    let session = right.session;
     let laid = session.laid();
-    blocks_kept_into(&laid, session.plan_extents, plan_strides, &mut b);
-    let costs = session.costs;
+    let extents = session.plan_extents;
     let blocks = session.blocks;
-    same(&c, costs) & same(&b, blocks)
+    if laid.small() {
+        return same(extents, blocks);
+    }
+    let mut b = [0u64; 64];
+    cut_kept_into(&laid, extents, session.plan_strides, &mut b);
+    same(&b, blocks)
+}
+
+// Whether costs and blocks are what the layout gives, where the plan's axes are.
+fn blocks_right(right: RightLayout) -> bool
+    requires { AxesRight right.session.now }
+    ensures { Decides result (BlocksRight right.entry.session.now) }
+{
+    let costs = costs_right(right);
+    let cut = cut_right(right);
+    costs & cut
 }
 
 // Whether everything that is kept beside the ranks is what the layout gives.
@@ -236,7 +266,7 @@ fn kept_right(ranked: Ranked) -> bool
 // Whether a session is one that beginnings and accepted calls lead to. If it is, the table of its ranks is left in `table`, which is lent as
 // zeros.
 // Kept: an `Option` of the table misses the speed of a join, which request 8 measures beside two plannings: its 512 bytes are copied. At 10 x 10
-// that is 4 % more instructions, and 986 ns where it takes 910 to 941. Both figures are of the same code in plain Rust.
+// that is 5,718 instructions for 5,466, both of the same code in plain Rust.
 pub fn holds(session: &LentSession, table: &mut [[u8; 64]; 8]) -> bool
     requires { table.old ≡ replicate 8 (replicate 64 0) }
     ensures told { Decides result (Right session.now) }

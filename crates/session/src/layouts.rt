@@ -2,7 +2,8 @@
 ghost use Rattle.std.specs.Prelude.{◌≡◌, ◌≤◌, length};
 
 use super::Numbers;
-use layout::{Layout, purpose_of};
+use layout::{Layout, purpose_of, total_at_most};
+use order::SMALL_TENSOR_THRESHOLD;
 use strided::Purpose;
 
 #[derive(Clone, Copy)]
@@ -17,7 +18,8 @@ pub struct SessionLayout<'a> {
 }
 
 impl<'a> SessionLayout<'a> {
-    ghost use Rattle.std.specs.Prelude.{◌*◌, take};
+    ghost use Rattle.std.specs.Prelude.{◌*◌, leb, take};
+    ghost use Rattle.strided.specs.Layout.{total};
     ghost use Rattle.session.specs.Made.{purpose_in};
 
     // Its slices.
@@ -34,6 +36,13 @@ impl<'a> SessionLayout<'a> {
             strides: &strides[..numbers.rank * numbers.operands],
             operands: numbers.operands,
         }
+    }
+
+    // Whether it has at most 1,024 cells: so few are fused as they are given, and not cut.
+    pub fn small(&self) -> bool
+        ensures { result ≡ leb (total (take self.now.numbers.rank self.now.extents.now)) 1024 }
+    {
+        total_at_most(self.layout().extents, SMALL_TENSOR_THRESHOLD)
     }
 
     pub fn purpose(&self) -> Purpose

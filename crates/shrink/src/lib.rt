@@ -2,7 +2,7 @@
 // to shorten is the one with the greatest score.
 #![tactic(auto)]
 
-ghost use Rattle.std.specs.Prelude.{◌≡◌, ◌<◌, ◌≤◌, ◌*◌};
+ghost use Rattle.std.specs.Prelude.{◌≡◌, ◌<◌, ◌≤◌, ◌*◌, min};
 ghost use Rattle.strided.specs.Region.{region};
 ghost use Rattle.strided.specs.Cut.{score, greatest_score, halved, lessened, shrunk};
 ghost use Rattle.region.specs.Tail.{axes};
@@ -10,6 +10,7 @@ ghost use Rattle.laws.specs.Cut.Steps.{ScoresFit};
 ghost use Rattle.laws.specs.Cut.Picks.{top_of};
 ghost use Rattle.laws.specs.Cut.Jump.{clipped_over};
 ghost use Rattle.laws.specs.Cut.Level.{Least};
+ghost use Rattle.laws.specs.Cut.Saturate.{cap};
 ghost use Rattle.shrink.specs.Rules.{Shortens};
 
 use region::{Tail, memory_region};
@@ -51,33 +52,40 @@ fn last_argmax_weighted(scores: Scores) -> Option<usize>
 }
 
 // While the region is `least` or above, the picked block becomes what `f` makes of it. A region above twice the cache is told as one just above.
+// It is handed in, `r`, and that of the blocks that are left is answered: each is worked out once.
 // Kept: here, below and in block the clause on the scores. The blocks are lent to be changed, and a struct that held them as `&mut` would ask for
 // clauses on its references in each contract.
 // Kept: a tail and its costs apart, here, below and in block. What binds the two speaks of the blocks, so that a struct of them would hold no fact.
 fn shorten<'a, F: Fn(u64) -> u64>(
     tail: Tail<'a>,
     costs: &'a [u64; 64],
+    r: u64,
     blocks: &mut [u64; 64],
     least: u64,
     f: F,
-)
+) -> u64
     requires fit { ScoresFit tail.rank costs.now blocks.old }
+    requires told { let t = tail in r ≡ min (region t.machine.numbers t.bytes.now t.operands blocks.old t.offset (axes t)) (cap t.machine.numbers) }
     requires callable { F.IsAlwaysCallable f }
     requires limit { least ≤ 2 * tail.machine.numbers.cache }
     requires rule { Shortens (F.post f) least tail.machine.numbers tail.bytes.now tail.operands costs.now tail.offset (axes tail) tail.rank }
-    ensures { let t = tail.entry in (s : Shortens (F.post f) least t.machine.numbers t.bytes.now t.operands costs.now t.offset (axes t) t.rank)
+    ensures told { let t = tail.entry in result ≡ min (region t.machine.numbers t.bytes.now t.operands blocks.new t.offset (axes t)) (cap t.machine.numbers) }
+    ensures rule { let t = tail.entry in (s : Shortens (F.post f) least t.machine.numbers t.bytes.now t.operands costs.now t.offset (axes t) t.rank)
         → blocks.new ≡ s.rule blocks.old }
 {
-    while least <= memory_region(tail, blocks) {
+    let mut r = r;
+    while least <= r {
         let Some(i) = last_argmax_weighted(Scores {
             tail,
             costs,
             blocks,
         }) else {
-            return;
+            return r;
         };
         blocks[i] = f(blocks[i]);
+        r = memory_region(tail, blocks);
     }
+    r
 }
 
 // Every score above `level` in the tail is taken down to it or below, in one step. What becomes of each block is written into `out`.
@@ -130,11 +138,12 @@ fn level(scores: Scores) -> u64
 }
 
 // While the region is above the cache, the picked block loses 1. Most of these steps are one jump: below its score each axis has at most one more.
-fn lessen<'a>(tail: Tail<'a>, costs: &'a [u64; 64], blocks: &mut [u64; 64])
-    requires { ScoresFit tail.rank costs.now blocks.old }
+fn lessen<'a>(tail: Tail<'a>, costs: &'a [u64; 64], r: u64, blocks: &mut [u64; 64])
+    requires fit { ScoresFit tail.rank costs.now blocks.old }
+    requires told { let t = tail in r ≡ min (region t.machine.numbers t.bytes.now t.operands blocks.old t.offset (axes t)) (cap t.machine.numbers) }
     ensures { let t = tail.entry in blocks.new ≡ lessened t.machine.numbers t.bytes.now t.operands costs.now t.offset (axes t) blocks.old }
 {
-    if memory_region(tail, blocks) <= tail.machine.numbers.cache {
+    if r <= tail.machine.numbers.cache {
         return;
     }
     let whole = *blocks;
@@ -147,6 +156,7 @@ fn lessen<'a>(tail: Tail<'a>, costs: &'a [u64; 64], blocks: &mut [u64; 64])
     shorten(
         tail,
         costs,
+        memory_region(tail, blocks),
         blocks,
         tail.machine.numbers.cache + 1,
         |b| b.saturating_sub(1),
@@ -154,16 +164,19 @@ fn lessen<'a>(tail: Tail<'a>, costs: &'a [u64; 64], blocks: &mut [u64; 64])
 }
 
 // The blocks of the tail: while the region is at least twice the cache, the picked block is halved, rounding up; then they are lessened.
-pub fn shrink<'a>(tail: Tail<'a>, costs: &'a [u64; 64], blocks: &mut [u64; 64])
-    requires { ScoresFit tail.rank costs.now blocks.old }
+// `r` is their region at first.
+pub fn shrink<'a>(tail: Tail<'a>, costs: &'a [u64; 64], r: u64, blocks: &mut [u64; 64])
+    requires fit { ScoresFit tail.rank costs.now blocks.old }
+    requires told { let t = tail in r ≡ min (region t.machine.numbers t.bytes.now t.operands blocks.old t.offset (axes t)) (cap t.machine.numbers) }
     ensures { let t = tail.entry in blocks.new ≡ shrunk t.machine.numbers t.bytes.now t.operands costs.now t.offset (axes t) blocks.old }
 {
-    shorten(
+    let r = shorten(
         tail,
         costs,
+        r,
         blocks,
         2 * tail.machine.numbers.cache,
         |b| b.div_ceil(2),
     );
-    lessen(tail, costs, blocks);
+    lessen(tail, costs, r, blocks);
 }

@@ -45,7 +45,8 @@ fn greater(x: f64, greatest: f64) -> f64
     if greatest < x { x } else { greatest }
 }
 
-// ONE MORE CELL.
+// ONE MORE CELL. Where there are extremes a cell that is not a number is neither less nor greater than they are, so that the cells of a loop need
+// no test of their own for it: the extremes go from cell to cell in one instruction each.
 // Kept: where x is not a number, what stays is named field by field. With `..s` rows of 5 take 44 in 1,000 more instructions, and rows of 50 take
 // 18 more. `group_behind` takes as many with it as without.
 pub fn with_cell(s: Summary, x: f64) -> Summary
@@ -54,24 +55,25 @@ pub fn with_cell(s: Summary, x: f64) -> Summary
 {
     let sum = s.sum + x;
     let count = s.count + 1;
-    if x.is_nan() {
-        return Summary {
-            sum,
-            least: s.least,
-            greatest: s.greatest,
-            count,
-            nans: s.nans + 1,
-            extremes: s.extremes,
-        };
-    }
+    let nan = x.is_nan();
     if s.extremes {
         return Summary {
             sum,
             least: lesser(x, s.least),
             greatest: greater(x, s.greatest),
             count,
-            nans: s.nans,
+            nans: s.nans + u64::from(nan),
             extremes: true,
+        };
+    }
+    if nan {
+        return Summary {
+            sum,
+            least: s.least,
+            greatest: s.greatest,
+            count,
+            nans: s.nans + 1,
+            extremes: false,
         };
     }
     Summary {

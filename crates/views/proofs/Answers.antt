@@ -8,11 +8,12 @@ use Prim.Native.Nat.{ℕ}
 use native.Mathlib.Omega.{arith}
 use lib.IntN.{ℤ}
 use lib.ListN.{length, take, get_or}
+use borrow.Author.Tests.{le-ltb, ne_eqb}
 use Rattle.strided.specs.Refusals.{refused_by, answers_unless, served_unless, row1, row2, layout_refused}
 use Rattle.strided.specs.Index.{told_original}
 use Rattle.strided.specs.Begin.{begin_refused}
 use Rattle.strided.specs.Step.{plan_cut_axes, step_rows, stepped, left, handed_block}
-use Rattle.strided.specs.Memory.{flag, is_set, index_at, index_memory, walk_at, walk_in, StepMemory, step_memory, kept_step}
+use Rattle.strided.specs.Memory.{index_at, index_memory, walk_in, StepMemory, step_memory, kept_step}
 use Rattle.strided.specs.declared.Purpose.{Purpose}
 use Rattle.strided.specs.declared.Refusal.{Refusal}
 use Rattle.strided.specs.declared.Refusal.TheVariants.{State}
@@ -32,11 +33,13 @@ use Rattle.laws.specs.Walk.Steps.{none_of, wide, counters-many}
 use Rattle.advance.specs.Sized as plans
 use Rattle.layout.specs.declared.slices.Layout.{Layout}
 use Rattle.layout.specs.Checked.{LetThrough}
+use Rattle.layout.specs.Lent.{Whole}
 use Rattle.layout.proofs.Checks.{through_with}
 use Rattle.finding.specs.Memory.{Leaves}
 use Rattle.finding.specs.Mapped.{found_original}
 use Rattle.finding.proofs.Answers.{original_passed}
 use Rattle.walk.specs.Lent.{Taken, SteppedInto, over_step}
+use Rattle.walk.proofs.Answered.{flag_back}
 use Rattle.walk.proofs.Stepping.{zs, r, runs, ended_step, here, block_here, counters-here}
 use Rattle.views.specs.declared.Visited.{Visited}
 use Rattle.views.specs.Number.{block_number}
@@ -68,17 +71,16 @@ refused_is (Err r) l = let a = l.answer in (cc a, l.memory)
 -- ---- the rows
 
 module _ (es sizes : List ℕ) (ss : List ℤ) (u : Purpose) (rank operands : ℕ) where
-  -- where rows 1 and 2 pass, the layout's rows are left
-  pub visit_rest : (row1 (length es)).applies ≡ false → (row1 rank).applies ≡ false → (row2 (length sizes)).applies ≡ false → (row2 operands).applies ≡ false
-      → layout_refused es sizes ss u ≡ visit_refused es sizes ss u rank operands
+  -- where rows 1 and 2 of the plan pass, the layout's rows are left
+  visit_rest : (row1 rank).applies ≡ false → (row2 operands).applies ≡ false → layout_refused es sizes ss u ≡ visit_refused es sizes ss u rank operands
   unfolding layout_refused visit_refused
-  visit_rest a b c d = rw (a, b, c, d)
+  visit_rest b d = rw (b, d)
 
   visit_layout : visit_refused es sizes ss u rank operands ≡ None → layout_refused es sizes ss u ≡ None
   unfolding visit_refused NoneApplies
   visit_layout h =
       let n : NoneApplies (visit_rows es sizes ss u rank operands) = none_applies (visit_rows es sizes ss u rank operands) h in
-      visit_rest n.0 n.1.0 n.1.1.0 n.1.1.1.0 ∙ h
+      visit_rest n.1.0 n.1.1.1.0 ∙ h
 
   -- and so the check's layout is one that index finding takes
   pub visit_through : {l : Layout} → LetThrough (visit_refused es sizes ss u rank operands) es sizes ss l → LetThrough (layout_refused es sizes ss u) es sizes ss l
@@ -89,6 +91,12 @@ module _ (es sizes : List ℕ) (ss : List ℤ) (u : Purpose) (rank operands : �
   visit_plan h =
       let n : NoneApplies (visit_rows es sizes ss u rank operands) = none_applies (visit_rows es sizes ss u rank operands) h in
       rw (n.1.0, n.1.1.1.0)
+
+-- a plan that is lent has passed its two rows
+pub visit_lent : (es sizes : List ℕ) (ss : List ℤ) (u : Purpose) {p : Plan} → Whole p → layout_refused es sizes ss u ≡ visit_refused es sizes ss u p.rank p.operands
+visit_lent es sizes ss u {p} k =
+    let n : p.operands ≡ 0 → ⊥ = λ q. absurd (omega (arith, q, k.one)) in
+    visit_rest es sizes ss u p.rank p.operands (le-ltb 64 p.rank k.axes) (rw (ne_eqb p.operands 0 n) (le-ltb 8 p.operands k.few))
 
 -- what the lending refuses the visit refuses too
 pub lend_refused : (es sizes : List ℕ) (ss : List ℤ) (u : Purpose) (p : Plan) {s : Refusal} → Err s ≡ served_unless (refused_by (row1 (length es) ∷ step_rows p)) p
@@ -203,14 +211,6 @@ module _ (es sizes : List ℕ) (ss : List ℤ) (u : Purpose) (p : Plan) (w : Wal
         (ap (λ (tell : List ℕ → Result Told Refusal). seen_by tell p s) finds ∙ visited_is (sym e)) l
 
 -- ---- a visit by value, out of what one in lent arrays leaves
-
-flag_back : (b : Bool) → is_set (flag b) ≡ b
-flag_back true = refl
-flag_back false = refl
-
--- a state that lies in memory is read back
-pub lent_walk : (w : Walk) {x : ℕ} → x ≡ flag w.ended → walk_in (walk_at (x ∷ []) w.counters w.offsets) ≡ w
-lent_walk w e = λ i. record { ended = (ap is_set e ∙ flag_back w.ended) i; counters = w.counters; offsets = w.offsets }
 
 -- the record and the state that lie in memory
 abbrev pub visit_in : VisitMemory → Visited

@@ -10,7 +10,7 @@ use native.Mathlib.Omega.{arith}
 use lib.ListN.{get_or, take, replicate, length-replicate}
 use Rattle.std.proofs.lemmas.Grind.{div_ceil_times}
 use Rattle.laws.specs.Base.Ranges.{below_or}
-use Rattle.strided.specs.Walk.{CutAxis, cut_axes}
+use Rattle.strided.specs.Walk.{CutAxis, cut_axes, len_at}
 use Rattle.laws.specs.Walk.States.{Wide, Inside}
 use Rattle.laws.specs.Walk.Cuts.{axes_wide}
 use Rattle.laws.specs.Walk.Totals.{cell_count, block_count, cut-total}
@@ -19,6 +19,7 @@ use Rattle.advance.specs.Filled.{filled_at}
 use Rattle.strided.specs.declared.Plan.{Plan}
 use Rattle.strided.specs.Step.{plan_cut_axes}
 use Rattle.advance.specs.Axis.{width_at, widths}
+use Rattle.advance.proofs.Axis.{start_whole}
 use Rattle.advance.proofs.Bridge.{from, from-take, axes_at}
 use Rattle.advance.proofs.Plans.{axes_are}
 use Rattle.views.specs.declared.number.Tally.{Tally}
@@ -42,6 +43,32 @@ tiles_ceil e w h p =
     (below_or (q + 1) d))
     (λ (a : d ≤ q). (let c : d * w ≤ q * w = mul-le-mul_right w a in absurd (omega (arith, t.0, t.1, u, v, c))))
     (below_or q d)
+
+-- ---- one axis more
+
+-- blocks of 1 are tiles of their own
+pub tallied_one : (e k : ℕ) (t : Tally) → k < e → record { before = e * t.before + k * t.size; size = t.size; place = t.place } ≡ tallied e 1 k t
+unfolding tallied
+tallied_one e k t h =
+    let s : k ≡ k / 1 * 1 = omega arith in
+    let one : len_at e 1 (k / 1 * 1) ≡ 1 = omega arith in
+    let size : t.size ≡ len_at e 1 (k / 1 * 1) * t.size = rw one (omega arith) in
+    let place : t.place ≡ len_at e 1 (k / 1 * 1) * t.place + (k - k / 1 * 1) = rw one (omega arith) in
+    λ i. record { before = e * t.before + s i * t.size; size = size i; place = place i }
+
+-- the first tile starts at 0
+first_len : (e w k : ℕ) → k < w → min w e ≡ len_at e w (k / w * w)
+first_len e w k h = let s : k / w * w ≡ 0 = start_whole w k h in omega (arith, s)
+
+pub first_place : (e w k p : ℕ) → k < w → min w e * p + k ≡ len_at e w (k / w * w) * p + (k - k / w * w)
+first_place e w k p h = let s : k / w * w ≡ 0 = start_whole w k h in rw (sym (first_len e w k h)) (omega (arith, s))
+
+pub tallied_first : (e w k : ℕ) (t : Tally) → k < w → record { before = e * t.before; size = min w e * t.size; place = min w e * t.place + k } ≡ tallied e w k t
+unfolding tallied
+tallied_first e w k t h =
+    let s : k / w * w ≡ 0 = start_whole w k h in
+    let before : e * t.before ≡ e * t.before + k / w * w * t.size = rw s (omega arith) in
+    λ i. record { before = before i; size = first_len e w k h i * t.size; place = first_place e w k t.place h i }
 
 abbrev pub tally_of : List CutAxis → List ℕ → Tally
 tally_of axs v = record { before = tiles_before axs v; size = tile_size axs v; place = place_in_tile axs v }

@@ -87,7 +87,7 @@ pub fn visit_into(
         let new = visit_at s' number.new (index_at count.new index.new) in
         VisitLeaves (visited extents.now sizes.now strides.now purpose plan.now (walk_in w)) old new result }
 {
-    let layout = check_visit(extents, sizes, strides, purpose, plan.rank, plan.operands)?;
+    let layout = check_visit(extents, sizes, strides, purpose, plan)?;
     let walk = LentWalk {
         ended: ended[0] != 0,
         counters: &*counters,

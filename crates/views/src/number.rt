@@ -21,6 +21,24 @@ fn tally_axis(extent: u64, width: u64, at: u64, tally: Tally) -> Tally
     requires { Room extent width at tally }
     ensures { result ≡ tallied extent width at tally }
 {
+    // Blocks of 1 are tiles of their own.
+    if width == 1 {
+        let before = extent * tally.before + at * tally.size;
+        return Tally {
+            before,
+            size: tally.size,
+            place: tally.place,
+        };
+    }
+    // The first tile starts at 0.
+    if at < width {
+        let len = width.min(extent);
+        return Tally {
+            before: extent * tally.before,
+            size: len * tally.size,
+            place: len * tally.place + at,
+        };
+    }
     let start = tile_start(width, at);
     let len = width.min(extent - start);
     let before = extent * tally.before + start * tally.size;

@@ -66,9 +66,11 @@ pub fn put_walk(walk: Walk, ended: &mut [u64; 1], counters: &mut [u64; 64], offs
 // have to say of each that it lends the same one on.
 
 // Kept: Taken as a clause, here and in block_at, bulk::put_blocks and views::memory::found_into. A struct of a walk that runs would lend the
-// counters and offsets, which this and found_into change. For the two others alone it is no plainer: the clause would stay beside it.
+// counters and offsets, which this, put_blocks and found_into change. For block_at alone it is no plainer: the clause would stay beside it.
 
 // The block at the counters, and the state at the next one, in the lent arrays. It checks nothing.
+// The hint: compiled as a function of its own for its two callers it takes 14 instructions more a step, of 840, and 42 more a visit, of 1,500.
+#[inline(always)]
 pub fn block_into(
     plan: &LentPlan,
     ended: &mut [u64; 1],
@@ -87,9 +89,10 @@ pub fn block_into(
         SteppedInto (stepped plan.now (walk_of false counters.old offsets.old)) old new (Ok true) }
 {
     let bl = length_by(plan, width_on(plan, 0), counters[0]);
-    let bs = firsts(plan);
     *block_counters = *counters;
     *length = [bl];
+    // Behind the copy of the counters, which is a call: the strides would be kept on the stack over it.
+    let bs = firsts(plan);
     *block_offsets = *offsets;
     *block_strides = bs;
     let more = advance_on(plan, counters, offsets);

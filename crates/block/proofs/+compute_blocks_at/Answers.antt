@@ -14,8 +14,8 @@ returns-then-tail t c =
     let a = c.args in
     sym (cut_empty a.tail.machine.numbers a.tail.bytes.now a.tail.operands a.costs.now a.ranks.now a.tail.offset a.tail.rank a.blocks.now c.if-tail.true)
 
-pub returns-then-memory_region-tail : goal.returns-then-memory_region-tail
-returns-then-memory_region-tail t c =
+pub returns-then-r-tail : goal.returns-then-r-tail
+returns-then-r-tail t c =
     let a = c.args in
     let small : region a.tail.machine.numbers a.tail.bytes.now a.tail.operands a.blocks.now a.tail.offset (axes a.tail) ≤ a.tail.machine.numbers.cache = omega arith in
     sym (cut_fits a.tail.machine.numbers a.tail.bytes.now a.tail.operands a.costs.now a.ranks.now a.tail.offset a.tail.rank a.blocks.now (omega arith) small)

@@ -38,7 +38,7 @@ go_behind-requires c =
 pub returns-then-not-go_behind : goal.returns-then-not-go_behind
 returns-then-not-go_behind c =
     let a = rw c.of-course.ensures at c.stretch_here-x.ensures in
-    wrote_last c.loop-n.invariant.1 c.requires.has_room c.loop-n-test.true (strode_past a.0 a.1 c.min-count.ensures (rw c.of-course.ensures at (kept_passed (c.if-not-hop.ensures.kept refl) c.if-not-go_behind.ensures))) (rw c.of-course.ensures at c.moves-d.ensures) c.put_lengths.ensures c.put_rows.ensures refl c.requires.taken refl c.blocks_written.ensures
+    wrote_last c.loop-n.invariant.1 c.requires.has_room c.loop-n-test.true (strode_past a.0 a.1 c.min-count.ensures (rw c.of-course.ensures at (kept_passed (c.if-not-hop.ensures.kept refl) c.if-not-go_behind.ensures))) (rw c.of-course.ensures at c.moves-d.ensures) c.put_lengths.ensures c.put_rows.ensures refl c.requires.taken refl c.put_state.ensures
 
 pub loop-n-smaller : goal.loop-n-smaller
 loop-n-smaller c =
@@ -59,4 +59,4 @@ loop-n-preserved c =
 
 pub returns : goal.returns
 returns c =
-    wrote_full c.loop-n.invariant.1 c.requires.has_room (le_antisymm c.loop-n.invariant.0 c.loop-n-test.false) c.requires.taken refl c.blocks_written-2.ensures
+    wrote_full c.loop-n.invariant.1 c.requires.has_room (le_antisymm c.loop-n.invariant.0 c.loop-n-test.false) c.requires.taken refl c.put_state-2.ensures

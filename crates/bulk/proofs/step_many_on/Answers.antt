@@ -1,27 +1,16 @@
--- `bulk::step_many_on` meets its contract: the answer of one step decides, and the blocks are the next ones. Assumes nothing.
-use mathlib.Core.Path.{ap, ◌∙◌, subst}
-use Rattle.std.specs.Prelude.{Ok}
+-- `bulk::step_many_on` meets its contract: the steps in lent arrays leave what this one hands out. Assumes nothing.
+use mathlib.Core.Path.{subst}
 use Rattle.std.proofs.lemmas.Result.{err_from_is_err_and}
-use Rattle.strided.specs.declared.Walk.{Walk}
-use Rattle.walk.specs.Lent.{Answers}
-use Rattle.walk.proofs.Stepping.{answers_at}
-use Rattle.bulk.proofs.Ways.{refused-many, ended_many, wrote_many}
+use Rattle.walk.proofs.Answered.{lent_walk}
+use Rattle.bulk.specs.Blocks.{SteppedManyInto}
+use Rattle.bulk.proofs.Ways.{many_back}
 use Rattle.bulk.proofs.step_many_on.Goals as goal
 
-pub returns-in_err-answer_of : goal.returns-in_err-answer_of
-returns-in_err-answer_of c =
-    let told = subst (λ (w : Walk). Answers c.args.plan.now w c.answer_of.result) c.from.ensures c.answer_of.ensures in
+pub returns-in_err-blocks : goal.returns-in_err-blocks
+returns-in_err-blocks c =
     let p = err_from_is_err_and c.from_residual.result c.from_residual.ensures.1 in
-    rw (p.1, p.2) (refused-many _ _ _ _ (answers_at _ _ told c.in_err-answer_of.was))
-
-pub returns-then-branch : goal.returns-then-branch
-returns-then-branch c =
-    let told = subst (λ (w : Walk). Answers c.args.plan.now w c.answer_of.result) c.from.ensures c.answer_of.ensures in
-    let k = answers_at _ _ told (c.in_ok-answer_of.was ∙ ap Ok c.if-branch.true) in
-    let a = c.args in
-    wrote_many a.plan.now a.walk a.lengths.now a.offsets.now _ c.room_for-room.ensures k.1 c.put_blocks.ensures
+    rw (p.1, p.2) (many_back _ _ _ _ _ (lent_walk c.args.walk c.flag.ensures) (subst (SteppedManyInto _ _ _) c.in_err-blocks.was c.step_many_into.ensures))
 
 pub returns : goal.returns
 returns c =
-    let told = subst (λ (w : Walk). Answers c.args.plan.now w c.answer_of.result) c.from.ensures c.answer_of.ensures in
-    ended_many _ _ _ _ (answers_at _ _ told (c.in_ok-answer_of.was ∙ ap Ok c.if-branch.false))
+    rw c.walk_of.ensures (many_back _ _ _ _ _ (lent_walk c.args.walk c.flag.ensures) (subst (SteppedManyInto _ _ _) c.in_ok-blocks.was c.step_many_into.ensures))

@@ -22,10 +22,6 @@ more C T c t r top p q e = omega arith
 near_small : {s b : ℕ} → s < 256 → b ≤ 2097153 → s * b ≤ 536871168
 near_small {s = s} {b = b} h k = let q : s ≤ 256 = omega arith in let p : s * b ≤ 256 * 2097153 = mul-le-mul q k in omega arith
 
--- a product that is saturated is cut off as the product itself
-cut_off : (x : ℕ) {y r t : ℕ} → y ≡ min x 18446744073709551615 → r ≡ min y t → t ≤ 2097153 → r ≡ min x t
-cut_off x h k l = omega arith
-
 pub loop-i-init : goal.loop-i-init
 loop-i-init c =
     let a = c.args in
@@ -59,7 +55,8 @@ loop-i-preserved c = let a = c.args in
             rw (ps, lt-ltb s mc.line (omega (arith, e, w.if-s-tail.true)), mul-one) (w.m-is ∙ c.loop-i.invariant.2),
           )
       | else-s-tail w ↦
-          let t : w.min-m.result ≡ min (c.loop-i.m * b) top = cut_off (c.loop-i.m * b) w.saturating_mul.ensures w.min-m.ensures (omega arith) in (
+          let t : w.min-m.result ≡ min (c.loop-i.m * b) top =
+          w.min-m.ensures ∙ ap (λ (x : ℕ). min (c.loop-i.m * x) top) w.min-else-s-tail.ensures ∙ min-mul-right c.loop-i.m b top in (
             omega (arith, w.c-is),
             rw (ss, le-ltb s mc.line (omega (arith, e, w.if-s-tail.false)), add-zero) (capped top w.c-is ∙ c.loop-i.invariant.1),
             rw (ps, le-ltb s mc.line (omega (arith, e, w.if-s-tail.false))) (w.m-is ∙ t ∙ ap (λ (x : ℕ). min (x * b) top) c.loop-i.invariant.2 ∙ min-mul-left M b top),
@@ -76,7 +73,7 @@ returns c = let l = c.loop-i in
     let C : ℕ = sum (near mc bytes blocks a.k) a.tail.offset (l.i - a.tail.offset) in
     let M : ℕ = product (far mc bytes blocks a.k) a.tail.offset (l.i - a.tail.offset) in
     let e : l.i ≡ a.tail.rank = omega arith in
-    let t : c.min-3.result ≡ min (l.m * c.whole_lines.result) (cap mc) = cut_off (l.m * c.whole_lines.result) c.saturating_mul-2.ensures c.min-3.ensures (omega arith) in
+    let t : c.min-3.result ≡ min (l.m * c.whole_lines.result) (cap mc) = c.min-3.ensures in
     lines_sat mc.line (cap mc) c.min-2.result C l.m M c.min-3.result (omega arith) (c.min-2.ensures ∙ l.invariant.1) l.invariant.2
     (t ∙ ap (λ (x : ℕ). min (l.m * x) (cap mc)) c.whole_lines.ensures)
     ∙ ap (λ (i : ℕ). min (region_of mc bytes blocks a.tail.offset (i - a.tail.offset) a.k) (cap mc)) e

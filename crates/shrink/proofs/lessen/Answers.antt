@@ -26,15 +26,15 @@ module _ (mc : Machine) (bytes : List ℕ) (operands : ℕ) (costs : List ℕ) (
   same_end : Least mc bytes operands costs o n b s → lessened mc bytes operands costs o n t ≡ lessened mc bytes operands costs o n b
   same_end h = ap (lessened mc bytes operands costs o n) is ∙ sym (jump mc bytes operands costs o n s b h.above)
 
-pub returns-then-memory_region-tail : goal.returns-then-memory_region-tail
-returns-then-memory_region-tail c =
+pub returns-then-r-tail : goal.returns-then-r-tail
+returns-then-r-tail c =
     let a = c.args in
     let small : region a.tail.machine.numbers a.tail.bytes.now a.tail.operands a.blocks.now a.tail.offset (axes a.tail) ≤ a.tail.machine.numbers.cache = omega arith in
     sym (lessened_fits a.tail.machine.numbers a.tail.bytes.now a.tail.operands a.costs.now a.tail.offset (axes a.tail) a.blocks.now small)
 
 pub shorten-requires-clause-fit : goal.shorten-requires-clause-fit
 shorten-requires-clause-fit c =
-    let a = c.args in still-fit a.tail.machine.numbers a.tail.bytes.now a.tail.operands a.costs.now a.tail.offset (axes a.tail) a.tail.rank a.blocks.now c.level.result c.clip_into.ensures c.requires
+    let a = c.args in still-fit a.tail.machine.numbers a.tail.bytes.now a.tail.operands a.costs.now a.tail.offset (axes a.tail) a.tail.rank a.blocks.now c.level.result c.clip_into.ensures c.requires.fit
 
 pub shorten-requires-clause-rule : goal.shorten-requires-clause-rule
 shorten-requires-clause-rule c = by_ones (λ x r h. search rules) _ _ _ _ _ _ _
@@ -42,5 +42,5 @@ shorten-requires-clause-rule c = by_ones (λ x r h. search rules) _ _ _ _ _ _ _
 pub returns : goal.returns
 returns c =
     let a = c.args in
-    c.shorten.ensures (by_ones (λ x r h. search rules) _ _ _ _ _ _ _)
+    c.shorten.ensures.rule (by_ones (λ x r h. search rules) _ _ _ _ _ _ _)
     ∙ same_end a.tail.machine.numbers a.tail.bytes.now a.tail.operands a.costs.now a.tail.offset (axes a.tail) a.tail.rank a.blocks.now c.level.result c.clip_into.ensures c.level.ensures

@@ -7,7 +7,8 @@ use Rattle.layout.specs.Lent.{Whole}
 use Rattle.advance.specs.Sized.{whole_sized}
 use Rattle.views.specs.Visits.{visited}
 use Rattle.views.specs.Memory.{VisitLeaves}
-use Rattle.views.proofs.Answers.{lent_walk, back_refused, back_block, back_ended, over_visit, Over}
+use Rattle.walk.proofs.Answered.{lent_walk}
+use Rattle.views.proofs.Answers.{back_refused, back_block, back_ended, over_visit, Over}
 use Rattle.views.proofs.visit_on.Goals as goal
 
 pub returns-in_err-some : goal.returns-in_err-some

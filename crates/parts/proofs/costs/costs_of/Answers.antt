@@ -3,7 +3,7 @@ use mathlib.Core.Path.{refl}
 use Rattle.parts.proofs.Fusing.{few-made}
 use Rattle.parts.proofs.costs.costs_of.Goals as goal
 
-pub compute_costs-requires : goal.compute_costs-requires
-compute_costs-requires c =
+pub costs_into-requires : goal.costs_into-requires
+costs_into-requires c =
     let l = c.args.layout in
-    record { operands = c.requires; pitch = refl; rank = few-made l.extents.now l.operands l.strides.now c.args.purpose l.fits c.axes_into-rank.ensures.rank }
+    record { operands = c.requires; pitch = refl; rank = few-made l.extents.now l.operands l.strides.now c.args.purpose l.fits c.axes_into-rank.ensures.rank; zeros = refl }

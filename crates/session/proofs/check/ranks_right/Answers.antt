@@ -3,13 +3,14 @@ use mathlib.Core.Path.{◌≡◌, refl, sym, ap, ◌∙◌, subst}
 use Prim.Native.Nat.{ℕ, ◌+◌, ◌-◌, ◌*◌, ◌≤◌, ◌<◌}
 use native.Mathlib.Omega.{arith}
 use native.Mathlib.Nat.{le_antisymm}
-use mathlib.Core.List.{List}
-use lib.ListN.{length, take, drop, length-drop}
+use mathlib.Core.Bool.{true}
+use mathlib.Core.List.{List, []}
+use lib.ListN.{length, get_or, take, drop, length-drop}
 use lib.Seq.{length-take-le}
 use Rattle.session.specs.Session.{same_nats}
 use Rattle.session.specs.Made.{rows_of, ranks_in}
 use Rattle.strided.specs.Step.{blank}
-use Rattle.session.proofs.Holding.{decides_for, even_of, rest_of, row_next, ranks_decide}
+use Rattle.session.proofs.Holding.{decides_for, even_of, row_ends, rest_of, row_next, ranks_decide}
 use Rattle.session.proofs.check.ranks_right.Goals as goal
 
 -- a row of the ranks has its places
@@ -27,7 +28,13 @@ row_right-alike-requires c =
     let l = c.loop-k in
     let t = c.loop-k-test.true in
     let f = l.invariant.0 in
-    ((even_of c.args.ranked.right.session.now c.args.ranked.right.right c.args.ranked.ranks).rows l.k (omega (arith, f, t)), row_long c.session.inside.ranks.now l.k l.invariant.1 (omega (arith, f, t)))
+    let r = c.args.ranked.right in
+    let T = c.args.ranked.table.now in
+    record {
+      row = ((even_of r.session.now r.right c.args.ranked.ranks).rows l.k (omega (arith, f, t)), row_long c.session.inside.ranks.now l.k l.invariant.1 (omega (arith, f, t)));
+      rank = subst (λ s. (s.rank ≤ 64) × (blank (drop s.rank (get_or T l.k [])) ≡ true)) (sym c.session.view_is)
+          (r.right.axes, row_ends r.session.now r.right c.args.ranked.ranks l.k (subst (λ s. l.k < s.operands) c.session.view_is t));
+    }
 
 pub loop-k-preserved : goal.loop-k-preserved
 loop-k-preserved c =

@@ -1,26 +1,20 @@
--- `session::kept::stays_kept_into` meets its contract. Assumes nothing.
+-- `session::kept::stays_kept_into` meets its contract: the order is that of fusing. Assumes nothing.
 use mathlib.Core.Path.{◌≡◌, refl, sym, ap, ◌∙◌, subst}
-use Prim.Native.Nat.{ℕ, ◌≤◌, ◌<◌}
-use native.Mathlib.Omega.{arith}
-use lib.ListN.{length, take}
-use lib.Seq.{get_or-take, length-take-le}
+use mathlib.Core.Bool.{true}
+use mathlib.Core.List.{List}
+use Prim.Native.Nat.{ℕ}
+use lib.Dec.{leb}
+use lib.ListN.{length}
 use Rattle.strided.specs.Base.{padded}
-use Rattle.strided.specs.Layout.{extents}
+use Rattle.strided.specs.Layout.{Axis, total}
 use Rattle.strided.specs.Order.{fusing_order}
-use Rattle.strided.specs.Plan.{stride_table}
-use Rattle.laws.specs.Base.Arrays.{length-padded}
+use Rattle.arrange.specs.Axes.{in_given}
 use Rattle.arrange.specs.Fusing.{in_order_lem, as_planned}
-use Rattle.fuse.specs.Kept.{stays}
-use Rattle.fuse.proofs.Keeping.{Stand, stand_count, stand_inside, stand_rank, stand_extents, stand_strides}
-use Rattle.fuse.proofs.Planning.{zeros_behind, made_long, as_planned as as-fused}
-use Rattle.session.specs.Made.{purpose_in}
+use Rattle.kernel.proofs.Plans.{given_planned}
+use Rattle.session.specs.Made.{purpose_in, StaysOf}
 use Rattle.session.proofs.Holding.{stays_as}
 use Rattle.session.proofs.kept.stays_kept_into.Goals as goal
 use Rattle.session.proofs.kept.stays_kept_into.Goals.{After-order_kept_into}
-
--- the number of an axis is a byte
-below-256 : {x n : ℕ} → x < n → n ≤ 64 → x < 256
-below-256 h k = omega arith
 
 -- the order that the weights give
 ordered : (c : After-order_kept_into) → let l = c.layout-layout.result in
@@ -30,48 +24,30 @@ ordered c =
     let u = purpose_in c.args.laid.now.numbers in
     c.order_kept_into.ensures ∙ sym (λ i. padded 64 0 (fusing_order (q.extents i) (q.operands i) (q.strides i) u))
 
-pub fused_into-requires : goal.fused_into-requires
-fused_into-requires c =
-    let l = c.layout-layout.result in
-    let t = in_order_lem l.extents.now l.operands l.strides.now (purpose_in c.args.laid.now.numbers) l.fits.rank-few (ordered (goal.at.fused_into-requires c).After-order_kept_into) in
-    record { order = t; out = zeros_behind (length (take (length l.extents.now) c.order_kept_into.new.order)) (omega (arith, t.all, l.fits.rank-few)) }
+pub stays_into-requires : goal.stays_into-requires
+stays_into-requires c = record { order = in_given (length c.layout-layout.result.extents.now); zeros = c.requires.es_value }
 
-pub kept_axes_into-requires : goal.kept_axes_into-requires
-kept_axes_into-requires c =
+pub returns-then-small : goal.returns-then-small
+returns-then-small c =
     let l = c.layout-layout.result in
-    let t = in_order_lem l.extents.now l.operands l.strides.now (purpose_in c.args.laid.now.numbers) l.fits.rank-few (ordered (goal.at.kept_axes_into-requires c).After-order_kept_into) in
-    let long = made_long l.extents.now l.fits t {rs = l.strides.now} refl refl refl c.fused_into.ensures (sym t.all) in
-    record { arrays = (long, omega (arith, long, t.all, l.fits.rank-few)); inside = (λ j h. below-256 (t.inside j (omega (arith, long, t.all))) l.fits.rank-few); zeros = c.requires.es_value }
+    let q = c.layout-layout.ensures in
+    let small : leb (total l.extents.now) 1024 ≡ true = ap (λ (e : List ℕ). leb (total e) 1024) q.extents ∙ sym c.small.ensures ∙ c.if-small.true in
+    stays_as q.extents q.operands q.strides refl
+    (subst (λ (xs : List Axis). StaysOf (length l.extents.now) l.operands l.strides.now xs c.stays_into.result c.stays_into.new.es c.stays_into.new.axes)
+    (given_planned l.extents.now l.operands l.strides.now (purpose_in c.args.laid.now.numbers) small (λ xs. xs) refl) c.stays_into.ensures)
+
+pub stays_into-requires-2 : goal.stays_into-requires-2
+stays_into-requires-2 c =
+    let l = c.layout-layout.result in
+    record {
+      order = in_order_lem l.extents.now l.operands l.strides.now (purpose_in c.args.laid.now.numbers) l.fits.rank-few (ordered (goal.at.stays_into-requires-2 c).After-order_kept_into);
+      zeros = c.requires.es_value;
+    }
 
 pub returns : goal.returns
 returns c =
     let l = c.layout-layout.result in
-    let es = l.extents.now in
-    let ss = l.strides.now in
-    let m = l.operands in
-    let u = purpose_in c.args.laid.now.numbers in
-    let is = ordered (goal.at.returns c).After-order_kept_into in
-    let t = in_order_lem es m ss u l.fits.rank-few is in
-    let made = c.fused_into.ensures in
-    let k = c.kept_axes_into in
-    let O = take (length es) c.order_kept_into.new.order in
-    let F = take (length es) c.fused_into.new.fused in
-    let long = made_long es l.fits t {rs = ss} refl refl refl made (sym t.all) in
-    let few : length F ≤ 64 = omega (arith, long, t.all, l.fits.rank-few) in
-    let w : Stand F O (stays F) k.new.extents k.new.axes k.result = (k.ensures.count, (k.ensures.extents, k.ensures.axes)) in
-    let count : k.result ≤ 64 = stand_count ss (length es) m O F few w in
-    let places : length k.new.axes ≡ 64 = ap length k.ensures.axes ∙ length-padded 0 64 _ in
-    let taken : length (take k.result k.new.axes) ≡ k.result = length-take-le k.result k.new.axes (omega (arith, count, places)) in
     let q = c.layout-layout.ensures in
     stays_as q.extents q.operands q.strides refl
-    (record {
-      count = as_planned es m ss u l.fits.rank-few is length (as-fused es l.fits t refl refl refl made (sym t.all) (λ xs n. length xs) (stand_rank ss (length es) m O F few w));
-      few = count;
-      extents = as_planned es m ss u l.fits.rank-few is (λ xs. padded 64 0 (extents xs))
-          (as-fused es l.fits t refl refl refl made (sym t.all) (λ xs n. padded 64 0 (extents xs)) (stand_extents ss (length es) m O F few w));
-      places = places;
-      inside = λ j h. subst (λ (x : ℕ). x < length es) (get_or-take k.result k.new.axes j 0 h)
-          (stand_inside ss (length es) m O F few w (λ i g. t.inside i (omega (arith, long, t.all))) j (omega (arith, taken)));
-      strides = as_planned es m ss u l.fits.rank-few is (λ xs. stride_table xs m)
-          (as-fused es l.fits t refl refl refl made (sym t.all) stride_table (stand_strides ss (length es) m O F few w refl));
-    })
+    (subst (λ (xs : List Axis). StaysOf (length l.extents.now) l.operands l.strides.now xs c.stays_into-2.result c.stays_into-2.new.es c.stays_into-2.new.axes)
+    (as_planned l.extents.now l.operands l.strides.now (purpose_in c.args.laid.now.numbers) l.fits.rank-few (ordered (goal.at.returns c).After-order_kept_into) (λ xs. xs) refl) c.stays_into-2.ensures)

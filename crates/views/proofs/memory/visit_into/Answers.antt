@@ -3,9 +3,8 @@ use Rattle.std.proofs.Common.{sym, ap, ◌∙◌}
 use Rattle.std.proofs.lemmas.Result.{err_from_is_err_and}
 use Rattle.std.specs.Prelude.{Ok}
 use Rattle.strided.specs.Step.{stepped}
-use Rattle.strided.specs.declared.Plan.{Plan}
 use Rattle.layout.specs.Checked.{LetThrough}
-use Rattle.layout.proofs.Checks.{checked-through, checked_some, through_with}
+use Rattle.layout.proofs.Checks.{checked-through, checked_some}
 use Rattle.finding.proofs.Answers.{cells-few}
 use Rattle.walk.proofs.Stepping.{answers_at, running}
 use Rattle.views.specs.Visits.{visit_refused}
@@ -13,20 +12,18 @@ use Rattle.views.proofs.Answers.{visit_through, entry_refused, entry_state, entr
 use Rattle.views.proofs.memory.visit_into.Goals as goal
 use Rattle.views.proofs.memory.visit_into.Goals.{In_ok-layout}
 
--- the rows of a visit let the layout through, on the plan as it is lent and so on its value
+-- the rows of a visit let the layout through
 through : (c : In_ok-layout) → let a = c.args in LetThrough (visit_refused a.extents.now a.sizes.now a.strides.now a.purpose a.plan.now.rank a.plan.now.operands) a.extents.now a.sizes.now a.strides.now c.in_ok-layout.layout
 through c =
     let a = c.args in
-    let l = checked-through a.extents.now a.sizes.now a.strides.now c.check_visit.ensures c.in_ok-layout.was in
-    through_with l (ap (λ (q : Plan). visit_refused a.extents.now a.sizes.now a.strides.now a.purpose q.rank q.operands) (sym c.plan.view_is) ∙ l.served)
+    checked-through a.extents.now a.sizes.now a.strides.now c.check_visit.ensures c.in_ok-layout.was
 
 pub returns-in_err-layout : goal.returns-in_err-layout
 returns-in_err-layout c =
     let a = c.args in
     let p = err_from_is_err_and c.from_residual.result c.from_residual.ensures.1 in
     rw (p.1, p.2) (entry_refused a.extents.now a.sizes.now a.strides.now a.purpose a.plan.now _
-    (ap (λ (q : Plan). visit_refused a.extents.now a.sizes.now a.strides.now a.purpose q.rank q.operands) (sym c.plan.view_is)
-    ∙ checked_some a.extents.now a.sizes.now a.strides.now c.check_visit.ensures c.in_err-layout.was))
+    (checked_some a.extents.now a.sizes.now a.strides.now c.check_visit.ensures c.in_err-layout.was))
 
 pub returns-in_err-answer_of : goal.returns-in_err-answer_of
 returns-in_err-answer_of c =

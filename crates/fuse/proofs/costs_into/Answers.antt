@@ -1,7 +1,5 @@
--- `fuse::compute_costs` meets its contract. The invariant: the first i costs are stored. Assumes nothing.
-use Rattle.std.specs.Prelude.{Option, None, Some}
-use Rattle.std.specs.Option.{unwrap_or}
-use mathlib.Core.Path.{◌≡◌, refl, sym, ap, ap₂, ◌∙◌}
+-- `fuse::costs_into` meets its contract. The invariant: the first i costs are stored. Assumes nothing.
+use mathlib.Core.Path.{◌≡◌, sym, ap, ap₂, ◌∙◌}
 use mathlib.Core.List.{List}
 use Prim.Native.Nat.{ℕ}
 use native.Mathlib.Omega.{arith}
@@ -14,14 +12,10 @@ use Rattle.laws.specs.Base.Stores.{fill_first}
 use Rattle.laws.specs.Cut.Tables.{cost_at}
 use Rattle.fuse.specs.Sizes.{size_at}
 use Rattle.fuse.proofs.Costing.{length-costs}
-use Rattle.fuse.proofs.compute_costs.Goals as goal
-
-told : (o : Option ℕ) → unwrap_or o 0 ≡ cost_number o
-told None = refl
-told (Some n) = refl
+use Rattle.fuse.proofs.costs_into.Goals as goal
 
 pub loop-i-init : goal.loop-i-init
-loop-i-init c = (omega arith, fill_none 64 0)
+loop-i-init c = (omega arith, c.requires.zeros ∙ fill_none 64 0)
 
 pub loop-i-preserved : goal.loop-i-preserved
 loop-i-preserved c =
@@ -29,8 +23,8 @@ loop-i-preserved c =
     let i = c.loop-i.i in
     let C : List ℕ = costs r.strides.now r.operands c.args.rank in
     let long : length C ≡ c.args.rank = length-costs r.strides.now r.operands c.args.rank in
-    let e : c.unwrap_or.result ≡ get_or C i 0 =
-    c.unwrap_or.ensures ∙ told c.cost.result ∙ ap cost_number c.cost.ensures ∙ ap (λ (p : ℕ). cost_number (cost_of (size_at r.strides.now p i) r.operands)) c.requires.pitch
+    let e : c.cost_at.result ≡ get_or C i 0 =
+    c.cost_at.ensures ∙ ap (λ (p : ℕ). cost_number (cost_of (size_at r.strides.now p i) r.operands)) c.requires.pitch
     ∙ sym (cost_at r.strides.now r.operands c.args.rank i c.loop-i-test.true) in (
       omega (arith, c.loop-i-test),
       ap₂ (λ (o : List ℕ) (v : ℕ). set o i v) c.loop-i.invariant.1 e ∙ fill_first 0 64 C i (omega (arith, c.requires.rank, long)) (omega (arith, c.loop-i-test, long)),

@@ -1,4 +1,4 @@
--- `session::kept::weights_kept` meets its contract. Assumes nothing.
+-- `session::kept::weights_kept_into` meets its contract. Assumes nothing.
 use mathlib.Core.Path.{◌≡◌, sym, ap, ◌∙◌}
 use native.Mathlib.Omega.{arith}
 use lib.ListN.{length}
@@ -9,7 +9,7 @@ use Rattle.strided.specs.Weights.{weights}
 use Rattle.session.specs.Made.{purpose_in}
 use Rattle.session.specs.Tabled.{tabled_ranked}
 use Rattle.session.proofs.Tabling.{table_of}
-use Rattle.session.proofs.kept.weights_kept.Goals as goal
+use Rattle.session.proofs.kept.weights_kept_into.Goals as goal
 
 pub invariant_of-ranked : goal.invariant_of-ranked
 invariant_of-ranked c =
@@ -20,7 +20,7 @@ invariant_of-ranked c =
     ap length q.extents ∙ length-take-le a.numbers.rank a.extents.now (let e = a.all.0 in let f = a.axes in omega (arith, e, f)) in
     record {
       moving = (tabled_ranked l.extents.now l.strides.now c.args.table.now l.operands
-          (record { fits = l.fits; ranks = c.requires.is ∙ sym (λ i. table_of (q.strides i) (rank i) (q.operands i)) })).1;
+          (record { fits = l.fits; ranks = c.requires.table.is ∙ sym (λ i. table_of (q.strides i) (rank i) (q.operands i)) })).1;
     }
 
 pub returns : goal.returns
