@@ -146,6 +146,12 @@ pub fn times(rounds: u64) -> Vec<Row> {
         vec![1],
         Data::Records,
     ));
+    layouts.push((
+        "3 x 10,000 of 4, rising",
+        vec![3, 10_000],
+        vec![1, 4],
+        Data::Rising,
+    ));
     let mut found = Vec::new();
     for (name, extents, strides, data) in layouts {
         let reach: i64 = extents

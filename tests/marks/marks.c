@@ -1,6 +1,6 @@
 /*
  * The repeat mark against brute force: every layout of rank 0 to 3 with extents 0 to 4 and strides -5 to 5, and seeded ones with totals around
- * 4,096, where it ceases to be exact, and around 64, where the code goes over from one way of listing offsets to another. The answers are worked
+ * 4,096, where it ceases to be exact, and around 256, where the code goes over from one way of listing offsets to another. The answers are worked
  * out here from document 02's sentences: all offsets sorted, or the stride sizes.
  */
 #include "gougelily.h"
@@ -92,7 +92,7 @@ static void compare(size_t rank, const uint64_t *extents, const int64_t *strides
         above_met[want]++;
     else if (total > 3500)
         at_limit_met[want]++;
-    else if (total >= 56)
+    else if (total >= 230)
         near_met[want]++;
     else
         small_met[want]++;
@@ -171,8 +171,8 @@ int main(int argc, char **argv)
     for (uint64_t i = 0; i < draws; i++)
         draw(3500, LIMIT, 4700);
     for (uint64_t i = 0; i < draws; i++)
-        draw(56, 64, 72);
-    printf("%" PRIu64 " small layouts, and %" PRIu64 " no, %" PRIu64 " yes from 56 cells on; then up to %d cells %" PRIu64 " no, %" PRIu64 " yes; above %" PRIu64 " no, %" PRIu64 " yes, %" PRIu64 " undecided\n",
+        draw(230, 256, 280);
+    printf("%" PRIu64 " small layouts, and %" PRIu64 " no, %" PRIu64 " yes from 230 cells on; then up to %d cells %" PRIu64 " no, %" PRIu64 " yes; above %" PRIu64 " no, %" PRIu64 " yes, %" PRIu64 " undecided\n",
            small, near_met[0], near_met[1], LIMIT, at_limit_met[0], at_limit_met[1], above_met[0], above_met[1], above_met[2]);
     for (int i = 0; i < 2; i++)
         if (near_met[i] < 100 || at_limit_met[i] < 100 || above_met[i] < 100 || above_met[2] < 100) {

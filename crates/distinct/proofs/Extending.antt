@@ -52,11 +52,11 @@ place-front v l n h q =
 pub record Extended (old : List ℕ) (n e a : ℕ) (list : List ℕ) (j : ℕ) : Type 0 where
   pub begun : n ≤ j
   pub within : j ≤ n * e
-  pub long : length list ≡ 64
+  pub long : length list ≡ 256
   pub holds : (k i : ℕ) → i < n → k * n + i < j → get_or list (k * n + i) 0 ≡ k * a + get_or old i 0
   pub clear : (k i : ℕ) → 0 < k → i < n → k * n + i < j → Missing old n (k * a + get_or old i 0)
 
-module _ (old : List ℕ) (n e a : ℕ) (some : 0 < n) (one : 0 < e) (room : n * e ≤ 64) (old-long : length old ≡ 64) where
+module _ (old : List ℕ) (n e a : ℕ) (some : 0 < n) (one : 0 < e) (room : n * e ≤ 256) (old-long : length old ≡ 256) where
   first_copy : (k i : ℕ) → k * n + i < n → k ≡ 0
   first_copy zero i h = refl
   first_copy (suc k) i h = absurd (omega arith)

@@ -1,4 +1,4 @@
-// The offsets of a layout of at most 64 cells, listed in the order of its indices: one array, and nothing is merged.
+// The offsets of a layout of at most 256 cells, listed in the order of its indices: one array, and nothing is merged.
 ghost use Rattle.std.specs.Prelude.{◌≡◌, ◌↔◌, true, ◌-◌, ◌*◌, ◌<◌, ◌≤◌, length, take};
 ghost use Rattle.strided.specs.Layout.{total};
 ghost use Rattle.strided.specs.Mark.{Shared};
@@ -24,8 +24,8 @@ fn holds(list: &[u64], x: u64) -> bool
 // share one exactly if a later copy shares one with the first, so that only the first is looked at.
 // Kept: n says how far an array of fixed memory is filled, and that it and `extent` are above 0 is a fact of one call, for which a type would
 // be no plainer.
-fn extend(list: &mut [u64; 64], n: usize, extent: usize, size: u64) -> bool
-    requires { (0 < n) × (0 < extent) × (n * extent ≤ 64) × Low list.old n ((extent - 1) * size) }
+fn extend(list: &mut [u64; 256], n: usize, extent: usize, size: u64) -> bool
+    requires { (0 < n) × (0 < extent) × (n * extent ≤ 256) × Low list.old n ((extent - 1) * size) }
     ensures { Spreading (take n list.old) extent size result (take (n * extent) list.new) }
 {
     for j in n..n * extent {
@@ -38,14 +38,14 @@ fn extend(list: &mut [u64; 64], n: usize, extent: usize, size: u64) -> bool
     true
 }
 
-// Whether two indices share an offset, the total being at most 64. The list is extended over the axes, the last first.
+// Whether two indices share an offset, the total being at most 256. The list is extended over the axes, the last first.
 // Kept: extent and stride by the axis's number, here and in `many_repeat`: what holds in the loop is about the axes from i on, and a `zip` of the
 // two slices would be numbered only to be turned round: no plainer.
 pub fn few_repeat(operand: Operand) -> bool
-    requires { total operand.extents.now ≤ 64 }
+    requires { total operand.extents.now ≤ 256 }
     ensures { (result ≡ true) ↔ Shared operand.entry.extents.now operand.entry.strides.now }
 {
-    let mut list = [0u64; 64];
+    let mut list = [0u64; 256];
     let mut n: usize = 1;
     for i in (0..operand.extents.len()).rev() {
         let extent = operand.extents[i] as usize;

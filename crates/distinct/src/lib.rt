@@ -55,7 +55,7 @@ pub fn repeats(operand: Operand) -> bool
     requires { total operand.extents.now ≤ 4096 }
     ensures { (result ≡ true) ↔ Shared operand.entry.extents.now operand.entry.strides.now }
 {
-    if total_at_most(operand.extents, 64) {
+    if total_at_most(operand.extents, 256) {
         return few_repeat(operand);
     }
     many_repeat(operand)

@@ -1,6 +1,7 @@
 pub mod Summing
 pub mod Steps
 pub mod Quiet
+pub mod Pairs
 pub mod Meeting
 pub mod Counts
 pub mod Exact

@@ -1,21 +1,21 @@
 -- Cells ahead of a summary, met one by one and run by run. Assumes nothing.
-use Rattle.std.specs.Prelude.{◌≡◌, refl, Bool, true, ◌&&◌, List, [], ◌∷◌, ◌++◌, map, ℕ, zero, suc, ◌+◌, ◌-◌, ◌^◌, ◌≤◌, ◌<◌, ℤ, pos, negsuc, ◌+ℤ◌, ◌*ℤ◌, Float, length}
+use Rattle.std.specs.Prelude.{◌≡◌, refl, true, List, [], ◌∷◌, ◌++◌, map, ℕ, zero, suc, ◌+◌, ◌-◌, ◌^◌, ◌≤◌, ◌<◌, ℤ, pos, negsuc, ◌+ℤ◌, ◌*ℤ◌, Float, length}
 use Rattle.std.proofs.Common.{sym, ap, ◌∙◌, subst, arith, length-append, SFits, ltb-true}
 use Rattle.std.proofs.lemmas.Bool.{false≢true}
 use Rattle.std.proofs.lemmas.List.{map-append, length-map}
 use Rattle.std.proofs.Math.Nat.{sub-zero}
 use Rattle.std.proofs.Math.IntN.{+ℤ_assoc, +ℤ_comm, +ℤ_idr, zero-*ℤ, suc_ℤ-*ℤ}
 use Rattle.std.specs.Int.{w64}
+use Rattle.laws.specs.Base.Integers.{add-*ℤ}
 use Rattle.laws.specs.Base.Lists.{All}
-use Rattle.laws.specs.Base.Tests.{and_both}
 use Rattle.summary.specs.declared.cell.Summary.{Summary}
-use Rattle.summary.specs.Sums.{with_sum, with_cell, with_cells}
+use Rattle.summary.specs.declared.run.Part.{Part}
+use Rattle.summary.specs.Sums.{with_cell, with_cells}
 use Rattle.summary.proofs.Steps.{step_count, step-few, cells-append, cells_count, cells-few}
 use Rattle.span.specs.Span.{in_cells}
 use Rattle.summary.specs.Visits.{cell_of}
 use Rattle.summary.specs.Ahead.{run_from, rows_from, Ahead, met, RunsFit}
-use Rattle.summary.specs.Parts.{between, grown}
-use Rattle.summary.proofs.Quiet.{quiet_none, quiet_next}
+use Rattle.summary.specs.Parts.{Went}
 
 -- ---- an offset in the slice
 
@@ -78,8 +78,15 @@ move_none o t = sym (ap (λ (z : ℤ). o +ℤ z) (zero-*ℤ t) ∙ +ℤ_idr o)
 move_first : (o t : ℤ) (k : ℕ) → (o +ℤ t) +ℤ pos k *ℤ t ≡ o +ℤ pos (suc k) *ℤ t
 move_first o t k = +ℤ_assoc o t (pos k *ℤ t) ∙ ap (λ (z : ℤ). o +ℤ z) (+ℤ_comm t (pos k *ℤ t) ∙ sym (suc_ℤ-*ℤ (pos k) t))
 
+move_on : (o t : ℤ) (k m : ℕ) → (o +ℤ pos k *ℤ t) +ℤ pos m *ℤ t ≡ o +ℤ pos (k + m) *ℤ t
+move_on o t k m = +ℤ_assoc o (pos k *ℤ t) (pos m *ℤ t) ∙ ap (λ (z : ℤ). o +ℤ z) (sym (add-*ℤ (pos k) (pos m) t))
+
 pub move_last : (o t : ℤ) (k : ℕ) → (o +ℤ pos k *ℤ t) +ℤ t ≡ o +ℤ pos (suc k) *ℤ t
 move_last o t k = +ℤ_assoc o (pos k *ℤ t) t ∙ ap (λ (z : ℤ). o +ℤ z) (sym (suc_ℤ-*ℤ (pos k) t))
+
+pub run_many : (o t : ℤ) (n : ℕ) → length (run_from o t n) ≡ n
+run_many o t zero = refl
+run_many o t (suc n) = ap suc (run_many (o +ℤ t) t n)
 
 -- its first cells, and those behind them
 run_parts : (o t : ℤ) (a b : ℕ) → run_from o t (a + b) ≡ run_from o t a ++ run_from (o +ℤ pos a *ℤ t) t b
@@ -161,62 +168,72 @@ module _ {cells : List Float} {t : ℤ} {n : ℕ} {whole : Summary} {k : ℕ} {s
         goes = sym (met-append cells s xs ys) ∙ ap (met cells s) (sym parts) ∙ r.goes;
       })
 
--- ---- the cells behind the one at `from`: k of n are met
+-- ---- the cells behind the one at `from`: k of n are met, and make s of `start`
 
-pub record Going (cells : List Float) (t : ℤ) (n : ℕ) (whole : Summary) (from : ℤ) (k : ℕ) (s : Summary) (o : ℤ) : Type 0 where
+pub record Going (cells : List Float) (t : ℤ) (n : ℕ) (start : Summary) (from : ℤ) (k : ℕ) (s : Summary) (o : ℤ) : Type 0 where
   pub most : k ≤ n
-  pub runs : Running cells t n whole k s o
+  pub runs : Running cells t n (met cells start (run_from (from +ℤ t) t n)) k s o
+  pub makes : s ≡ met cells start (run_from (from +ℤ t) t k)
   pub at : o ≡ from +ℤ pos k *ℤ t
 
-pub going_none : {cells : List Float} {s : Summary} {o t : ℤ} {n : ℕ} → Ahead cells s (run_from (o +ℤ t) t n) → Going cells t n (met cells s (run_from (o +ℤ t) t n)) o 0 s o
+pub going_none : {cells : List Float} {s : Summary} {o t : ℤ} {n : ℕ} → Ahead cells s (run_from (o +ℤ t) t n) → Going cells t n s o 0 s o
 going_none {cells} {s} {o} {t} {n} a =
-    record { most = omega arith; runs = record { ahead = rw (sub-zero n) a; goes = rw (sub-zero n) }; at = move_none o t }
+    record { most = omega arith; runs = record { ahead = rw (sub-zero n) a; goes = rw (sub-zero n) }; makes = refl; at = move_none o t }
 
-module _ {cells : List Float} {t : ℤ} {n : ℕ} {whole : Summary} {from : ℤ} {k : ℕ} {s : Summary} {o : ℤ} (g : Going cells t n whole from k s o) where
-  pub going_next : k < n → {o' : ℤ} → o' ≡ o +ℤ t → {s' : Summary} → s' ≡ with_cell s (cell_of cells o') → Going cells t n whole from (k + 1) s' o'
+module _ {cells : List Float} {t : ℤ} {n : ℕ} {start : Summary} {from : ℤ} {k : ℕ} {s : Summary} {o : ℤ} (g : Going cells t n start from k s o) where
+  pub going_went : Went cells start from t k (record { summary = s; met = k; last = o })
+  going_went = record { many = refl; makes = g.makes; ends = g.at }
+
+  -- several at once
+  pub going_on : (m : ℕ) → k + m ≤ n → {o' : ℤ} → o' ≡ o +ℤ pos m *ℤ t → {s' : Summary} → s' ≡ met cells s (run_from (o +ℤ t) t m) → Going cells t n start from (k + m) s' o'
+  going_on m h at e =
+      let there : (from +ℤ t) +ℤ pos k *ℤ t ≡ o +ℤ t = move_first from t k ∙ sym (move_last from t k) ∙ ap (λ (z : ℤ). z +ℤ t) (sym g.at) in
+      record {
+        most = h;
+        runs = running_on g.runs m (omega (arith, h)) at e;
+        makes =
+            e ∙ ap (λ (u : Summary). met cells u (run_from (o +ℤ t) t m)) g.makes
+            ∙ ap (λ (z : ℤ). met cells (met cells start (run_from (from +ℤ t) t k)) (run_from z t m)) (sym there)
+            ∙ sym (met-append cells start (run_from (from +ℤ t) t k) (run_from ((from +ℤ t) +ℤ pos k *ℤ t) t m))
+            ∙ ap (met cells start) (sym (run_parts (from +ℤ t) t k m));
+        at = at ∙ ap (λ (z : ℤ). z +ℤ pos m *ℤ t) g.at ∙ move_on from t k m;
+      }
+
+  -- one more
+  pub going_next : k < n → {o' : ℤ} → o' ≡ o +ℤ t → {s' : Summary} → s' ≡ with_cell s (cell_of cells o') → Going cells t n start from (k + 1) s' o'
   going_next h at e =
-      let i : suc k ≡ k + 1 = omega arith in
-      record {
-        most = omega (arith, h);
-        runs = running_next g.runs h at e;
-        at = at ∙ ap (λ (z : ℤ). z +ℤ t) g.at ∙ move_last from t k ∙ ap (λ (m : ℕ). from +ℤ pos m *ℤ t) i;
-      }
+      going_on 1 (omega (arith, h)) (at ∙ ap (λ (z : ℤ). z +ℤ t) (move_none o t) ∙ move_last o t 0) (e ∙ ap (λ (z : ℤ). with_cell s (cell_of cells z)) at)
 
-  pub going_end : n ≤ k → (s ≡ whole) × (o ≡ from +ℤ pos n *ℤ t)
-  going_end h =
-      let e : k ≡ n = omega (arith, h, g.most) in
-      (running_end g.runs h, g.at ∙ ap (λ (m : ℕ). from +ℤ pos m *ℤ t) e)
+-- a part of them
+pub going_part : {cells : List Float} {s : Summary} {o t : ℤ} {n m : ℕ} {p : Part} → Ahead cells s (run_from (o +ℤ t) t n) → m ≤ n → Went cells s o t m p → Going cells t n s o m p.summary p.last
+going_part {cells} {s} {o} {t} {n} {m} {p} a h w =
+    let from_none : 0 + m ≡ m = omega arith in
+    subst (λ (k : ℕ). Going cells t n s o k p.summary p.last) from_none (going_on (going_none a) m (omega (arith, h)) w.ends w.makes)
 
--- ---- a group: what it makes cell by cell is what its sum says, while it is quiet
+-- two more
+module _ {cells : List Float} {t : ℤ} {n : ℕ} {start : Summary} {from : ℤ} {k : ℕ} {s : Summary} {o : ℤ} (g : Going cells t n start from k s o) (h : k + 1 < n) where
+  first_of_two : k < n
+  first_of_two = omega (arith, h)
 
-pub record Grouping (cells : List Float) (t : ℤ) (n : ℕ) (whole s : Summary) (from : ℤ) (k : ℕ) (sum : Float) (quiet : Bool) (o : ℤ) : Type 0 where
-  pub made : Summary
-  pub goes : Going cells t n whole from k made o
-  pub calm : quiet ≡ true → (s.extremes ≡ true) × (made ≡ grown s k sum)
+  pub first_of_two_in : in_cells (length cells) (o +ℤ t) ≡ true
+  first_of_two_in = running_in g.runs first_of_two
 
-pub grouping_none : {cells : List Float} {s : Summary} {o t : ℤ} {n : ℕ} → Ahead cells s (run_from (o +ℤ t) t n)
-    → Grouping cells t n (met cells s (run_from (o +ℤ t) t n)) s o 0 s.sum s.extremes o
-grouping_none {cells} {s} a = record { made = s; goes = going_none a; calm = λ q. (q, quiet_none s) }
+  module _ {o' : ℤ} (at : o' ≡ o +ℤ t) where
+    one_met : Going cells t n start from (k + 1) (with_cell s (cell_of cells o')) o'
+    one_met = going_next g first_of_two at refl
 
-module _ {cells : List Float} {t : ℤ} {n : ℕ} {whole s : Summary} {from : ℤ} {k : ℕ} {sum : Float} {quiet : Bool} {o : ℤ} (g : Grouping cells t n whole s from k sum quiet o) where
-  pub grouping_in : k < n → in_cells (length cells) (o +ℤ t) ≡ true
-  grouping_in h = running_in g.goes.runs h
+    pub second_of_two_in : in_cells (length cells) (o' +ℤ t) ≡ true
+    second_of_two_in = running_in one_met.runs h
 
-  pub grouping_next : k < n → {o' : ℤ} → o' ≡ o +ℤ t → {x : Float} → x ≡ cell_of cells o' → {b : Bool} → b ≡ between s.least x s.greatest
-      → Grouping cells t n whole s from (k + 1) (with_sum sum x) (quiet && b) o'
-  grouping_next h {o'} at {x} is {b} test =
-      record {
-        made = with_cell g.made x;
-        goes = going_next g.goes h at (ap (with_cell g.made) is);
-        calm = λ q. let p = and_both quiet b q in let c = g.calm p.0 in (c.0, ap (λ (u : Summary). with_cell u x) c.1 ∙ quiet_next s k sum x c.0 (sym test ∙ p.1));
-      }
+    pub two_room : (s.count + 1 < 2 ^ 64 - 1) × (s.nans ≤ s.count)
+    two_room =
+        let r = running_room one_met.runs h in
+        let c = step_count s (cell_of cells o') in
+        (omega (arith, r.0, c), (running_room g.runs first_of_two).1)
 
-  -- all of it
-  pub grouping_end : n ≤ k → (quiet ≡ true → grown s n sum ≡ whole) × (o ≡ from +ℤ pos n *ℤ t)
-  grouping_end h =
-      let e = going_end g.goes h in
-      let i : n ≡ k = omega (arith, h, g.goes.most) in
-      (λ q. ap (λ (m : ℕ). grown s m sum) i ∙ sym (g.calm q).1 ∙ e.0, e.1)
+    pub going_two : {o'' : ℤ} → o'' ≡ o' +ℤ t → {s' : Summary} → s' ≡ with_cell (with_cell s (cell_of cells o')) (cell_of cells o'')
+        → Going cells t n start from (k + 1 + 1) s' o''
+    going_two at' e = going_next one_met h at' e
 
 -- ---- rows of runs, run by run
 

@@ -1,93 +1,16 @@
 -- THE EXTREMES are cells, and no cell that is a number is strictly below the least or strictly above the greatest. Assumes nothing.
-use Rattle.std.specs.Prelude.{◌≡◌, refl, ◌⊎◌, Bool, true, false, cond, List, [], ◌∷◌, ℕ, ◌+◌, ◌*◌, ◌<◌, Float}
-use Rattle.std.proofs.Common.{sym, ◌∙◌, inl, inr, true≢false, mul_right_comm, mul-pos, mul-lt-mul_of_pos_right, lt_of_mul-lt-mul_right, lt_trans, le_refl, arith, ltb-true, lt-ltb, le-ltb}
+use Rattle.std.specs.Prelude.{◌≡◌, refl, ◌⊎◌, Bool, true, false, cond, List, [], ◌∷◌, Float}
+use Rattle.std.proofs.Common.{sym, ◌∙◌, inl, inr, true≢false}
 use Rattle.std.proofs.lemmas.Bool.{false≢true}
-use Rattle.std.specs.Float.{nan, inf, fin}
-use Rattle.std.specs.Float.Ieee.{up, down, below, lt, is_nan}
-use Rattle.std.specs.Float.Ieee.Fits.{down_pos}
-use Rattle.std.specs.Float.Ieee.Positive.{first_pos}
+use Rattle.std.specs.Float.Ieee.{lt, is_nan}
 use Rattle.summary.specs.declared.cell.Summary.{Summary}
+use Rattle.summary.specs.Ordered.{lt_trans_float, lt_irrefl_float}
 use Rattle.summary.specs.Sums.{lesser, greater, nothing_met, with_nan, with_number, with_cell, with_cells, summary_of}
 
 -- y is one of the cells
 abbrev pub In : Float → List Float → Type 0
 In y [] = ⊥
 In y (x ∷ xs) = (y ≡ x) ⊎ In y xs
-
--- ---- `lt` is an order
-
-cross : (X Y Z dx dy dz : ℕ) → 0 < dx → 0 < dz → X * dy < Y * dx → Y * dz < Z * dy → X * dz < Z * dx
-cross X Y Z dx dy dz hx hz p q =
-    let a : X * dz * dy < Y * dz * dx = rw (mul_right_comm X dz dy, mul_right_comm Y dz dx) (mul-lt-mul_of_pos_right p hz) in
-    let b : Y * dz * dx < Z * dx * dy = rw (mul_right_comm Z dx dy) (mul-lt-mul_of_pos_right q hx) in
-    lt_of_mul-lt-mul_right dy (lt_trans a b)
-
-some_left : (a b : ℕ) → 0 < a → 0 < a + b
-some_left a b h = omega arith
-
-some_right : (a b : ℕ) → 0 < b → 0 < a + b
-some_right a b h = omega arith
-
-over : (a b : ℕ) → a < b → 0 < b
-over a b h = omega arith
-
-below_trans : (s t u : Bool) (X Y Z dx dy dz : ℕ) → 0 < dx → 0 < dz
-    → below s (X * dy) t (Y * dx) ≡ true → below t (Y * dz) u (Z * dy) ≡ true → below s (X * dz) u (Z * dx) ≡ true
-below_trans false false false X Y Z dx dy dz hx hz p q =
-    lt-ltb (X * dz) (Z * dx) (cross X Y Z dx dy dz hx hz (ltb-true (X * dy) (Y * dx) p) (ltb-true (Y * dz) (Z * dy) q))
-below_trans false false true X Y Z dx dy dz hx hz p q = absurd (false≢true q)
-below_trans false true u X Y Z dx dy dz hx hz p q = absurd (false≢true p)
-below_trans true false false X Y Z dx dy dz hx hz p q =
-    lt-ltb 0 (X * dz + Z * dx) (some_right (X * dz) (Z * dx) (mul-pos (first_pos Z dy (over (Y * dz) (Z * dy) (ltb-true (Y * dz) (Z * dy) q))) hx))
-below_trans true false true X Y Z dx dy dz hx hz p q = absurd (false≢true q)
-below_trans true true false X Y Z dx dy dz hx hz p q =
-    lt-ltb 0 (X * dz + Z * dx) (some_left (X * dz) (Z * dx) (mul-pos (first_pos X dy (over (Y * dx) (X * dy) (ltb-true (Y * dx) (X * dy) p))) hz))
-below_trans true true true X Y Z dx dy dz hx hz p q =
-    lt-ltb (Z * dx) (X * dz) (cross Z Y X dz dy dx hz hx (ltb-true (Z * dy) (Y * dz) q) (ltb-true (Y * dx) (X * dy) p))
-
-top_least : (z : Float) → lt (inf false) z ≡ false
-unfolding lt
-top_least nan = refl
-top_least (inf t) = refl
-top_least (fin t m e) = refl
-
-pub lt_trans_float : (x y z : Float) → lt x y ≡ true → lt y z ≡ true → lt x z ≡ true
-unfolding lt
-lt_trans_float nan y z p q = absurd (false≢true p)
-lt_trans_float (inf false) y z p q = absurd (true≢false (sym p ∙ top_least y))
-lt_trans_float (inf true) nan z p q = absurd (false≢true p)
-lt_trans_float (inf true) (inf true) z p q = absurd (false≢true p)
-lt_trans_float (inf true) (inf false) z p q = absurd (true≢false (sym q ∙ top_least z))
-lt_trans_float (inf true) (fin t n d) nan p q = absurd (false≢true q)
-lt_trans_float (inf true) (fin t n d) (inf true) p q = absurd (false≢true q)
-lt_trans_float (inf true) (fin t n d) (inf false) p q = refl
-lt_trans_float (inf true) (fin t n d) (fin u k c) p q = refl
-lt_trans_float (fin s m e) nan z p q = absurd (false≢true p)
-lt_trans_float (fin s m e) (inf true) z p q = absurd (false≢true p)
-lt_trans_float (fin s m e) (inf false) z p q = absurd (true≢false (sym q ∙ top_least z))
-lt_trans_float (fin s m e) (fin t n d) nan p q = absurd (false≢true q)
-lt_trans_float (fin s m e) (fin t n d) (inf true) p q = absurd (false≢true q)
-lt_trans_float (fin s m e) (fin t n d) (inf false) p q = refl
-lt_trans_float (fin s m e) (fin t n d) (fin u k c) p q =
-    below_trans s t u (m * up e) (n * up d) (k * up c) (down e) (down d) (down c) (down_pos e) (down_pos c) p q
-
-pub lt_irrefl_float : (x : Float) → lt x x ≡ false
-unfolding lt
-lt_irrefl_float nan = refl
-lt_irrefl_float (inf true) = refl
-lt_irrefl_float (inf false) = refl
-lt_irrefl_float (fin true m e) = le-ltb (m * up e * down e) (m * up e * down e) (le_refl (m * up e * down e))
-lt_irrefl_float (fin false m e) = le-ltb (m * up e * down e) (m * up e * down e) (le_refl (m * up e * down e))
-
-lt_nan : (x : Float) → lt x nan ≡ false
-unfolding lt
-lt_nan nan = refl
-lt_nan (inf s) = refl
-lt_nan (fin s m e) = refl
-
-nan_lt : (x : Float) → lt nan x ≡ false
-unfolding lt
-nan_lt x = refl
 
 -- ---- a step keeps what is bounded bounded
 

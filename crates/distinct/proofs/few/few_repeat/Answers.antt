@@ -16,13 +16,13 @@ size_is c = search rules
 
 pub loop-i-init : goal.loop-i-init
 loop-i-init c =
-    behind_starts 64 c.args.operand.extents.now c.args.operand.strides.now (replicate 64 0) c.args.operand.sound.paired (length-replicate {A = ℕ} 64 0) refl
+    behind_starts 256 c.args.operand.extents.now c.args.operand.strides.now (replicate 256 0) c.args.operand.sound.paired (length-replicate {A = ℕ} 256 0) refl
 
 pub extend-requires : goal.extend-requires
 extend-requires c =
     let s = c.args.operand.sound in
     let size = size_is (goal.at.extend-requires c).After-unsigned_abs in
-    let r = behind_ready 64 _ _ s.paired (no_zero_of _ s.some) c.requires s.near _ _ _ c.loop-i.invariant c.loop-i-test.true in
+    let r = behind_ready 256 _ _ s.paired (no_zero_of _ s.some) c.requires s.near _ _ _ c.loop-i.invariant c.loop-i-test.true in
     (r.one, r.some, r.room, rw size r.low)
 
 pub loop-i-preserved : goal.loop-i-preserved
@@ -30,16 +30,16 @@ loop-i-preserved c =
     let s = c.args.operand.sound in
     let k = c.extend in
     let size = size_is (goal.at.loop-i-preserved c).After-unsigned_abs in
-    behind_more 64 _ _ s.paired (no_zero_of _ s.some) c.requires s.near _ _ _ c.loop-i.invariant c.loop-i-test.true k.new.list (omega arith)
+    behind_more 256 _ _ s.paired (no_zero_of _ s.some) c.requires s.near _ _ _ c.loop-i.invariant c.loop-i-test.true k.new.list (omega arith)
     (rw size at (k.ensures.listed c.if-not-extend.false))
 
 pub returns-then-not-extend : goal.returns-then-not-extend
 returns-then-not-extend c =
     let s = c.args.operand.sound in
     let size = size_is (goal.at.returns-then-not-extend c).After-unsigned_abs in
-    shared_true (behind_folds 64 _ _ s.paired (no_zero_of _ s.some) c.requires s.near _ _ _ c.loop-i.invariant c.loop-i-test.true (rw size at (c.extend.ensures.fold c.if-not-extend.true)))
+    shared_true (behind_folds 256 _ _ s.paired (no_zero_of _ s.some) c.requires s.near _ _ _ c.loop-i.invariant c.loop-i-test.true (rw size at (c.extend.ensures.fold c.if-not-extend.true)))
 
 pub returns : goal.returns
 returns c =
     let s = c.args.operand.sound in
-    shared_false (behind_ends 64 _ _ s.paired (no_zero_of _ s.some) c.requires s.near _ _ _ c.loop-i.invariant c.loop-i-test.false)
+    shared_false (behind_ends 256 _ _ s.paired (no_zero_of _ s.some) c.requires s.near _ _ _ c.loop-i.invariant c.loop-i-test.false)
