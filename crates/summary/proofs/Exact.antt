@@ -1,7 +1,7 @@
 -- A SUM OF WHOLE NUMBERS whose sizes total at most 2^53 is the exact one: no addition of it rounds. Assumes nothing.
 use Rattle.std.specs.Prelude.{◌≡◌, refl, Bool, true, false, not, cond, ◌&&◌, List, [], ◌∷◌, ℕ, zero, suc, ◌+◌, ◌-◌, ◌*◌, ◌^◌, ◌≤◌, ◌<◌, ℤ, pos, negsuc, nat_abs, ◌+ℤ◌, T, ltb, Float}
 use Rattle.std.proofs.Common.{sym, ap, ◌∙◌, zero-le, mul-one, mul_comm, mul_assoc, add-mul, zero-lt-suc, mul-pos, mul-lt-mul_of_pos_right, mul-le-mul_right, le_refl, le_trans, arith, lt-ltb, le-ltb, ltb→lt, nltb→le}
-use Rattle.std.proofs.Math.Nat.{mul-sub}
+use Rattle.std.proofs.Math.Nat.{mul-sub, eq_of_mul-eq-mul_right}
 use Rattle.std.proofs.Math.IntN.{+ℤ_assoc, +ℤ_idr, +ℤ_idl}
 use Rattle.std.specs.Float.{nan, inf, fin, binary64}
 use Rattle.std.specs.Float.Ieee.{up, down, round, sum, add, of_int}
@@ -163,3 +163,16 @@ abs_sum (z ∷ zs) = let h = abs_sum zs in let k = abs_add z (exact_sum zs) in o
 
 pub sum-whole : (xs : List Float) (zs : List ℤ) → Wholes xs zs → sizes_of zs ≤ 2 ^ 53 → Whole (summary_of xs).sum (exact_sum zs)
 sum-whole xs zs w h = rw (sum_exact xs zs w h) (of_int_whole (exact_sum zs) (le_trans (abs_sum zs) h))
+
+-- ---- a float is at most one integer
+
+unsign : (s : Bool) (n : ℕ) → nat_abs (signed s n) ≡ n
+unsign false n = refl
+unsign true zero = refl
+unsign true (suc n) = refl
+
+pub whole-one : (x : Float) (a b : ℤ) → Whole x a → Whole x b → a ≡ b
+whole-one nan a b v w = elim v [ ]
+whole-one (inf s) a b v w = elim v [ ]
+whole-one (fin s m e) a b v w =
+    sym v.1 ∙ ap (signed s) (eq_of_mul-eq-mul_right (down e) (down_pos e) (nat_abs a) (nat_abs b) (sym v.0 ∙ w.0)) ∙ w.1
