@@ -1,10 +1,11 @@
 -- Cells ahead of a summary, met one by one and run by run. Assumes nothing.
-use Rattle.std.specs.Prelude.{◌≡◌, refl, true, List, [], ◌∷◌, ◌++◌, map, ℕ, zero, suc, ◌+◌, ◌-◌, ◌^◌, ◌≤◌, ◌<◌, ℤ, pos, negsuc, ◌+ℤ◌, ◌*ℤ◌, Float, length}
+use Rattle.std.specs.Prelude.{◌≡◌, refl, true, List, [], ◌∷◌, ◌++◌, map, ℕ, zero, suc, ◌+◌, ◌-◌, ◌^◌, ◌≤◌, ◌<◌, T, ℤ, pos, negsuc, nat_abs, ◌+ℤ◌, ◌*ℤ◌, Float, length}
 use Rattle.std.proofs.Common.{sym, ap, ◌∙◌, subst, arith, length-append, SFits, ltb-true}
 use Rattle.std.proofs.lemmas.Bool.{false≢true}
 use Rattle.std.proofs.lemmas.List.{map-append, length-map}
 use Rattle.std.proofs.Math.Nat.{sub-zero}
 use Rattle.std.proofs.Math.IntN.{+ℤ_assoc, +ℤ_comm, +ℤ_idr, zero-*ℤ, suc_ℤ-*ℤ}
+use Rattle.std.specs.Int.Signed.{non_neg}
 use Rattle.std.specs.Int.{w64}
 use Rattle.laws.specs.Base.Integers.{add-*ℤ}
 use Rattle.laws.specs.Base.Lists.{All}
@@ -18,6 +19,14 @@ use Rattle.summary.specs.Ahead.{run_from, rows_from, Ahead, met, RunsFit}
 use Rattle.summary.specs.Parts.{Went}
 
 -- ---- an offset in the slice
+
+pub in_non_neg : (n : ℕ) (o : ℤ) → in_cells n o ≡ true → T (non_neg o)
+in_non_neg n (pos k) h = tt
+in_non_neg n (negsuc k) h = absurd (false≢true h)
+
+pub in_below : (n : ℕ) (o : ℤ) → in_cells n o ≡ true → nat_abs o < n
+in_below n (pos k) h = ltb-true k n h
+in_below n (negsuc k) h = absurd (false≢true h)
 
 pub in_fits : (n : ℕ) (o : ℤ) → n < 2 ^ 63 → in_cells n o ≡ true → SFits w64 o
 in_fits n (pos k) l h = record { sfits = let b = ltb-true k n h in omega (arith, b, l) }
@@ -101,6 +110,9 @@ pub ahead_some : {cells : List Float} {s : Summary} (o t : ℤ) (m n : ℕ) → 
 ahead_some {cells} {s} o t m n h a =
     let e : n ≡ m + (n - m) = omega (arith, h) in
     ahead-first (run_from o t m) (run_from (o +ℤ pos m *ℤ t) t (n - m)) (subst (Ahead cells s) (ap (run_from o t) e ∙ run_parts o t m (n - m)) a)
+
+pub ahead-count : {cells : List Float} {s : Summary} (o t : ℤ) (n : ℕ) → Ahead cells s (run_from o t n) → s.count + n < 2 ^ 64
+ahead-count o t n a = let r = a.room in let e = run_many o t n in omega (arith, r, e)
 
 -- ---- a run, cell by cell
 
@@ -249,7 +261,13 @@ pub record Rowing (cells : List Float) (d : ℤ) (c : ℕ) (t : ℤ) (n : ℕ) (
   pub ahead : Ahead cells s (rows_from o d (c - j) t n)
   pub goes : met cells s (rows_from o d (c - j) t n) ≡ whole
 
+pub rowing_none : {cells : List Float} {s : Summary} {o d t : ℤ} {c n : ℕ} → RunsFit o d c → Ahead cells s (rows_from o d c t n) → Rowing cells d c t n (met cells s (rows_from o d c t n)) 0 s o
+rowing_none {cells} {s} {o} {d} {t} {c} {n} f a = record { most = omega arith; fit = subst (RunsFit o d) (sym (sub-zero c)) f; ahead = rw (sub-zero c) a; goes = rw (sub-zero c) }
+
 module _ {cells : List Float} {d : ℤ} {c : ℕ} {t : ℤ} {n : ℕ} {whole : Summary} {j : ℕ} {s : Summary} {o : ℤ} (r : Rowing cells d c t n whole j s o) where
+  pub rowing_end : c ≤ j → s ≡ whole
+  rowing_end h = let e : c - j ≡ 0 = omega (arith, h) in subst (λ (m : ℕ). met cells s (rows_from o d m t n) ≡ whole) e r.goes
+
   module _ (h : j < c) where
     one-row : c - j ≡ suc (c - (j + 1))
     one-row = omega (arith, h)

@@ -27,7 +27,7 @@ use Rattle.laws.specs.Refusals.Record.{planning_layout}
 use Rattle.laws.specs.Refusals.Rows.{rows_refuse, rows_pass, served_none, refused_some}
 use Rattle.laws.specs.Text.Totals.{planned-extents}
 use Rattle.laws.specs.Walk.Row9.{row9-leaves}
-use Rattle.advance.specs.Sized.{whole_sized}
+use Rattle.advance.specs.Sized.{Sized, whole_sized}
 use Rattle.kernel.specs.Made.{Made}
 use Rattle.kernel.proofs.Plans.{planned_whole}
 use Rattle.span.specs.Span.{Spans, in_cells, outside}
@@ -119,9 +119,12 @@ module _ (mc : Machine) (es : List ℕ) (ss : List ℤ) where
             subst (λ (j : ℕ). in_i64 (get_or (z ∷ []) j (pos 0) +ℤ dot o.index (stride_row ss (length es) j)) ≡ false) k o.outside in
             absurd (true≢false (sym (in_64 n (z +ℤ dot o.index ss) l t) ∙ ap (λ (ts : List ℤ). in_i64 (z +ℤ dot o.index ts)) (sym one-row) ∙ f))
 
+    pub plan_sized : Sized (summary_plan mc es ss)
+    plan_sized = whole_sized (planned_whole mc es cell_sizes ss ordering h)
+
     -- so all may be met
     pub summable : (z : ℤ) (cells : List Float) → begin_refused (summary_plan mc es ss) (z ∷ []) ≡ None → outside es ss z (length cells) ≡ false → Summable (summary_plan mc es ss) z cells
-    summable z cells b q = record { sized = whole_sized (planned_whole mc es cell_sizes ss ordering h); begins = b; inside = visits_inside z (length cells) q }
+    summable z cells b q = record { sized = plan_sized; begins = b; inside = visits_inside z (length cells) q }
 
     -- the plan as it is made
     pub made_plan : (rank : ℕ) (E B : List ℕ) (S : List ℤ) → Made mc es cell_sizes ss ordering rank E B S → plan_of rank 1 E B S ≡ summary_plan mc es ss

@@ -1,11 +1,29 @@
 -- One more cell: the summary by the kind of the cell, and its counts. Assumes nothing.
-use Rattle.std.specs.Prelude.{◌≡◌, refl, Bool, true, false, cond, List, [], ◌∷◌, ◌++◌, ℕ, ◌+◌, ◌≤◌, Float, length}
+use Rattle.std.specs.Prelude.{◌≡◌, refl, Bool, true, false, not, cond, ◌&&◌, List, [], ◌∷◌, ◌++◌, ℕ, ◌+◌, ◌*◌, ◌≤◌, T, eqb, Float, length}
 use Rattle.std.proofs.Common.{le_refl, arith}
-use Rattle.std.specs.Float.Ieee.{is_nan}
+use Rattle.std.proofs.Math.Dec.{eqb_refl}
+use Rattle.std.specs.Float.{nan, inf, fin}
+use Rattle.std.specs.Float.Ieee.{up, down, ne, is_nan}
 use Rattle.summary.specs.declared.cell.Summary.{Summary}
 use Rattle.summary.specs.Sums.{with_sum, with_nan, with_number, with_cell, with_cells}
 
+same_true : (p : Bool) → T p → not (p && true) ≡ false
+same_true true t = refl
+same_true false t = elim t [ ]
+
+-- a float differs from itself exactly if it is not a number
+pub ne_is : (x : Float) → ne x x ≡ is_nan x
+unfolding ne is_nan
+ne_is nan = refl
+ne_is (inf true) = refl
+ne_is (inf false) = refl
+ne_is (fin true m e) = same_true (eqb (m * up e * down e) (m * up e * down e)) (eqb_refl (m * up e * down e))
+ne_is (fin false m e) = same_true (eqb (m * up e * down e) (m * up e * down e)) (eqb_refl (m * up e * down e))
+
 -- ---- by the kind of the cell
+
+pub at_nan : (s : Summary) (x : Float) → is_nan x ≡ true → with_cell s x ≡ with_nan s x
+at_nan s x h = rw h
 
 pub at-number : (s : Summary) (x : Float) (b : Bool) → is_nan x ≡ false → s.extremes ≡ b → with_cell s x ≡ with_number b s x
 at-number s x b h k = rw (h, k)
