@@ -45,6 +45,12 @@ class Arguments(unittest.TestCase):
     def test_the_help(self):
         self.assertEqual(ran("--help"), (Path(__file__).with_name("help.txt").read_text(), ""))
 
+    def test_each_line_of_the_help_that_cannot_be_written_is_told(self):
+        with open("/dev/full", "wb") as full:
+            done = subprocess.run([PROGRAM, "--help"], stdout=full, stderr=subprocess.PIPE, text=True, timeout=60, check=False)
+        lines = Path(__file__).with_name("help.txt").read_text().splitlines()
+        self.assertEqual((done.stderr, done.returncode), ("walklist: cannot write standard output\n" * len(lines), 0))
+
     def test_the_example_of_the_help_is_that_of_the_readme(self):
         example = re.search(r"^For instance: printf '(.*)' \| walklist$", ran("--help")[0], re.M)[1]
         self.assertEqual(example.replace("\\n", "\n"), TEXT)

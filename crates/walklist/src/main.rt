@@ -103,6 +103,13 @@ fn print_input<R: Read>(rt: &HostRuntime, reader: &mut R) {
     }
 }
 
+// Prints the help line by line, and tells of each line that cannot be written.
+fn print_help(rt: &HostRuntime) {
+    for line in HELP.split_inclusive(|b| *b == b'\n') {
+        write_out(rt, line);
+    }
+}
+
 // Whether an argument asks for help.
 fn is_help(word: &[u8]) -> bool
     ensures { Asks word.now result }
@@ -141,7 +148,7 @@ fn print_file(rt: &HostRuntime, name: &[u8]) {
 // Prints what one argument asks for.
 fn print_asked(rt: &HostRuntime, word: &[u8]) {
     if is_help(word) {
-        write_out(rt, HELP);
+        print_help(rt);
         return;
     }
     print_file(rt, word);
