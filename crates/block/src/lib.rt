@@ -91,14 +91,14 @@ fn set_ones(tail: Tail, blocks: &mut [u64; 64])
 pub fn compute_blocks_at<'a>(
     tail: Tail<'a>,
     costs: &'a [u64; 64],
-    ranks: &'a [[u8; 64]; 8],
+    ranks: [[u8; 64]; 8],
     r: u64,
     blocks: &mut [u64; 64],
 )
     requires some { 0 < tail.operands }
     requires fit { ScoresFit tail.rank costs.now blocks.old }
     requires told { let t = tail in r ≡ min (region t.machine.numbers t.bytes.now t.operands blocks.old t.offset (axes t)) (cap t.machine.numbers) }
-    ensures { let t = tail.entry in blocks.new ≡ cutting t.machine.numbers t.bytes.now t.operands costs.now ranks.now t.offset (axes t) blocks.old }
+    ensures { let t = tail.entry in blocks.new ≡ cutting t.machine.numbers t.bytes.now t.operands costs.now ranks t.offset (axes t) blocks.old }
 {
     if tail.offset == tail.rank {
         return;
@@ -107,7 +107,7 @@ pub fn compute_blocks_at<'a>(
         return;
     }
     let some = NonEmptyTail { tail };
-    if keeps_first(ranks, some) {
+    if keeps_first(&ranks, some) {
         let offset = tail.offset + 1;
         // Kept: every field. Rattle takes no `..tail` in a literal of a struct with ghost fields.
         let rest = Tail {

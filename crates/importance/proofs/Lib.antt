@@ -1,4 +1,5 @@
 pub mod Checks
+pub mod Lightness
 pub mod Adding
 pub mod Trying
 pub mod Inserting

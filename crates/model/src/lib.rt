@@ -129,7 +129,7 @@ fn cut_axes(cut: Cut, r: u64, blocks: &mut [u64; 64])
     costs_into(rows, axes.rank, &mut costs);
     let mut ranks = [[0u8; 64]; 8];
     plan_ranks_into(axes, &mut ranks);
-    compute_blocks_at(cut.all(), &costs, &ranks, r, blocks);
+    compute_blocks_at(cut.all(), &costs, ranks, r, blocks);
 }
 
 // The blocks of a plan whose total is above 1,024, from its axes. The tests that keep every axis whole come before what they can spare.
