@@ -15,6 +15,8 @@ use walk::memory::{flag, walk_of};
 use walk::{LentWalk, answer_of};
 use walker::Course;
 
+pub mod arrays;
+
 // The walk stands at a state, or has ended with it.
 fn put_state(
     over: bool,

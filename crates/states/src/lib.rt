@@ -10,6 +10,7 @@ ghost use Rattle.strided.specs.Begin.{plan_extents, begin_refused, begun_at};
 use layout::{LentPlan, has_zero, total_over};
 use strided::{Plan, Refusal, Walk};
 
+pub mod arrays;
 pub mod lent;
 mod near;
 pub mod starts;

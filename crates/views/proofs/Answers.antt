@@ -72,7 +72,7 @@ refused_is (Err r) l = let a = l.answer in (cc a, l.memory)
 
 module _ (es sizes : List ℕ) (ss : List ℤ) (u : Purpose) (rank operands : ℕ) where
   -- where rows 1 and 2 of the plan pass, the layout's rows are left
-  visit_rest : (row1 rank).applies ≡ false → (row2 operands).applies ≡ false → layout_refused es sizes ss u ≡ visit_refused es sizes ss u rank operands
+  pub visit_rest : (row1 rank).applies ≡ false → (row2 operands).applies ≡ false → layout_refused es sizes ss u ≡ visit_refused es sizes ss u rank operands
   unfolding layout_refused visit_refused
   visit_rest b d = rw (b, d)
 

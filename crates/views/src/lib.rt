@@ -14,6 +14,7 @@ pub use readers::{engineer_view, student_view};
 use strided::{Block, Plan, Purpose, Refusal, Told, Walk};
 use walk::memory::{flag, walk_of};
 
+pub mod arrays;
 pub mod memory;
 pub mod number;
 pub mod readers;

@@ -13,6 +13,7 @@ use states::reaches;
 pub use states::{LentWalk, begin};
 use strided::{Block, Plan, Refusal, Stepped, Walk};
 
+pub mod arrays;
 pub mod memory;
 pub mod onward;
 
