@@ -12,6 +12,7 @@ use borrow.Author.Tests.{ltb-true, lt-ltb, le-ltb, ne_eqb}
 use Rattle.advance.specs.declared.place.Goal.{Goal}
 use Rattle.advance.specs.Axis.{start_of, inside_goal, tile_goal, goal_of, ahead, back}
 use Rattle.strided.specs.declared.Plan.{Plan}
+use Rattle.advance.specs.Arrays.{length_on}
 use Rattle.advance.specs.Blocks.{length_by}
 
 -- of a choice by a test, what holds in both cases, where each may use what the test says
@@ -89,14 +90,19 @@ module _ (extent w at : ℕ) (pos : 0 < w) (h : at < extent) where
 
 -- ---- the length of a block
 
-module _ (p : Plan) (width at : ℕ) (nz : p.rank ≡ 0 → ⊥) where
-  pub length_cut : width < get_or p.extents 0 0 - at → width ≡ length_by p width at
-  unfolding length_by
+module _ (rank extent width at : ℕ) (nz : rank ≡ 0 → ⊥) where
+  pub length_cut : width < extent - at → width ≡ length_on rank extent width at
+  unfolding length_on
   length_cut h = sym (simp (ne_eqb _ _ nz, lt-ltb _ _ h))
 
-  pub length-left : get_or p.extents 0 0 - at ≤ width → get_or p.extents 0 0 - at ≡ length_by p width at
-  unfolding length_by
+  pub length-left : extent - at ≤ width → extent - at ≡ length_on rank extent width at
+  unfolding length_on
   length-left h = sym (simp (ne_eqb _ _ nz, le-ltb _ _ h))
+
+-- on a plan it is by its rank and its axis 0
+pub length_on_plan : (p : Plan) (width at : ℕ) → length_on p.rank (get_or p.extents 0 0) width at ≡ length_by p width at
+unfolding length_on length_by
+length_on_plan p width at = refl
 
 -- ---- the aims, by the tests that led there; s is the tile's start as it is kept
 

@@ -11,6 +11,7 @@ ghost use Rattle.advance.specs.Blocks.{length_by, column_to, firsts_of};
 
 use layout::LentPlan;
 
+pub mod arrays;
 mod place;
 
 pub use place::{Goal, Place};
@@ -76,11 +77,7 @@ pub fn width_on(plan: &LentPlan, axis: usize) -> u64
     requires { axis < 64 }
     ensures { result ≡ width_at plan.now axis }
 {
-    if 8 < plan.rank && axis != 0 {
-        1
-    } else {
-        effective(plan.extents[axis], plan.blocks[axis])
-    }
+    arrays::width_of(plan.rank, axis, plan.extents[axis], plan.blocks[axis])
 }
 
 // The block sizes in force.
@@ -88,9 +85,7 @@ pub fn widths(plan: &LentPlan) -> [u64; 64]
     ensures { result ≡ widths plan.now }
 {
     let mut w = [0u64; 64];
-    for i in 0..plan.rank {
-        w[i] = width_on(plan, i);
-    }
+    arrays::widths_into(plan.rank, plan.extents, plan.blocks, &mut w);
     w
 }
 
@@ -135,9 +130,7 @@ impl<'a, 'b> Tiling<'a, 'b> {
     {
         let plan = self.plan;
         let mut t = [0u64; 64];
-        for i in 0..plan.rank {
-            t[i] = tile_start(self.widths[i], c[i]);
-        }
+        arrays::tile_starts_into(plan.rank, &self.widths, c, &mut t);
         t
     }
 
@@ -230,10 +223,7 @@ pub fn length_by(plan: &LentPlan, width: u64, at: u64) -> u64
     requires { 0 < plan.now.rank → at < get_or plan.now.extents 0 0 }
     ensures { result ≡ length_by plan.now width at }
 {
-    if plan.rank == 0 {
-        return 1;
-    }
-    width.min(plan.extents[0] - at)
+    arrays::length_on(plan.rank, plan.extents[0], width, at)
 }
 
 // The strides of an axis, one for each operand.

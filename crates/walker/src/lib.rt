@@ -17,6 +17,7 @@ ghost use Rattle.walker.specs.Way.{FirstCut, Leads, left_in, left_of, moves_of, 
 use advance::{Place, State, Tiling, length_by, shift};
 use layout::{LentPlan, first_below};
 
+pub mod arrays;
 pub mod stretch;
 mod way;
 
@@ -267,13 +268,9 @@ impl<'a, 'b> Course<'a, 'b> {
 }
 
 // From a block of a stretch to the one behind it: each operand's offset moves by its place of `d`.
-// Kept: a range. With `iter_mut` behind `zip` what the function ensures stays open: nothing is known of what was written so. `enumerate` would
-// still read `d` by its number.
 pub fn move_by<'a>(plan: &LentPlan, d: &'a [i64; 8], o: &mut [i64; 8])
     requires { MayMove plan.now.operands d.now o.old }
     ensures { o.new ≡ added plan.now.operands d.now o.old }
 {
-    for k in 0..plan.operands {
-        o[k] += d[k];
-    }
+    arrays::move_by(plan.operands, d, o)
 }

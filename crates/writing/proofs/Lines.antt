@@ -44,6 +44,16 @@ pub line_length : (letter : ℕ) (ns : List ℕ) (zs : List ℤ)
     → length (line_of letter (fields_of ns zs)) ≡ 2 + length (over ns field) + length (over zs signed_field)
 line_length letter ns zs = ap length (line_parts letter ns zs) ∙ simp length-append (omega arith)
 
+-- a text that is the line of such fields: its length, and the room for it
+pub line_measured : (letter : ℕ) (ns : List ℕ) (zs : List ℤ) {t : List ℕ} → line_of letter (fields_of ns zs) ≡ t → {r : ℕ} → r ≡ 2 + length (fields_of ns zs) → r ≡ length t
+line_measured letter ns zs e h =
+    let l = length-append (fields_of ns zs) (10 ∷ []) in
+    let q = ap length e in
+    omega arith
+
+pub line_room : {t u : List ℕ} → t ≡ u → (at room : ℕ) → at + length u ≤ room → at + length t ≤ room
+line_room e at room h = rw e h
+
 -- the fields of a line of two numbers
 pub figures_fields : (blocks cells : ℕ) → fields_of (blocks ∷ cells ∷ []) [] ≡ field blocks ++ field cells
 figures_fields blocks cells = append-nil (field blocks ++ (field cells ++ [])) ∙ ap (λ (l : List ℕ). field blocks ++ l) (append-nil (field cells))

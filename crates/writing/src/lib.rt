@@ -1,6 +1,7 @@
 // The output of a plan as text: measured, and written on lent bytes. One walk does both, so what was measured is what is written.
 #![tactic(auto)]
 
+pub mod arrays;
 pub mod line;
 pub mod number;
 pub mod plan;

@@ -2,10 +2,10 @@
 // other crates: N, S and T.
 ghost use Rattle.std.specs.Prelude.{◌≡◌, ◌+◌, ◌*◌, ◌≤◌, length};
 ghost use Rattle.strided.specs.Base.{over};
-ghost use Rattle.strided.specs.Text.{field, line_of};
+ghost use Rattle.strided.specs.Text.{field, signed_field, line_of, rank_line, axis_line, block_line};
 ghost use Rattle.laws.specs.Text.Once.{celled};
 ghost use Rattle.writing.specs.Put.{Wrote};
-ghost use Rattle.writing.specs.Line.{fields_of};
+ghost use Rattle.writing.specs.Line.{fields_of, figures_line, longest};
 
 use super::number::{Figure, put_byte};
 
@@ -19,6 +19,29 @@ fn fields_len<T: Figure>(numbers: &[T]) -> usize
         k += 1 + n.text_len();
     }
     k
+}
+
+// The same of either kind.
+pub fn numbers_len(numbers: &[u64]) -> usize
+    requires { length numbers.now ≤ 64 }
+    ensures { (result ≡ length (over numbers.now field)) × (result ≤ 21 * length numbers.now) }
+{
+    fields_len::<u64>(numbers)
+}
+
+pub fn signed_len(numbers: &[i64]) -> usize
+    requires { length numbers.now ≤ 64 }
+    ensures { (result ≡ length (over numbers.now signed_field)) × (result ≤ 21 * length numbers.now) }
+{
+    fields_len::<i64>(numbers)
+}
+
+// How many bytes a line of these fields takes, whatever its letter.
+fn line_len<'a, 'b>(numbers: &'a [u64], signed: &'b [i64]) -> usize
+    requires { (length numbers.now ≤ 64) × (length signed.now ≤ 64) }
+    ensures { (result ≡ 2 + length (fields_of numbers.now signed.now)) × (result ≤ 2 + 21 * (length numbers.now + length signed.now)) }
+{
+    2 + numbers_len(numbers) + signed_len(signed)
 }
 
 // A comma and a number.
@@ -42,6 +65,23 @@ fn put_fields<T: Figure>(out: &mut [u8], at: usize, numbers: &[T]) -> usize
     next
 }
 
+// Writes a line of these fields, however many they are, at `at`, and answers the place behind it.
+pub fn put_line<'a, 'b>(
+    out: &mut [u8],
+    at: usize,
+    letter: u8,
+    numbers: &'a [u64],
+    signed: &'b [i64],
+) -> usize
+    requires { at + length (line_of letter (fields_of numbers.now signed.now)) ≤ length out.old }
+    ensures { Wrote out.old at (line_of letter (fields_of numbers.now signed.now)) out.new result }
+{
+    let a = put_byte(out, at, letter);
+    let b = put_fields(out, a, numbers);
+    let c = put_fields(out, b, signed);
+    put_byte(out, c, b'\n')
+}
+
 // A line, by its letter and its numbers.
 #[derive(Clone, Copy)]
 pub struct Line<'a, 'b> {
@@ -56,7 +96,7 @@ impl<'a, 'b> Line<'a, 'b> {
     pub fn text_len(self) -> usize
         ensures { let l = self.entry in result ≡ length (line_of l.letter (fields_of l.numbers.now l.signed.now)) }
     {
-        2 + fields_len(self.numbers) + fields_len(self.signed)
+        line_len(self.numbers, self.signed)
     }
 
     // Writes it at `at`, and answers the place behind it.
@@ -64,11 +104,73 @@ impl<'a, 'b> Line<'a, 'b> {
         requires { at + length (line_of self.letter (fields_of self.numbers.now self.signed.now)) ≤ length out.old }
         ensures { let l = self.entry in Wrote out.old at (line_of l.letter (fields_of l.numbers.now l.signed.now)) out.new result }
     {
-        let a = put_byte(out, at, self.letter);
-        let b = put_fields(out, a, self.numbers);
-        let c = put_fields(out, b, self.signed);
-        put_byte(out, c, b'\n')
+        put_line(out, at, self.letter, self.numbers, self.signed)
     }
+}
+
+// "K,plan rank"
+pub fn rank_len(rank: u64) -> usize
+    ensures { (result ≡ length (rank_line rank)) × (result ≤ longest) }
+{
+    line_len(&[rank], &[0i64; 0])
+}
+
+pub fn put_rank(out: &mut [u8], at: usize, rank: u64) -> usize
+    requires { at + length (rank_line rank) ≤ length out.old }
+    ensures { Wrote out.old at (rank_line rank) out.new result }
+{
+    put_line(out, at, b'K', &[rank], &[0i64; 0])
+}
+
+// "A,axis,extent,block,one stride per operand"
+pub fn axis_len(axis: u64, extent: u64, block: u64, strides: &[i64]) -> usize
+    requires { length strides.now ≤ 8 }
+    ensures { (result ≡ length (axis_line axis extent block strides.now)) × (result ≤ longest) }
+{
+    line_len(&[axis, extent, block], strides)
+}
+
+pub fn put_axis(
+    out: &mut [u8],
+    at: usize,
+    axis: u64,
+    extent: u64,
+    block: u64,
+    strides: &[i64],
+) -> usize
+    requires { at + length (axis_line axis extent block strides.now) ≤ length out.old }
+    ensures { Wrote out.old at (axis_line axis extent block strides.now) out.new result }
+{
+    put_line(out, at, b'A', &[axis, extent, block], strides)
+}
+
+// "B,number,length,one offset per operand"
+pub fn block_len(number: u64, len: u64, offsets: &[i64]) -> usize
+    requires { length offsets.now ≤ 8 }
+    ensures { (result ≡ length (block_line number len offsets.now)) × (result ≤ longest) }
+{
+    line_len(&[number, len], offsets)
+}
+
+pub fn put_block(out: &mut [u8], at: usize, number: u64, len: u64, offsets: &[i64]) -> usize
+    requires { at + length (block_line number len offsets.now) ≤ length out.old }
+    ensures { Wrote out.old at (block_line number len offsets.now) out.new result }
+{
+    put_line(out, at, b'B', &[number, len], offsets)
+}
+
+// "Z,blocks,cells"
+pub fn end_len(blocks: u64, cells: u64) -> usize
+    ensures { (result ≡ length (figures_line blocks cells)) × (result ≤ longest) }
+{
+    line_len(&[blocks, cells], &[0i64; 0])
+}
+
+pub fn put_end(out: &mut [u8], at: usize, blocks: u64, cells: u64) -> usize
+    requires { at + length (figures_line blocks cells) ≤ length out.old }
+    ensures { Wrote out.old at (figures_line blocks cells) out.new result }
+{
+    put_line(out, at, b'Z', &[blocks, cells], &[0i64; 0])
 }
 
 // "R,number"

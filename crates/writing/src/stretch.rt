@@ -3,9 +3,9 @@ ghost use Rattle.std.specs.Prelude.{◌+◌, ◌^◌, ◌<◌};
 ghost use Rattle.writing.specs.Sink.{Goes};
 ghost use Rattle.writing.specs.Stretch.{lines_in};
 
-use super::line::Line;
+use super::arrays::put_lines;
 use super::sink::Sink;
-use walker::{Blocks, move_by};
+use walker::Blocks;
 
 // They are numbered from `number` on.
 pub fn put_stretch<'a, 'b, S: Sink>(
@@ -20,21 +20,13 @@ pub fn put_stretch<'a, 'b, S: Sink>(
         Goes S.Took S.Full sink out.old (lines_in b.plan.now.operands b.next number b.moves.now b.first.now) out.new result }
 {
     let plan = stretch.plan;
-    let d = stretch.moves;
-    let count = stretch.next.count;
-    let mut o = *stretch.first;
-    let mut s = sink;
-    for j in 0..count {
-        let numbers = [number + j, stretch.next.length];
-        let line = Line {
-            letter: b'B',
-            numbers: &numbers,
-            signed: &o[..plan.operands],
-        };
-        s = s.take(line, out)?;
-        if j + 1 < count {
-            move_by(plan, d, &mut o);
-        }
-    }
-    Some(s)
+    put_lines(
+        stretch.next,
+        number,
+        plan.operands,
+        stretch.moves,
+        stretch.first,
+        sink,
+        out,
+    )
 }

@@ -1,39 +1,11 @@
--- `walker::move_by` meets its contract. Assumes nothing.
-use Rattle.walker.proofs.Rows.{sum_is}
-use borrow.Author.Rules.{rules}
-use native.Mathlib.Omega.{arith}
-use native.Mathlib.Nat.{le_antisymm}
-use Prim.Native.Nat.{ℕ, ◌<◌, ◌≤◌}
-use mathlib.Core.Path.{sym, ap, ◌∙◌, subst}
-use mir.Facts.{to_z-of_z}
-use mir.Syntax.{w64}
-use mir.Val.{SFits}
+-- `walker::move_by` meets its contract: the plan's operands are handed on. Assumes nothing.
 use Rattle.strided.specs.declared.Plan.{Plan}
-use Rattle.advance.specs.Filled.{filled_none, filled_more}
-use Rattle.walker.specs.Way.{added}
+use Rattle.walker.specs.Way.{MayMove, added}
+use mathlib.Core.Path.{◌≡◌, sym, subst}
 use Rattle.walker.proofs.move_by.Goals as goal
 
-pub loop-k-init : goal.loop-k-init
-loop-k-init c = (omega arith, filled_none _ _)
-
-pub overflow_add-o : goal.overflow_add-o
-overflow_add-o c =
-    let a = c.args in
-    let l = c.loop-k in
-    let h = subst (λ (p : Plan). l.k < p.operands) c.plan.view_is c.loop-k-test.true in
-    subst (SFits w64) (sym (sum_is a.d.now a.o.now l.o l.k l.invariant.1 (search rules) (search rules)))
-    (c.requires.fits l.k h)
-
-pub loop-k-preserved : goal.loop-k-preserved
-loop-k-preserved c =
-    let a = c.args in
-    let l = c.loop-k in
-    let h = subst (λ (p : Plan). l.k < p.operands) c.plan.view_is c.loop-k-test.true in
-    let e = sum_is a.d.now a.o.now l.o l.k l.invariant.1 (search rules) (search rules) in
-    let f = c.requires.fits l.k h in
-    (omega (arith, h), filled_more _ _ l.k l.o _ l.invariant.1 (to_z-of_z {w = w64} (subst (SFits w64) (sym e) f) ∙ e))
+pub move_by-requires : goal.move_by-requires
+move_by-requires c = subst (λ (p : Plan). MayMove p.operands c.args.d.now c.args.o.now) (sym c.plan.view_is) c.requires
 
 pub returns : goal.returns
-returns c =
-    let h = subst (λ (p : Plan). p.operands ≤ c.loop-k.k) c.plan.view_is c.loop-k-test.false in
-    c.loop-k.invariant.1 ∙ ap (λ (n : ℕ). added n c.args.d.now c.args.o.now) (le_antisymm c.loop-k.invariant.0 h)
+returns c = subst (λ (p : Plan). c.move_by.new.o ≡ added p.operands c.args.d.now c.args.o.now) c.plan.view_is c.move_by.ensures

@@ -1,43 +1,25 @@
--- `writing::stretch::put_stretch` meets its contract: the loop keeps what is left.
+-- `writing::stretch::put_stretch` meets its contract: the stretch's parts are handed on.
 -- Assumes nothing.
-use mathlib.Core.Path.{ap, subst}
-use Prim.Native.Nat.{◌+◌}
-use lib.ListN.{take}
+use mathlib.Core.Path.{sym, subst}
 use Rattle.strided.specs.declared.Plan.{Plan}
-use Rattle.writing.proofs.Laid.{Before, lines_all, row_first, may_on, before-next, before_end}
-use Rattle.writing.proofs.Taking.{taking_may, taking_next, taking_full}
+use Rattle.walker.specs.Stretch.{RowsFit}
+use Rattle.writing.specs.Sink.{Goes}
+use Rattle.writing.specs.Stretch.{lines_in}
 use Rattle.writing.proofs.stretch.put_stretch.Goals as goal
-use Rattle.writing.proofs.stretch.put_stretch.Goals.{then-j-count, else-j-count}
 
-pub take-requires : goal.take-requires
-take-requires g c =
+pub put_lines-requires-clause-rows_fit : goal.put_lines-requires-clause-rows_fit
+put_lines-requires-clause-rows_fit g c =
+    let b = c.args.stretch in
+    subst (λ (p : Plan). RowsFit b.next.count p.operands b.moves.now b.first.now) (sym c.plan.view_is) b.fit
+
+pub put_lines-requires-clause-may : goal.put_lines-requires-clause-may
+put_lines-requires-clause-may g c =
     let k = g.S.Sink in
     let b = c.args.stretch in
-    let e = row_first b.fit c.loop-j.invariant.0 c.loop-j-test.true b.next.length c.args.number (take c.plan.inside.operands c.loop-j.o) (ap (λ (q : Plan). take q.operands c.loop-j.o) c.plan.view_is) in
-    taking_may k.May k.Took k.Full g.met.S.Sink.laws _ _ _ _ _ _ c.loop-j.invariant.1 _ _ e
+    subst (λ (p : Plan). k.May c.args.sink c.args.out.now (lines_in p.operands b.next c.args.number b.moves.now b.first.now)) (sym c.plan.view_is) c.requires.may
 
-pub returns-in_err-s : goal.returns-in_err-s
-returns-in_err-s g c =
+pub returns : goal.returns
+returns g c =
     let k = g.S.Sink in
     let b = c.args.stretch in
-    let e = row_first b.fit c.loop-j.invariant.0 c.loop-j-test.true b.next.length c.args.number (take c.plan.inside.operands c.loop-j.o) (ap (λ (q : Plan). take q.operands c.loop-j.o) c.plan.view_is) in
-    let whole = lines_all b.next.count b.next.length c.args.number b.plan.now.operands b.moves.now b.first.now in
-    rw c.from_residual.ensures (subst (k.Full c.args.sink) whole (taking_full k.May k.Took k.Full g.met.S.Sink.laws _ _ _ _ _ _ c.loop-j.invariant.1 _ _ e c.in_err-s.ensures))
-
-pub move_by-requires : goal.move_by-requires
-move_by-requires g c = may_on c.args.stretch.fit c.loop-j.invariant.0 c.loop-j-test.true c.if-j-count.true
-
-pub loop-j-preserved : goal.loop-j-preserved
-loop-j-preserved g c =
-    let k = g.S.Sink in
-    let b = c.args.stretch in
-    let e = row_first b.fit c.loop-j.invariant.0 c.loop-j-test.true b.next.length c.args.number (take c.plan.inside.operands c.loop-j.o) (ap (λ (q : Plan). take q.operands c.loop-j.o) c.plan.view_is) in
-    let f = b.fit in
-    let t = c.loop-j-test.true in
-    let l = c.loop-j.invariant in
-    let before : Before b.next.count b.plan.now.operands b.moves.now b.first.now (c.loop-j.j + 1) c.if-j-count.o =
-    elim c.if-j-count.branch [
-      | then-j-count w ↦ rw w.o-is (before-next f l.0 t w.move_by.ensures)
-      | else-j-count w ↦ rw w.o-is (before_end f l.0 t w.if-j-count.false)
-    ] in
-    (before, taking_next k.May k.Took k.Full g.met.S.Sink.laws _ _ _ _ _ _ l.1 _ _ e c.in_ok-s.ensures)
+    subst (λ (p : Plan). Goes k.Took k.Full c.args.sink c.args.out.now (lines_in p.operands b.next c.args.number b.moves.now b.first.now) c.put_lines.new.out c.put_lines.result) c.plan.view_is c.put_lines.ensures
