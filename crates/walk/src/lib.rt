@@ -20,6 +20,8 @@ pub mod onward;
 // The block at the counters, with the state at the next one. It checks nothing.
 // Kept: apart from memory::block_into. What they do alike is three calls; the one by the other would fill arrays only to copy them again, and each
 // copy of the counters is 76 instructions of the 1,880 of a step by value.
+// The hint: compiled into `step_on`, it makes of the copy of the counters a call of memmove, a name that libparts.a would need from outside.
+#[inline(never)]
 fn block_at(plan: &LentPlan, counters: [u64; 64], offsets: [i64; 8]) -> Stepped
     requires { Taken plan.now (walk_of false counters offsets) }
     ensures { Ok result ≡ stepped plan.now (walk_of false counters offsets) }
