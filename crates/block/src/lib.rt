@@ -24,47 +24,46 @@ struct NonEmptyTail<'a> {
 trait Table: Copy {
     ghost at: { Self → ℕ → ℕ → ℕ };
 
-    // That of operand k on axis i.
-    fn at(self, k: usize, i: usize) -> u64
-        requires { (k < 8) × (i < 64) }
-        ensures { result ≡ at self k i };
+    // The least number of operand k in the tail.
+    fn least_at(self, some: NonEmptyTail, k: usize) -> u64
+        requires { k < some.tail.operands }
+        ensures { let t = some.entry.tail in result ≡ least (at self k) t.offset (axes t) };
 }
 
+// Kept: a loop for each table, on numbers of its own width. Bytes are compared sixteen at a time, numbers of 64 bits one by one.
 impl<'a> Table for &'a [[u8; 64]; 8] {
     ghost at = { λ t. rank_at t.now };
 
-    fn at(self, k: usize, i: usize) -> u64 {
-        u64::from(self[k][i])
+    fn least_at(self, some: NonEmptyTail, k: usize) -> u64 {
+        let row = &self[k];
+        let mut m = row[some.tail.offset];
+        for i in some.tail.offset + 1..some.tail.rank {
+            m = m.min(row[i]);
+        }
+        u64::from(m)
     }
 }
 
 impl<'a> Table for &'a [u32; 512] {
     ghost at = { λ t. byte_at t.now };
 
-    fn at(self, k: usize, i: usize) -> u64 {
-        u64::from(self[k * 64 + i])
+    fn least_at(self, some: NonEmptyTail, k: usize) -> u64 {
+        let from = k * 64;
+        let mut m = self[from + some.tail.offset];
+        for i in some.tail.offset + 1..some.tail.rank {
+            m = m.min(self[from + i]);
+        }
+        u64::from(m)
     }
-}
-
-// The least number of operand k in the tail.
-fn least_at<T: Table>(table: T, some: NonEmptyTail, k: usize) -> u64
-    requires { k < some.tail.operands }
-    ensures { let t = some.entry.tail in result ≡ least (T.at table k) t.offset (axes t) }
-{
-    let mut m = table.at(k, some.tail.offset);
-    for i in some.tail.offset + 1..some.tail.rank {
-        m = m.min(table.at(k, i));
-    }
-    m
 }
 
 // The least number that any operand has in the tail.
 fn least_in<T: Table>(table: T, some: NonEmptyTail) -> u64
     ensures { let t = some.entry.tail in result ≡ least (λ k. least (T.at table k) t.offset (axes t)) 0 t.operands }
 {
-    let mut m = least_at(table, some, 0);
+    let mut m = table.least_at(some, 0);
     for k in 1..some.tail.operands {
-        m = m.min(least_at(table, some, k));
+        m = m.min(table.least_at(some, k));
     }
     m
 }
@@ -75,7 +74,7 @@ fn keeps_first(ranks: &[[u8; 64]; 8], some: NonEmptyTail) -> bool
 {
     let m = least_in(ranks, some);
     let first = some.tail.offset;
-    (0..some.tail.operands).all(|k| ranks.at(k, first) == m)
+    (0..some.tail.operands).all(|k| u64::from(ranks[k][first]) == m)
 }
 
 // The blocks of the tail become 1.
