@@ -89,10 +89,11 @@ pub fn from_numpy(text: &[u8]) -> Result<Described, Refusal>
 {
     let mut shape = [0u64; 64];
     let mut bytes = [0i64; 64];
-    let said = read_description(text, &mut shape, &mut bytes).ok_or(Refusal::Form)?;
-    match said {
-        Said::Packed(size, rank, row) => from_packed(row, size, rank, &shape),
-        Said::Given(size, rank, row) => from_given(row, size, rank, &shape, &bytes),
+    // One match, and no `?`: an early return would have arrays of its own cleared and copied.
+    match read_description(text, &mut shape, &mut bytes) {
+        None => Err(Refusal::Form),
+        Some(Said::Packed(size, rank, row)) => from_packed(row, size, rank, &shape),
+        Some(Said::Given(size, rank, row)) => from_given(row, size, rank, &shape, &bytes),
     }
 }
 

@@ -27,13 +27,14 @@ fn list_layout<'a>(
     ensures { record { answer = result; room = room.new }
         ≡ listed_layout extents.now sizes.now strides.now purpose room.old }
 {
+    // Above the refusals: behind them these arrays would be cleared twice, here and there.
+    let mut es = [0u64; 64];
+    let mut blocks = [0u64; 64];
+    let mut table = [0i64; 512];
     let layout = check_layout(extents, sizes, strides, purpose)?;
     if !total_at_most(extents, MAX_TOTAL) {
         return Err(Refusal::TextTotal);
     }
-    let mut es = [0u64; 64];
-    let mut blocks = [0u64; 64];
-    let mut table = [0i64; 512];
     let machine = Machine {
         line: L1Sets::LINE,
         cache: L1Sets::CACHE,
