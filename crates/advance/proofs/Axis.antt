@@ -90,13 +90,13 @@ module _ (extent w at : ℕ) (pos : 0 < w) (h : at < extent) where
 
 -- ---- the length of a block
 
-module _ (rank extent width at : ℕ) (nz : rank ≡ 0 → ⊥) where
-  pub length_cut : width < extent - at → width ≡ length_on rank extent width at
-  unfolding length_on
+module _ (p : Plan) (width at : ℕ) (nz : p.rank ≡ 0 → ⊥) where
+  pub length_cut : width < get_or p.extents 0 0 - at → width ≡ length_by p width at
+  unfolding length_by
   length_cut h = sym (simp (ne_eqb _ _ nz, lt-ltb _ _ h))
 
-  pub length-left : extent - at ≤ width → extent - at ≡ length_on rank extent width at
-  unfolding length_on
+  pub length-left : get_or p.extents 0 0 - at ≤ width → get_or p.extents 0 0 - at ≡ length_by p width at
+  unfolding length_by
   length-left h = sym (simp (ne_eqb _ _ nz, le-ltb _ _ h))
 
 -- on a plan it is by its rank and its axis 0

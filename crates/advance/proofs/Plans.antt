@@ -30,7 +30,7 @@ use Rattle.laws.specs.Walk.Offsets.{get_d_offsets}
 use Rattle.laws.specs.Walk.Steps.{Ready, wide, rows-many, as_many, cut-many, counters-many}
 use Rattle.advance.specs.Filled.{by_lt, filled_to, filled_length, filled_above, filled_at}
 use Rattle.advance.specs.Axis.{width_of, width_at, widths, start_of}
-use Rattle.advance.specs.Arrays.{width_in}
+use Rattle.advance.specs.Arrays as arrays
 use Rattle.advance.specs.Carry.{carry_of, next_of, dot_to, start_at}
 use Rattle.advance.specs.Blocks.{length_by, length_of, stride_on, column_to, firsts_of, offset_at, offsets_at}
 use Rattle.advance.proofs.Bridge.{from, from-take, axes_at, put, next_carry}
@@ -38,6 +38,10 @@ use Rattle.advance.proofs.Offsets.{dot_list}
 use Rattle.advance.specs.Sized.{Sized}
 
 -- ---- the cut axes of a plan, out of its arrays
+
+-- the block size in force on axis j, out of arrays
+abbrev pub width_in : ℕ → List ℕ → List ℕ → ℕ → ℕ
+width_in = arrays.width_in
 
 axes-few : (rank : ℕ) (e b ws : List ℕ) → leb rank 8 ≡ true → (n i : ℕ) → ((j : ℕ) → j < i + n → get_or ws j 0 ≡ width_in rank e b j)
     → axes_at e ws i n ≡ cut (from e i n) (from b i n)

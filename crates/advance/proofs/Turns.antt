@@ -16,6 +16,7 @@ use Rattle.advance.specs.declared.place.Place.{Place}
 use Rattle.advance.specs.declared.State.{State}
 use Rattle.advance.specs.Axis.{start_of, back, inside_goal, goal_of}
 use Rattle.advance.specs.Moves.{shifted, moved_at, Shifts}
+use Rattle.advance.specs.Arrays.{SingleTo}
 use Rattle.advance.specs.Carry.{Carried, carry_of, start_at, next_of, state_of, Standing, PlaceOn, Roomy, Tiled, Single, CarriedTo, WentAhead, AdvancedTo}
 use Rattle.advance.specs.Filled.{by_lt, filled_above}
 use Rattle.advance.proofs.Axis.{start_one, Lands, goal_lands}
@@ -232,6 +233,10 @@ module _ (e w : List ℕ) where
       let z : (n - 1) + (suc rank - 1 - (n - 1)) ≡ suc rank - 1 = omega arith in
       inner_only (n - 1) (suc rank - 1 - (n - 1)) 1 c (λ j p q. one j (omega arith) (omega arith))
       ∙ ap (λ (k : ℕ). carry_of true e w k 1 c) z
+
+-- of a plan this reads the rank alone
+pub single_on : (p : Plan) {n : ℕ} {w : List ℕ} → SingleTo n p.rank w → Single n p w
+single_on p s = record { most = s.most; one = s.one }
 
 -- ---- the next block
 

@@ -27,8 +27,11 @@ shifted_to n axis from to s o = filled_to o (moved_at axis from to s o) n
 abbrev pub shifted : Plan → ℕ → ℕ → ℕ → List ℤ → List ℤ
 shifted p axis from to o = shifted_to p.operands axis from to p.strides o
 
--- such a move of each operand's offset stays within 64 bits
-pub record Shifts (p : Plan) (axis from to : ℕ) (o : List ℤ) : Type 0 where
+-- such a move of the first n operands' offsets stays within 64 bits; and of all of a plan's
+pub record ShiftsTo (n axis from to : ℕ) (s o : List ℤ) : Type 0 where
   pub inside : axis < 64
   pub offered : length o ≡ 8
-  pub each : (k : ℕ) → k < p.operands → Moves (get_or o k (pos 0)) (get_or p.strides (k * 64 + axis) (pos 0)) from to
+  pub each : (k : ℕ) → k < n → Moves (get_or o k (pos 0)) (get_or s (k * 64 + axis) (pos 0)) from to
+
+abbrev pub Shifts : Plan → ℕ → ℕ → ℕ → List ℤ → Type 0
+Shifts p axis from to o = ShiftsTo p.operands axis from to p.strides o

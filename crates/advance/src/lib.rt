@@ -4,7 +4,9 @@
 
 ghost use Rattle.std.specs.Prelude.{◌≡◌, ◌<◌, ◌≤◌, get_or};
 ghost use Rattle.strided.specs.Walk.{effective};
+ghost use Rattle.layout.specs.Lent.{Whole};
 ghost use Rattle.advance.specs.Moves.{Moves, after_move, Shifts, shifted};
+ghost use Rattle.advance.specs.Arrays.{plan_in};
 ghost use Rattle.advance.specs.Axis.{width_at, widths, Acting, start_of, starts_to};
 ghost use Rattle.advance.specs.Carry.{Standing, PlaceOn, Roomy, Tiled, Single, CarriedTo, WentAhead, AdvancedTo};
 ghost use Rattle.advance.specs.Blocks.{length_by, column_to, firsts_of};
@@ -13,8 +15,10 @@ use layout::LentPlan;
 
 pub mod arrays;
 mod place;
+mod tiles;
 
 pub use place::{Goal, Place};
+pub use tiles::Tiles;
 
 // Where a walk of many blocks stands: the counters, where the tiles start that they are in, and each operand's offset.
 #[derive(Clone, Copy)]
@@ -41,18 +45,12 @@ pub fn moved(o: i64, s: i64, from: u64, to: u64) -> i64
     }
 }
 
-// Each operand's offset after the same move along an axis. The strides of operand `k` stand at `k * 64`.
-// Kept: a range, for the reason at walker's move_by; and the strides lie 64 places apart.
+// Each operand's offset after the same move along an axis.
 pub fn shift(plan: &LentPlan, axis: usize, from: u64, to: u64, o: &mut [i64; 8])
     requires { Shifts plan.now axis from to o.old }
     ensures { o.new ≡ shifted plan.now axis from to o.old }
 {
-    if from == to {
-        return;
-    }
-    for k in 0..plan.operands {
-        o[k] = moved(o[k], plan.strides[k * 64 + axis], from, to);
-    }
+    arrays::shift(plan.operands, axis, from, to, plan.strides, o);
 }
 
 // "A block size of 0 acts as 1, one above the extent as the extent."
@@ -84,9 +82,7 @@ pub fn width_on(plan: &LentPlan, axis: usize) -> u64
 pub fn widths(plan: &LentPlan) -> [u64; 64]
     ensures { result ≡ widths plan.now }
 {
-    let mut w = [0u64; 64];
-    arrays::widths_into(plan.rank, plan.extents, plan.blocks, &mut w);
-    w
+    arrays::widths(plan.rank, plan.extents, plan.blocks)
 }
 
 // Where the tile starts that a counter is in. Blocks of 1 and the first tile need no division.
@@ -129,24 +125,32 @@ impl<'a, 'b> Tiling<'a, 'b> {
         ensures { result ≡ starts_to self.now.widths c.now self.now.plan.now.rank }
     {
         let plan = self.plan;
-        let mut t = [0u64; 64];
-        arrays::tile_starts_into(plan.rank, &self.widths, c, &mut t);
-        t
+        arrays::tile_starts(plan.rank, &self.widths, c)
+    }
+
+    // The same on the plan's arrays, for what any arrays are asked.
+    pub fn tiles(&self) -> Tiles
+        ensures plan { plan_in result ≡ self.now.plan.now }
+        ensures whole { Whole (plan_in result) }
+        ensures sizes { result.widths.now ≡ self.now.widths }
+    {
+        let plan = self.plan;
+        Tiles {
+            rank: plan.rank,
+            operands: plan.operands,
+            extents: plan.extents,
+            blocks: plan.blocks,
+            strides: plan.strides,
+            widths: &self.widths,
+        }
     }
 
     // The axes that a carry inside a tile has to look at: those from there on have blocks of 1, so they do not move inside a tile. From rank 9
     // on only axis 0 is cut, and none is left.
-    // Kept: a `for`. `rfind` answers the place before the one that is asked for, or none, and would be mapped twice.
     pub fn inner_axes(&self) -> usize
         ensures { Single result self.now.plan.now self.now.widths }
     {
-        let plan = self.plan;
-        for i in (0..plan.rank).rev() {
-            if self.widths[i] != 1 {
-                return i + 1;
-            }
-        }
-        0
+        self.tiles().inner_axes()
     }
 
     // Where a state stands on an axis.
@@ -155,36 +159,17 @@ impl<'a, 'b> Tiling<'a, 'b> {
         requires standing { Standing self.now.plan.now self.now.widths axis at.now }
         ensures { PlaceOn self.now.plan.now self.now.widths axis at.now.counters result }
     {
-        let plan = self.plan;
-        Place {
-            extent: plan.extents[axis],
-            width: self.widths[axis],
-            start: at.tile_starts[axis],
-            at: at.counters[axis],
-        }
+        self.tiles().place(axis, at)
     }
 
     // A carry along the axes from `first` to `last`, inside a tile or from tile to tile. Says whether an axis went ahead.
-    // Kept: `inside`, a literal at each call: the two carries are one loop, and two functions of it would be twins. A closure that tells the goal
-    // was weighed: the definitions have the bool, so the contract would hold for whichever bool the closure's goals are those of, and every call,
-    // here and in walker, would have to show which. A const parameter would be the same literals in another place.
     pub fn carry(&self, inside: bool, first: usize, last: usize, at: &mut State) -> bool
         requires roomy { Roomy self.now.plan.now at.old }
         requires tiled { Tiled self.now.plan.now self.now.widths at.old }
         requires last_le_rank { last ≤ self.now.plan.now.rank }
         ensures { CarriedTo inside first last self.now.plan.now self.now.widths at.old result at.new }
     {
-        for i in first..last {
-            let place = self.place(i, at);
-            let goal = place.goal(inside);
-            shift(self.plan, i, place.at, goal.to, &mut at.offsets);
-            at.counters[i] = goal.to;
-            at.tile_starts[i] = goal.start;
-            if goal.more {
-                return true;
-            }
-        }
-        false
+        self.tiles().carry(inside, first, last, at)
     }
 
     // One axis inside its tile: it goes one ahead if it can. Says whether it did; if not, nothing has moved.
@@ -194,15 +179,7 @@ impl<'a, 'b> Tiling<'a, 'b> {
         requires axis_lt_rank { axis < self.now.plan.now.rank }
         ensures { WentAhead axis self.now.plan.now self.now.widths at.old result at.new }
     {
-        let place = self.place(axis, at);
-        let goal = place.inside_goal();
-        if !goal.more {
-            return false;
-        }
-        shift(self.plan, axis, place.at, goal.to, &mut at.offsets);
-        at.counters[axis] = goal.to;
-        at.tile_starts[axis] = goal.start;
-        true
+        self.tiles().go_ahead(axis, at)
     }
 
     // Moves the state to the next block. Says whether there is one; if not, it is back at the start. `inner` is what `inner_axes` tells, or
@@ -213,8 +190,7 @@ impl<'a, 'b> Tiling<'a, 'b> {
         requires single { Single inner self.now.plan.now self.now.widths }
         ensures { AdvancedTo self.now.plan.now self.now.widths at.old result at.new }
     {
-        let plan = self.plan;
-        self.carry(true, 1, inner, at) || self.carry(false, 0, plan.rank, at)
+        self.tiles().advance(inner, at)
     }
 }
 
@@ -231,19 +207,12 @@ pub fn column(plan: &LentPlan, axis: usize) -> [i64; 8]
     requires { axis < 64 }
     ensures { result ≡ column_to axis plan.now.strides plan.now.operands }
 {
-    let mut strides = [0i64; 8];
-    for k in 0..plan.operands {
-        strides[k] = plan.strides[k * 64 + axis];
-    }
-    strides
+    arrays::column(plan.operands, axis, plan.strides)
 }
 
 // Those of axis 0, if there is one.
 pub fn firsts(plan: &LentPlan) -> [i64; 8]
     ensures { result ≡ firsts_of plan.now }
 {
-    if plan.rank == 0 {
-        return [0i64; 8];
-    }
-    column(plan, 0)
+    arrays::firsts(plan.rank, plan.operands, plan.strides)
 }

@@ -41,7 +41,7 @@ fn room_for(plan: &LentPlan, lengths: usize, offsets: usize) -> usize
 }
 
 // The offsets of block j of a stretch, operand by operand: each is its place of `o` and j times its place of `d`.
-// Kept: a range, for the reason at walker's move_by.
+// Kept: a range, for the reason at walker::arrays::move_by.
 fn put_row<'a>(j: usize, d: &'a [i64; 8], o: &'a [i64; 8], row: &mut [i64])
     requires { RowFits j (length row.old) d.now o.now }
     ensures { row.new ≡ row_at (length row.old) d.now o.now j }

@@ -7,8 +7,7 @@ ghost use Rattle.views.specs.Memory.{visit_at, VisitsMemory, record_of, engineer
 
 use super::codes::code;
 use layout::purpose_of;
-use views::lend;
-use views::memory::visit_into;
+use views::arrays::visit_into;
 use views::readers::{LentVisit, engineer_into, student_into};
 
 // A visit of a lent walk.
@@ -45,20 +44,16 @@ pub extern "C" fn gougelily_visit<'a>(
         let u = purpose_of purpose chosen in
         VisitsMemory (visited extents.now sizes.now strides.now u p (walk_in w)) old new result }
 {
-    let plan = served!(lend(
-        extents.len(),
-        rank,
-        operands,
-        plan_extents,
-        blocks,
-        plan_strides
-    ));
     let some = visit_into(
         extents,
         sizes,
         strides,
         purpose_of(purpose, chosen),
-        &plan,
+        rank,
+        operands,
+        plan_extents,
+        blocks,
+        plan_strides,
         ended,
         counters,
         offsets,

@@ -7,9 +7,12 @@ ghost use Rattle.strided.specs.Memory.{plan_of, walk_at, walk_in, step_at, Steps
 use super::codes::code;
 use layout::LentPlan;
 use states::begin_on;
-use walk::memory::{put_walk, step_into};
+use walk::arrays::step_into;
+use walk::memory::put_walk;
 
 // A walk's beginning.
+// Kept: the two calls of states' `arrays::begin_on`, for where that is called instead, the compiled code copies the walk once more (583 bytes of
+// code and 592 of stack).
 #[unsafe(no_mangle)]
 pub extern "C" fn gougelily_begin<'a>(
     rank: usize,
@@ -56,9 +59,12 @@ pub extern "C" fn gougelily_step<'a>(
         let new = step_at w' block_counters.new length.new block_offsets.new block_strides.new in
         Steps (stepped p (walk_in w)) old new result }
 {
-    let plan = served!(LentPlan::of(rank, operands, extents, blocks, strides));
     let some = step_into(
-        &plan,
+        rank,
+        operands,
+        extents,
+        blocks,
+        strides,
         ended,
         counters,
         offsets,

@@ -4,7 +4,7 @@ use mathlib.Core.Path.{◌≡◌, refl, sym, ap, ap₂, ◌∙◌, subst}
 use mathlib.Core.Bool.{Bool, false, ◌||◌}
 use mathlib.Core.List.{List, [], ◌∷◌}
 use Rattle.std.specs.Prelude.{Option, None, Ok, Err, Result}
-use Prim.Native.Nat.{ℕ, zero, suc, ◌≤◌}
+use Prim.Native.Nat.{ℕ, zero, suc, ◌*◌, ◌≤◌, ◌<◌}
 use native.Mathlib.Omega.{arith}
 use lib.Dec.{ltb, eqb}
 use lib.IntN.{ℤ, pos, ◌+ℤ◌, ◌-ℤ◌, zero-*ℤ, +ℤ_idr}
@@ -24,10 +24,11 @@ use Rattle.laws.specs.Refusals.Rows.{Past, past_none, past_next, served_none, re
 use Rattle.laws.specs.Refusals.Operands.{some_of_at}
 use Rattle.laws.specs.Refusals.Rows.{unless-passes}
 use Rattle.laws.specs.Refusals.Zeros.{no_zero_of}
-use Rattle.layout.specs.Rows.{far_at}
+use Rattle.layout.specs.Rows.{row_at, far_at}
 use Rattle.layout.specs.Lent.{lent, Whole}
-use Rattle.layout.proofs.Lending.{lent_refuses}
+use Rattle.layout.proofs.Lending.{axes_long, lent_refuses}
 use Rattle.states.specs.Starts.{leaves_at, some_leave, Standing, Begins}
+use Rattle.states.specs.Arrays as arrays
 
 -- the part of an array that the code cuts off has the length that it was cut with
 pub cut-length : {A : Type 0} (n : ℕ) (l : List A) → n ≤ length l → n ≡ length (take n l)
@@ -35,16 +36,21 @@ cut-length n l h = let e = length-take n l in omega (arith, e, h)
 
 -- ---- where no extent is 0
 
--- row 6 that passes
+-- row 6 that passes, of any rows
+rows_near : (es : List ℕ) (row : ℕ → List ℤ) (operands : ℕ) → (row6 es operands row).applies ≡ false → has_zero es ≡ false → (k : ℕ) → k < operands → reach es (row k) ≤ max_i
+rows_near es row operands h z k l = ltb-false max_i (reach es (row k)) (some_of_at (far_at es row) operands (unless-passes (has_zero es) (some_of (far_at es row) 0 operands) h z) k l)
+
 pub standing_of : {p : Plan} {c : List ℕ} {os : List ℤ} → Begins p c os → {b : Bool} → b ≡ has_zero (plan_extents p) → b ≡ false → Standing p c os
 standing_of {p} h is e =
-    let es : List ℕ = plan_extents p in
+    let z : has_zero (plan_extents p) ≡ false = sym is ∙ e in
+    record { offsets = h.offsets; within = h.within z; near = rows_near (plan_extents p) (plan_row p) p.operands h.near z }
+
+-- and of the rows of slices
+pub standing_in : {es : List ℕ} {ss : List ℤ} {c : List ℕ} {os : List ℤ} {operands : ℕ} → arrays.Begins es ss c os operands
+    → {b : Bool} → b ≡ has_zero es → b ≡ false → arrays.Standing es ss c os operands
+standing_in {es} {ss} {operands = operands} h is e =
     let z : has_zero es ≡ false = sym is ∙ e in
-    record {
-      offsets = h.offsets;
-      within = h.within z;
-      near = λ k l. ltb-false max_i (reach es (plan_row p k)) (some_of_at (far_at es (plan_row p)) p.operands (unless-passes (has_zero es) (some_of (far_at es (plan_row p)) 0 p.operands) h.near z) k l);
-    }
+    record { laid = h.laid; offsets = h.offsets; within = h.within z; near = rows_near es (row_at es ss 64) operands h.near z }
 
 -- all counters 0
 zeros_within : (es : List ℕ) (m : ℕ) → NoZero es → length es ≤ m → Within es (take (length es) (replicate m 0))
@@ -60,6 +66,27 @@ zeros-dot zero m ts = refl
 zeros-dot (suc n) zero ts = refl
 zeros-dot (suc n) (suc m) [] = refl
 zeros-dot (suc n) (suc m) (t ∷ ts) = ap₂ (λ (a b : ℤ). a +ℤ b) (zero-*ℤ t) (zeros-dot n m ts)
+
+-- ---- row 9 of slices, on the arrays of a plan that is lent
+
+module _ {p : Plan} (w : Whole p) where
+  row_is : row_at (plan_extents p) p.strides 64 ≡ plan_row p
+  row_is = ap (λ (n : ℕ). (λ (k : ℕ). take n (drop (k * 64) p.strides))) (axes_long w)
+
+  pub begins_in : {c : List ℕ} {os : List ℤ} → Begins p c os → arrays.Begins (plan_extents p) p.strides c os p.operands
+  begins_in h =
+      let l = axes_long w in
+      record {
+        laid = record { apart = omega (arith, l, w.axes); all = omega (arith, w.few, w.strides_all) };
+        offsets = h.offsets;
+        within = h.within;
+        near = ap (λ (row : ℕ → List ℤ). (row6 (plan_extents p) p.operands row).applies) row_is ∙ h.near;
+      }
+
+  pub some_leave_in : (c : List ℕ) (os : List ℤ) → arrays.some_leave (plan_extents p) p.strides c os p.operands ≡ some_leave p c os
+  unfolding arrays.some_leave arrays.leaves_at some_leave leaves_at
+  some_leave_in c os =
+      ap (λ (row : ℕ → List ℤ). some_operand (plan_extents p) (λ k. leaves (plan_extents p) (row k) (get_or os k (pos 0) -ℤ dot c (row k))) p.operands) row_is
 
 -- ---- the rows of a plan that is lent
 

@@ -1,12 +1,13 @@
 // Row 9, "some offset from the start leaves 64-bit signed", told from the offsets at any counters: how far the offsets lie below and above
 // those is within the reach, so nothing overflows on the way.
-ghost use Rattle.std.specs.Prelude.{◌≡◌, ◌<◌, pos, ◌+ℤ◌, ◌-ℤ◌};
+ghost use Rattle.std.specs.Prelude.{◌≡◌, pos, ◌+ℤ◌, ◌-ℤ◌};
 ghost use Rattle.strided.specs.Base.{some_of};
 ghost use Rattle.strided.specs.Layout.{in_i64, reach};
 ghost use Rattle.laws.specs.Walk.Row9.{below_of};
-ghost use Rattle.states.specs.Starts.{leaves_at, some_leave, Placed, Standing, Begins};
+ghost use Rattle.states.specs.Starts.{some_leave, Placed, Begins};
+ghost use Rattle.states.specs.Arrays.{leaves_at, StandsAt, Standing};
 
-use super::no_block;
+use super::arrays;
 use layout::{Along, LentPlan};
 
 // Whether `below` places lie between the least i64 and `o`.
@@ -51,23 +52,29 @@ fn span_of<'a, 'b>(extents: &'a [u64], strides: &'a [i64], counters: &'b [u64]) 
     Span { reach, below }
 }
 
-// Whether some offset of operand k leaves 64-bit signed, told from its offset at the counters.
-fn leaves_at<'a>(plan: &LentPlan, counters: &'a [u64], offsets: &'a [i64], k: usize) -> bool
-    requires standing { Standing plan.now counters.now offsets.now }
-    requires there { k < plan.now.operands }
-    ensures { result ≡ leaves_at plan.now counters.now offsets.now k }
+// Whether some offset of operand k leaves 64-bit signed, told from its offset at the counters. Its strides stand from k * 64 on.
+fn leaves_at(extents: &[u64], strides: &[i64], counters: &[u64], offsets: &[i64], k: usize) -> bool
+    requires { StandsAt extents.now strides.now counters.now offsets.now k }
+    ensures { result ≡ leaves_at extents.now strides.now counters.now offsets.now k }
 {
-    let span = span_of(plan.axes(), plan.row(k), counters);
+    let from = k * 64;
+    let span = span_of(extents, &strides[from..from + extents.len()], counters);
     let o = offsets[k];
     !room_below(o, span.below) || !room_above(o, span.reach - span.below)
 }
 
 // Whether some offset of an operand leaves 64-bit signed.
-fn some_leave<'a>(plan: &LentPlan, counters: &'a [u64], offsets: &'a [i64]) -> bool
-    requires { Standing plan.now counters.now offsets.now }
-    ensures { result ≡ some_of (leaves_at plan.now counters.now offsets.now) 0 plan.now.operands }
+pub(super) fn some_leave(
+    extents: &[u64],
+    strides: &[i64],
+    counters: &[u64],
+    offsets: &[i64],
+    operands: usize,
+) -> bool
+    requires { Standing extents.now strides.now counters.now offsets.now operands }
+    ensures { result ≡ some_of (leaves_at extents.now strides.now counters.now offsets.now) 0 operands }
 {
-    (0..plan.operands).any(|k| leaves_at(plan, counters, offsets, k))
+    (0..operands).any(|k| leaves_at(extents, strides, counters, offsets, k))
 }
 
 // Row 9, told from the offsets at the counters.
@@ -75,5 +82,6 @@ pub fn starts_leave<'a>(plan: &LentPlan, counters: &'a [u64], offsets: &'a [i64]
     requires { Begins plan.now counters.now offsets.now }
     ensures { result ≡ some_leave plan.now counters.now offsets.now }
 {
-    !no_block(plan) && some_leave(plan, counters, offsets)
+    let strides = plan.strides;
+    arrays::starts_leave(plan.axes(), strides, counters, offsets, plan.operands)
 }

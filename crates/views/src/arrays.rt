@@ -1,4 +1,5 @@
-// A visit on a plan's five arrays, whatever their numbers: rows 1 and 2, of the layout and of the plan, come first.
+// A visit on a plan's five arrays, whatever their numbers: rows 1 and 2, of the layout and of the plan, come first. And what it is made of, which
+// asks no more than it needs.
 ghost use Rattle.std.specs.Prelude.{◌≡◌, [], take};
 ghost use Rattle.strided.specs.Walk.{cut_axes};
 ghost use Rattle.strided.specs.Memory.{plan_of, walk_at, walk_in, step_at, index_at};
@@ -8,8 +9,10 @@ ghost use Rattle.views.specs.Tally.{Countable};
 ghost use Rattle.views.specs.Visits.{visit_refused, visited};
 ghost use Rattle.views.specs.Memory.{visit_at, VisitLeaves};
 
-use crate::{lend, memory, number};
-use layout::{Layout, LentPlan, check_layout, operands_wrong, rank_over};
+use crate::number::{Tally, number_first, tally_axis};
+use crate::{lend, memory};
+use advance::arrays::width_of;
+use layout::{Layout, check_layout, operands_wrong, rank_over};
 use strided::{Purpose, Refusal};
 
 // The layout, or what a visit is refused for before the state is looked at, told from the plan's counts: rows 1 and 2 of the layout and of the
@@ -108,12 +111,18 @@ pub fn number_of<'a>(
     requires { Countable (plan_of rank 0 extents.now blocks.now []) counters.now }
     ensures { result ≡ block_number (cut_axes (take rank extents.now) (take rank blocks.now)) (take rank counters.now) }
 {
-    let plan = LentPlan {
-        rank,
-        operands: 1,
-        extents,
-        blocks,
-        strides: &[0i64; 512],
+    if rank == 0 {
+        return 0;
+    }
+    let mut t = Tally {
+        before: 0,
+        size: 1,
+        place: 0,
     };
-    number::number_of(&plan, counters)
+    for i in (1..rank).rev() {
+        let width = width_of(rank, i, extents[i], blocks[i]);
+        t = tally_axis(extents[i], width, counters[i], t);
+    }
+    let width = width_of(rank, 0, extents[0], blocks[0]);
+    number_first(extents[0], width, counters[0], t)
 }

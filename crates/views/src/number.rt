@@ -4,7 +4,8 @@ ghost use Rattle.strided.specs.Step.{plan_cut_axes};
 ghost use Rattle.views.specs.Number.{block_number};
 ghost use Rattle.views.specs.Tally.{tallied, numbered, Room, First, Countable};
 
-use advance::{tile_start, width_on};
+use super::arrays;
+use advance::tile_start;
 use finding::radix::quotient;
 use layout::LentPlan;
 
@@ -17,7 +18,7 @@ pub struct Tally {
 }
 
 // The same with one axis more, inside those.
-fn tally_axis(extent: u64, width: u64, at: u64, tally: Tally) -> Tally
+pub(super) fn tally_axis(extent: u64, width: u64, at: u64, tally: Tally) -> Tally
     requires { Room extent width at tally }
     ensures { result ≡ tallied extent width at tally }
 {
@@ -64,7 +65,7 @@ fn tiles_under(extent: u64, width: u64, indices: u64) -> u64
 }
 
 // Axis 0 counts by whole tiles.
-fn number_first(extent: u64, width: u64, at: u64, tally: Tally) -> u64
+pub(super) fn number_first(extent: u64, width: u64, at: u64, tally: Tally) -> u64
     requires { First extent width at tally }
     ensures { result ≡ numbered extent width at tally }
 {
@@ -77,18 +78,5 @@ pub fn number_of(plan: &LentPlan, c: &[u64; 64]) -> u64
     requires { Countable plan.now c.now }
     ensures { result ≡ block_number (plan_cut_axes plan.now) (take plan.now.rank c.now) }
 {
-    if plan.rank == 0 {
-        return 0;
-    }
-    let mut t = Tally {
-        before: 0,
-        size: 1,
-        place: 0,
-    };
-    for i in (1..plan.rank).rev() {
-        let width = width_on(plan, i);
-        t = tally_axis(plan.extents[i], width, c[i], t);
-    }
-    let width = width_on(plan, 0);
-    number_first(plan.extents[0], width, c[0], t)
+    arrays::number_of(plan.rank, plan.extents, plan.blocks, c)
 }

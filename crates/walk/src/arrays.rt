@@ -9,7 +9,7 @@ ghost use Rattle.walk.specs.Lent.{Answers, SteppedInto};
 ghost use Rattle.walk.specs.Onward.{lone, AdvancesOn};
 
 use crate::{memory, onward};
-use advance::{length_by, width_on};
+use advance::arrays::width_of;
 use layout::LentPlan;
 use states::LentWalk;
 use strided::Refusal;
@@ -85,14 +85,8 @@ pub fn length_on<'a>(
     requires { (rank ≤ 64) × (0 < rank → get_or counters.now 0 0 < get_or extents.now 0 0) }
     ensures { let p = plan_of rank 0 extents.now blocks.now [] in result ≡ length_of p (widths p) counters.now }
 {
-    let plan = LentPlan {
-        rank,
-        operands: 1,
-        extents,
-        blocks,
-        strides: &[0i64; 512],
-    };
-    length_by(&plan, width_on(&plan, 0), counters[0])
+    let width = width_of(rank, 0, extents[0], blocks[0]);
+    advance::arrays::length_on(rank, extents[0], width, counters[0])
 }
 
 // Moves the counters and the offsets to the next block. Says whether there is one; if not, both are back at the start. Without operands, which

@@ -88,8 +88,12 @@ pub record Striding (y : Option Way) (p : Plan) (w : List ℕ) (at : State) : Ty
 pub striding : {y : Option Way} {p : Plan} {w : List ℕ} {at : State} → Leads y p w → Strides p w at → Striding y p w at
 striding l k = record { leads = l; strides = k }
 
+-- where there is a way
+pub on_way : {v : Option Way} {p : Plan} {w : List ℕ} → Leads v p w → {y : Way} → v ≡ Some y → {at : State} → Strides p w at → Striding (Some y) p w at
+on_way l e k = record { leads = record { along = λ v q. l.along v (e ∙ q) }; strides = k }
+
 pub course_on : (x : Course) {y : Way} → x.way ≡ Some y → {at : State} → Strides x.tiling.plan.now x.tiling.widths at → Striding (Some y) x.tiling.plan.now x.tiling.widths at
-course_on x e k = record { leads = record { along = λ v q. x.leads.along v (e ∙ q) }; strides = k }
+course_on x e k = on_way x.leads e k
 
 pub leads_some : {v : Way} {p : Plan} {w : List ℕ} → Along v p w → Leads (Some v) p w
 leads_some {v} {p} {w} a = record { along = λ u q. let e : v ≡ u = cc in subst (λ (x : Way). Along x p w) e a }

@@ -1,7 +1,7 @@
--- How far each operand moves along a way.
+-- How far each operand moves along a way, what a way is found by, and what it reads of a plan.
 -- Assumes nothing.
-use mathlib.Core.Path.{◌≡◌, sym, ap, ap₂, ◌∙◌, subst}
-use mathlib.Core.Bool.{false, false≢true}
+use mathlib.Core.Path.{◌≡◌, refl, sym, ap, ap₂, ◌∙◌, subst}
+use mathlib.Core.Bool.{true, false, false≢true}
 use mathlib.Core.List.{List}
 use Rattle.std.specs.Prelude.{Option, None, Some}
 use Prim.Native.Nat.{ℕ, ◌+◌, ◌-◌, ◌*◌, ◌^◌, ◌≤◌, ◌<◌}
@@ -16,11 +16,12 @@ use Rattle.advance.specs.Moves.{after_move, Shifts}
 use Rattle.advance.specs.Carry.{Roomy}
 use Rattle.advance.proofs.Signed as signed
 use Rattle.strided.specs.Begin.{plan_extents}
+use Rattle.strided.specs.Memory.{plan_of}
 use Rattle.strided.specs.declared.Plan.{Plan}
 use Rattle.layout.specs.Below.{FirstBelow}
 use Rattle.advance.specs.declared.State.{State}
 use Rattle.walker.specs.declared.way.Way.{Way}
-use Rattle.walker.specs.Way.{FirstCut, Along, Leads}
+use Rattle.walker.specs.Way.{FirstCut, Along, Leads, left_in, left_of}
 
 -- each operand's move stays within 64 bits
 moves_fit_on : {y : Way} {p : Plan} {w : List ℕ} {at : State} → Roomy p at → Along y p w → Shifts p y.axis 0 y.by (replicate 8 (pos 0))
@@ -44,7 +45,7 @@ moves_fit_on {y} {p} {w} r l = record {
 pub moves_fit : {y : Option Way} {p : Plan} {w : List ℕ} {at : State} → Roomy p at → Leads y p w → (v : Way) → y ≡ Some v → Shifts p v.axis 0 v.by (replicate 8 (pos 0))
 moves_fit r l v e = moves_fit_on r (l.along v e)
 
--- ---- what a course's way is found by: from tile to tile, along the first axis with a second tile
+-- ---- what a way is found by: from tile to tile, along the first axis with a second tile
 
 pub along_tiles : {p : Plan} {w : List ℕ} {v : Way} → FirstCut p w None → {r : ℕ} → r ≡ p.rank → {es : List ℕ} → es ≡ plan_extents p → FirstBelow (take r w) es (Some v.axis)
     → v.inside ≡ false → v.by ≡ get_or w v.axis 0 → Along v p w
@@ -67,3 +68,37 @@ along_tiles {p} {w} {v} ones {r} r-is {es} es-are below i b = record {
 
     extent-there : (j : ℕ) → j < r → get_or es j 0 ≡ get_or p.extents j 0
     extent-there j h = ap (λ (l : List ℕ). get_or l j 0) es-are ∙ get_or-take p.rank p.extents j 0 (subst (λ (n : ℕ). j < n) r-is h)
+
+-- and inside a tile, along the first axis whose blocks are not 1, if it has a second index
+pub along_cut : {p : Plan} {w : List ℕ} {i : ℕ} → FirstCut p w (Some i) → {v : Way} → v.inside ≡ true → v.axis ≡ i → v.by ≡ 1 → 1 < get_or p.extents i 0 → Along v p w
+along_cut {p} {w} f {v} g a b h = record {
+  there = subst (λ (n : ℕ). n < p.rank) (sym a) f.1;
+  room = subst (λ (n : ℕ). n < get_or p.extents v.axis 0) (sym b) (subst (λ (n : ℕ). 1 < get_or p.extents n 0) (sym a) h);
+  inner_by = λ k. b;
+  inner_axis = λ k. subst (λ (n : ℕ). 1 ≤ n) (sym a) f.0;
+  inner-still = λ k j o q. f.3 j o (subst (λ (n : ℕ). j < n) a q);
+  tile_by = λ k. absurd (false≢true (sym k ∙ g));
+  tile_still = λ k. absurd (false≢true (sym k ∙ g));
+  tile_whole = λ k. absurd (false≢true (sym k ∙ g));
+}
+
+-- ---- of a plan a way reads the rank and the extents alone
+
+along_axes : {y : Way} {rank n m : ℕ} {e b d w : List ℕ} {s t : List ℤ} → Along y (plan_of rank n e b s) w → Along y (plan_of rank m e d t) w
+along_axes a = record {
+  there = a.there;
+  room = a.room;
+  inner_by = a.inner_by;
+  inner_axis = a.inner_axis;
+  inner-still = a.inner-still;
+  tile_by = a.tile_by;
+  tile_still = a.tile_still;
+  tile_whole = a.tile_whole;
+}
+
+pub leads_axes : {y : Option Way} {rank n m : ℕ} {e b d w : List ℕ} {s t : List ℤ} → Leads y (plan_of rank n e b s) w → Leads y (plan_of rank m e d t) w
+leads_axes l = record { along = λ v q. along_axes (l.along v q) }
+
+pub left_axes : (y : Option Way) (p q : Plan) (w c : List ℕ) → p.extents ≡ q.extents → left_of y p w c ≡ left_of y q w c
+left_axes None p q w c e = refl
+left_axes (Some y) p q w c e = ap (λ (l : List ℕ). left_in y (get_or l y.axis 0) (get_or w y.axis 0) (get_or c y.axis 0)) e

@@ -30,7 +30,7 @@ pub record Along (y : Way) (p : Plan) (w : List ℕ) : Type 0 where
   pub tile_still : y.inside ≡ false → (j : ℕ) → 1 ≤ j → j < p.rank → get_or w j 0 ≡ 1
   pub tile_whole : y.inside ≡ false → (j : ℕ) → j < y.axis → get_or p.extents j 0 ≤ get_or w j 0
 
--- and where a course does, if it has a way
+-- and where a route does, if it has a way
 pub record Leads (y : Option Way) (p : Plan) (w : List ℕ) : Type 0 where
   pub along : (v : Way) → y ≡ Some v → Along v p w
 
@@ -38,7 +38,7 @@ pub record Leads (y : Option Way) (p : Plan) (w : List ℕ) : Type 0 where
 unfoldable pub left_in : Way → ℕ → ℕ → ℕ → ℕ
 left_in y extent w at = cond y.inside (min (w - (at - start_of w at)) (extent - at)) (max 1 ((extent - at) / w))
 
--- of a course's way, if there is one; else the one block
+-- of a way, if there is one; else the one block
 abbrev pub left_of : Option Way → Plan → List ℕ → List ℕ → ℕ
 left_of None p w c = 1
 left_of (Some y) p w c = left_in y (get_or p.extents y.axis 0) (get_or w y.axis 0) (get_or c y.axis 0)

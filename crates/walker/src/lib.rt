@@ -7,20 +7,23 @@
 // what a call makes of it, is in proofs/Walked.antt.
 #![tactic(auto)]
 
-ghost use Rattle.std.specs.Prelude.{◌≡◌, true, false, ◌<◌, ◌≤◌, ◌+◌, ◌-◌, ◌*◌, pos, get_or, replicate, Some};
+ghost use Rattle.std.specs.Prelude.{◌≡◌, ◌≤◌, pos, replicate, Some};
+ghost use Rattle.advance.specs.Arrays.{plan_in};
 ghost use Rattle.advance.specs.Axis.{starts_to};
 ghost use Rattle.advance.specs.Carry.{Single, state_of};
 ghost use Rattle.advance.specs.Blocks.{length_of};
 ghost use Rattle.advance.specs.Moves.{Shifts};
-ghost use Rattle.walker.specs.Way.{FirstCut, Leads, left_in, left_of, moves_of, AtEnd, MayGo, Gone, Strides, Leaves, MayTell, Passed, Hopped, Strode, MayMove, added};
+ghost use Rattle.walker.specs.Way.{Leads, left_of, moves_of, Strides, MayTell, Passed, Hopped, Strode, MayMove, added};
 
-use advance::{Place, State, Tiling, length_by, shift};
-use layout::{LentPlan, first_below};
+use advance::{State, Tiling};
+use layout::LentPlan;
 
 pub mod arrays;
+mod route;
 pub mod stretch;
 mod way;
 
+pub use route::Route;
 pub use stretch::Blocks;
 pub use way::Way;
 
@@ -55,57 +58,6 @@ pub struct Here {
 // A limit that no stretch passes, for whoever walks to the end.
 pub const ALL: u64 = u64::MAX;
 
-// The first axis from 1 on whose blocks are not 1.
-fn first_cut(tiling: &Tiling) -> Option<usize>
-    ensures { FirstCut tiling.now.plan.now tiling.now.widths result }
-{
-    let plan = tiling.plan;
-    (1..plan.rank).find(|&i| tiling.widths[i] != 1)
-}
-
-// The way of a walk's stretches: along the quickest axis that moves inside a tile; where none does, along the quickest that has a second tile.
-fn way_of(tiling: &Tiling) -> Option<Way>
-    ensures { Leads result tiling.now.plan.now tiling.now.widths }
-{
-    let plan = tiling.plan;
-    let widths = &tiling.widths[..plan.rank];
-    if let Some(cut) = first_cut(tiling) {
-        return Some(Way {
-            inside: true,
-            axis: cut,
-            by: 1,
-        });
-    }
-    // the first axis with more than one tile
-    let tiled = first_below(widths, plan.axes())?;
-    Some(Way {
-        inside: false,
-        axis: tiled,
-        by: tiling.widths[tiled],
-    })
-}
-
-impl Way {
-    // How many blocks are ahead on the axis, the one at this place with them.
-    fn blocks_left(self, place: Place) -> u64
-        ensures { result ≡ left_in self place.extent place.width place.at }
-    {
-        let left = place.extent - place.at;
-        if self.inside {
-            return left.min(place.width - (place.at - place.start));
-        }
-        (left / place.width).max(1)
-    }
-
-    // Whether the last block of the stretch is the axis's last: no shorter tile is behind it.
-    fn ends_axis(self, place: Place, left: u64) -> bool
-        requires { (0 < left) × (place.at + (left - 1) * self.by ≤ place.extent) }
-        ensures { result ≡ true → self.inside ≡ false → place.extent - (place.at + (left - 1) * self.by) ≤ self.by }
-    {
-        self.inside || place.extent - (place.at + (left - 1) * self.by) <= self.by
-    }
-}
-
 // Kept: Strides as a clause. It binds a state to a course, and every stretch makes it anew (crate advance has the same of Roomy and Tiled).
 
 impl<'a, 'b> Course<'a, 'b> {
@@ -113,10 +65,25 @@ impl<'a, 'b> Course<'a, 'b> {
         ensures { result.tiling.plan.now ≡ plan.now }
     {
         let tiling = Tiling::of(plan);
+        let route = Route::of(tiling.tiles());
         Course {
-            inner: tiling.inner_axes(),
-            way: way_of(&tiling),
+            inner: route.inner,
+            way: route.way,
             tiling,
+        }
+    }
+
+    // The same on the plan's arrays.
+    pub fn route(&self) -> Route
+        ensures plan { plan_in result.tiles ≡ self.now.tiling.plan.now }
+        ensures few { result.tiles.operands ≤ 8 }
+        ensures sizes { result.tiles.widths.now ≡ self.now.tiling.widths }
+        ensures way { result.way ≡ self.now.way }
+    {
+        Route {
+            tiles: self.tiling.tiles(),
+            inner: self.inner,
+            way: self.way,
         }
     }
 
@@ -136,55 +103,7 @@ impl<'a, 'b> Course<'a, 'b> {
         requires { (y : _) → self.now.way ≡ Some y → Shifts self.now.tiling.plan.now y.axis 0 y.by (replicate 8 (pos 0)) }
         ensures { result ≡ moves_of self.now.way self.now.tiling.plan.now }
     {
-        let mut d = [0i64; 8];
-        if let Some(y) = self.way {
-            shift(self.tiling.plan, y.axis, 0, y.by, &mut d);
-        }
-        d
-    }
-
-    // Goes on by `steps` blocks along a way.
-    fn go_steps(&self, y: Way, steps: u64, at: &mut State)
-        requires { MayGo y steps self.now.tiling.plan.now at.old }
-        ensures { Gone y steps self.now.tiling.plan.now at.old at.new }
-    {
-        if steps == 0 {
-            return;
-        }
-        let axis = y.axis;
-        let from = at.counters[axis];
-        let to = from + steps * y.by;
-        shift(self.tiling.plan, axis, from, to, &mut at.offsets);
-        at.counters[axis] = to;
-        if y.inside {
-            return;
-        }
-        at.tile_starts[axis] = to;
-    }
-
-    // Leaves the stretch at the counters, all of it: its axis goes home, and the axes behind it carry on. Says whether there is a block.
-    fn leave(&self, y: Way, at: &mut State) -> bool
-        requires strides { Strides self.now.tiling.plan.now self.now.tiling.widths at.old }
-        requires way { self.now.way ≡ Some y }
-        requires at_end { AtEnd y (get_or self.now.tiling.plan.now.extents y.axis 0) (get_or self.now.tiling.widths y.axis 0)
-            (get_or at.old.counters y.axis 0) }
-        ensures { Leaves (Some y) self.now.tiling.plan.now self.now.tiling.widths at.old result at.new }
-    {
-        let plan = self.tiling.plan;
-        let rank = plan.rank;
-        let axis = y.axis;
-        let from = at.counters[axis];
-        if y.inside {
-            let start = at.tile_starts[axis];
-            shift(plan, axis, from, start, &mut at.offsets);
-            at.counters[axis] = start;
-            return self.tiling.carry(true, axis + 1, self.inner, at)
-                || self.tiling.carry(false, 0, rank, at);
-        }
-        shift(plan, axis, from, 0, &mut at.offsets);
-        at.counters[axis] = 0;
-        at.tile_starts[axis] = 0;
-        self.tiling.carry(false, axis + 1, rank, at)
+        self.route().moves()
     }
 
     // Looks at the stretch at the counters; nothing moves.
@@ -193,14 +112,7 @@ impl<'a, 'b> Course<'a, 'b> {
         ensures { (result.left ≡ left_of self.now.way self.now.tiling.plan.now self.now.tiling.widths at.now.counters)
             × (result.length ≡ length_of self.now.tiling.plan.now self.now.tiling.widths at.now.counters) }
     {
-        let left = match self.way {
-            None => 1,
-            Some(y) => y.blocks_left(self.tiling.place(y.axis, at)),
-        };
-        Here {
-            left,
-            length: length_by(self.tiling.plan, self.tiling.widths[0], at.counters[0]),
-        }
+        self.route().stretch_here(at)
     }
 
     // Goes past the stretch at the counters, of at most `limit` blocks, in the case that comes most often: it began where its tile does and is
@@ -211,18 +123,7 @@ impl<'a, 'b> Course<'a, 'b> {
         requires left_value { left ≡ left_of self.now.way self.now.tiling.plan.now self.now.tiling.widths at.old.counters }
         ensures { Hopped self.now.way limit self.now.tiling.plan.now self.now.tiling.widths at.old result at.new }
     {
-        let Some(y) = self.way else {
-            return false;
-        };
-        let axis = y.axis;
-        if !y.inside
-            || self.inner <= axis + 1
-            || limit < left
-            || at.counters[axis] != at.tile_starts[axis]
-        {
-            return false;
-        }
-        self.tiling.go_ahead(axis + 1, at)
+        self.route().hop(limit, left, at)
     }
 
     // Goes past the stretch at the counters, of at most `limit` blocks, in any case. Says whether there is a block behind it; if not, the
@@ -232,19 +133,7 @@ impl<'a, 'b> Course<'a, 'b> {
         requires left_value { left ≡ left_of self.now.way self.now.tiling.plan.now self.now.tiling.widths at.old.counters }
         ensures { Passed self.now.way limit self.now.tiling.plan.now self.now.tiling.widths at.old result at.new }
     {
-        let Some(y) = self.way else {
-            return limit == 0 || self.tiling.advance(self.inner, at);
-        };
-        let place = self.tiling.place(y.axis, at);
-        if limit < left {
-            self.go_steps(y, limit, at);
-            return true;
-        }
-        if y.ends_axis(place, left) {
-            return self.leave(y, at);
-        }
-        self.go_steps(y, left - 1, at);
-        self.tiling.advance(self.inner, at)
+        self.route().go_behind(limit, left, at)
     }
 
     // Kept: a loop over stretches in each caller (writing, export, summary; bulk by the parts), and no `each_stretch` that is handed a closure. Its
@@ -256,14 +145,7 @@ impl<'a, 'b> Course<'a, 'b> {
         requires { Strides self.now.tiling.plan.now self.now.tiling.widths at.old }
         ensures { Strode self.now.way limit self.now.tiling.plan.now self.now.tiling.widths at.old result first.new at.new }
     {
-        let x = self.stretch_here(at);
-        *first = at.offsets;
-        let more = self.go_behind(limit, x.left, at);
-        Next {
-            count: limit.min(x.left),
-            length: x.length,
-            more,
-        }
+        self.route().take_stretch(limit, at, first)
     }
 }
 

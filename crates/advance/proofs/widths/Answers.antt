@@ -5,4 +5,4 @@ use mathlib.Core.Path.{◌≡◌, subst}
 use Rattle.advance.proofs.widths.Goals as goal
 
 pub returns : goal.returns
-returns c = subst (λ (p : Plan). c.widths_into.new.w ≡ widths p) c.plan.view_is c.widths_into.ensures
+returns c = subst (λ (p : Plan). c.widths.result ≡ widths p) c.plan.view_is c.widths.ensures

@@ -1,8 +1,0 @@
--- The invariants of `shift`.
-use mathlib.Core.Path.{◌≡◌}
-use Prim.Native.Nat.{◌≤◌}
-use Rattle.advance.specs.Moves.{shifted_to}
-use Rattle.advance.proofs.shift.Given as goal
-
-abbrev pub invariant-loop-k : goal.invariant-loop-k
-invariant-loop-k l = (l.k ≤ l.plan.operands) × (l.o ≡ shifted_to l.k l.axis l.from l.to l.plan.strides l.initial.o)
