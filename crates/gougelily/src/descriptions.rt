@@ -4,7 +4,7 @@ ghost use Rattle.numpy.specs.Numpy.{to_numpy};
 ghost use Rattle.numpy.specs.Memory.{described_at, FromNumpyMemory};
 
 use super::codes::length_code;
-use numpy::{from_numpy, to_numpy};
+use numpy::{from_numpy_into, to_numpy};
 
 // What a text says: the size of an element, the rank, and extents and element strides in our order.
 #[unsafe(no_mangle)]
@@ -20,11 +20,12 @@ pub extern "C" fn gougelily_from_numpy(
         (described_at size.new rank.new extents.new strides.new)
         result }
 {
-    let said = served!(from_numpy(text));
-    let es = said.extents;
-    let ss = said.strides;
-    *size = [said.size];
-    *rank = [said.rank];
+    // The text is read into arrays of the function's own: what is lent stays as it was where a text is refused.
+    let mut es = [0u64; 64];
+    let mut ss = [0i64; 64];
+    let (said_size, said_rank) = served!(from_numpy_into(text, &mut es, &mut ss));
+    *size = [said_size];
+    *rank = [said_rank];
     *extents = es;
     *strides = ss;
     0

@@ -129,7 +129,7 @@ module _ {s shape shape' : List ℕ} {bytes bytes' : List ℤ} where
       record {
         packed = λ z m row g.
             let w = t.packed z m row g in
-            (w.0, subst (λ (i : ℕ). InForm s (saying i m w.0 None)) w.1 (subst (λ (i : ℕ). InForm s (saying size i w.0 None)) w.2 (formed hd short w.0 None w.3)), w.4, w.5);
+            (w.0, subst (λ (i : ℕ). InForm s (saying i m w.0 None)) w.1 (subst (λ (i : ℕ). InForm s (saying size i w.0 None)) w.2 (formed hd short w.0 None w.3)), w.4, w.5, w.6);
         given = λ z m row g.
             let w = t.given z m row g in
             (w.0, w.1, subst (λ (i : ℕ). InForm s (saying i m w.0 (Some w.1))) w.2 (subst (λ (i : ℕ). InForm s (saying size i w.0 (Some w.1))) w.3 (formed hd short w.0 (Some w.1) w.4)), w.5, w.6, w.7);

@@ -1,16 +1,16 @@
 -- The rows of both ways, taken apart as the code checks them, and the numbers that are told where none applies.
 -- Assumes nothing.
-use mathlib.Core.Path.{◌≡◌, refl, sym, ap, ◌∙◌}
+use mathlib.Core.Path.{◌≡◌, refl, sym, ap, ap₂, ◌∙◌}
 use mathlib.Core.Logic.{inl}
 use mathlib.Core.Bool.{Bool, true, false, ◌||◌}
-use mathlib.Core.List.{List, [], ◌∷◌, map}
-use Prim.Native.Nat.{ℕ, suc, ◌-◌, ◌*◌, ◌^◌, ◌≤◌, ◌<◌}
+use mathlib.Core.List.{List, [], ◌∷◌, ◌++◌, map}
+use Prim.Native.Nat.{ℕ, suc, ◌+◌, ◌-◌, ◌*◌, ◌^◌, ◌≤◌, ◌<◌}
 use native.Mathlib.Nat.{mul-le-mul_right, mul-one}
 use native.Mathlib.Omega.{arith}
 use lib.Dec.{ltb, eqb}
 use lib.IntN.{ℤ, pos}
-use lib.ListN.{length, get_or, take, replicate, length-map, length-replicate}
-use lib.Seq.{take_at, sets}
+use lib.ListN.{length, get_or, take, drop, replicate, length-map, length-replicate}
+use lib.Seq.{take_at, drop_at, sets}
 use borrow.Author.Tests.{ltb-true, ltb-false, eqb-true, eqb-false, not-false}
 use Rattle.strided.specs.Base.{padded}
 use Rattle.strided.specs.Layout.{total}
@@ -19,12 +19,13 @@ use Rattle.strided.specs.Text as T
 use Rattle.strided.specs.declared.Refusal.{Refusal}
 use Rattle.std.specs.Prelude.{Result, Ok, Err}
 use Rattle.strided.specs.declared.Refusal.TheVariants.{ByteStrides, Rank, StrideCount}
-use Rattle.laws.specs.Base.Filling.{padded_is}
+use Rattle.laws.specs.Base.Filling.{padded_is, fill_none, drop_behind}
 use Rattle.laws.specs.Base.Refusals.{NoneApplies, none_applies}
 use Rattle.laws.specs.Base.Tests.{or_none}
 use Rattle.laws.specs.Text.Answers.{filled_within}
 use Rattle.reading.specs.Laid.{take-laid}
 use Rattle.numpy.specs.Descriptions.{Description, InForm}
+use Rattle.std.proofs.lemmas.List.Edits.{sets-eq}
 use Rattle.std.specs.List.{list_any}
 use Rattle.numpy.specs.Numpy.{reversed, afters, packed, byte_stride, extents_of, strides_of, too_far, row19, back_row19, telling, described, FromNumpy, text_of, to_rows, to_numpy}
 use Rattle.numpy.specs.Once.{in_form_once}
@@ -37,8 +38,28 @@ use Rattle.numpy.proofs.Fills.{map_at}
 -- ---- arrays with a count
 
 -- numbers laid into an array of zeros
+pub into_zeros : {A : Type 0} {z : A} {new old : List A} (vs : List A) → new ≡ sets old 0 vs → old ≡ replicate 64 z → new ≡ sets (replicate 64 z) 0 vs
+into_zeros {A} vs e o = e ∙ ap (λ (u : List A). sets u 0 vs) o
+
 pub laid-take : {A : Type 0} (z : A) (new vs : List A) (rank : ℕ) → new ≡ sets (replicate 64 z) 0 vs → length vs ≡ rank → rank ≤ 64 → take rank new ≡ vs
 laid-take z new vs rank e l h = ap (take rank) e ∙ take-laid (replicate 64 z) vs rank l (let q = length-replicate 64 z in omega (arith, q, h))
+
+-- the places behind them stay zeros
+pub laid-behind : {A : Type 0} (z : A) (new vs : List A) (rank : ℕ) → new ≡ sets (replicate 64 z) 0 vs → length vs ≡ rank → rank ≤ 64 → drop rank new ≡ replicate (64 - rank) z
+laid-behind z new vs rank e l h =
+    let q = length-replicate 64 z in
+    let n : ℕ = length vs in
+    ap (drop rank) (e ∙ sets-eq vs (replicate 64 z) 0 (omega (arith, q, h, l)))
+    ∙ drop_at vs (drop (0 + n) (replicate 64 z)) rank l
+    ∙ ap (drop (0 + n)) (fill_none 64 z)
+    ∙ drop_behind 64 (0 + n) z [] (omega arith)
+    ∙ sym (fill_none (64 - (0 + n)) z)
+    ∙ (let m : 0 + n ≡ rank = omega (arith, l) in ap (λ (k : ℕ). replicate (64 - k) z) m)
+
+-- the numbers in front are turned, and zeros stay behind
+pub front_turned : {A : Type 0} (z : A) (old ys xs : List A) (rank : ℕ) → ys ≡ xs → length xs ≡ rank → rank ≤ 64 → drop rank old ≡ replicate (64 - rank) z → ys ++ drop rank old ≡ padded 64 z xs
+front_turned z old ys xs rank e l h d =
+    ap₂ ◌++◌ e (d ∙ fill_none (64 - rank) z ∙ ap (λ (k : ℕ). padded (64 - k) z []) (sym l)) ∙ sym (padded_is 64 z xs (omega (arith, l, h)))
 
 pub take-padded : {A : Type 0} (z : A) (xs : List A) (n : ℕ) → length xs ≡ n → n ≤ 64 → take n (padded 64 z xs) ≡ xs
 take-padded z xs n e h = ap (take n) (padded_is 64 z xs (omega (arith, e, h))) ∙ take_at xs (padded (64 - length xs) z []) n e

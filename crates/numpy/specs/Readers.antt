@@ -1,7 +1,7 @@
 -- What the inner functions answer: the readers of the lines and of the whole text, row 19 on numbers that stand in a text, and the two kinds of
 -- description in our numbers.
 -- Assumes nothing.
-use Rattle.std.specs.Prelude.{◌≡◌, Bool, ◌||◌, List, [], ◌∷◌, ◌++◌, ℕ, ◌^◌, ◌≤◌, min, max, eqb, ℤ, length, take, Option, Some, None, Result}
+use Rattle.std.specs.Prelude.{◌≡◌, Bool, ◌||◌, List, [], ◌∷◌, ◌++◌, ℕ, ◌^◌, ◌≤◌, ◌-◌, min, max, eqb, ℤ, length, take, drop, replicate, Option, Some, None, Result, Ok, Err}
 use Rattle.std.specs.Borrow.{Bor}
 use Rattle.std.specs.List.{list_any, FoldsTo}
 use Rattle.std.proofs.lemmas.List.Edits.{sets}
@@ -66,7 +66,7 @@ Strides t ts = RowHere signed_of FitI t ts []
 
 pub record TakesLines (t : List ℕ) (size rank : ℕ) (shape shape' : List ℕ) (bytes bytes' : List ℤ) (r : Option Said) : Type 0 where
   pub packed : (z n : ℕ) (row : Bor (List ℕ)) → r ≡ Some (Packed z n row)
-      → (es : List ℕ) × (size ≡ z) × (rank ≡ n) × LinesHere rank t es None × Shape row.now es × (shape' ≡ sets shape 0 es)
+      → (es : List ℕ) × (size ≡ z) × (rank ≡ n) × LinesHere rank t es None × Shape row.now es × (shape' ≡ sets shape 0 es) × (bytes' ≡ bytes)
   pub given : (z n : ℕ) (row : Bor (List ℕ)) → r ≡ Some (Given z n row)
       → (es : List ℕ) × (ts : List ℤ) × (size ≡ z) × (rank ≡ n) × LinesHere rank t es (Some ts) × Strides row.now ts
       × (shape' ≡ sets shape 0 es) × (bytes' ≡ sets bytes 0 ts)
@@ -76,7 +76,7 @@ pub record TakesLines (t : List ℕ) (size rank : ℕ) (shape shape' : List ℕ)
 
 pub record ReadsDescription (s shape shape' : List ℕ) (bytes bytes' : List ℤ) (r : Option Said) : Type 0 where
   pub packed : (size rank : ℕ) (row : Bor (List ℕ)) → r ≡ Some (Packed size rank row)
-      → (es : List ℕ) × InForm s (saying size rank es None) × Shape row.now es × (shape' ≡ sets shape 0 es)
+      → (es : List ℕ) × InForm s (saying size rank es None) × Shape row.now es × (shape' ≡ sets shape 0 es) × (bytes' ≡ bytes)
   pub given : (size rank : ℕ) (row : Bor (List ℕ)) → r ≡ Some (Given size rank row)
       → (es : List ℕ) × (ts : List ℤ) × InForm s (saying size rank es (Some ts)) × Strides row.now ts
       × (shape' ≡ sets shape 0 es) × (bytes' ≡ sets bytes 0 ts)
@@ -132,6 +132,10 @@ pub record StridesAt (t : List ℕ) (rank : ℕ) (bytes : List ℤ) : Type 0 whe
   pub row : Strides t ts
   pub laid : rank ≤ 64 → take rank bytes ≡ ts
 
+-- and behind the rank, in the array, zeros
+abbrev pub ZerosBehind : {A : Type 0} → A → ℕ → List A → Type 0
+ZerosBehind z rank xs = rank ≤ 64 → drop rank xs ≡ replicate (64 - rank) z
+
 abbrev pub FromPacked : List ℕ → ℕ → ℕ → List ℕ → Result Described Refusal → Type 0
 FromPacked t size rank shape r = OfShape t rank (λ es. (rank ≤ 64 → take rank shape ≡ es) → r ≡ described (saying size rank es None))
 
@@ -139,3 +143,8 @@ abbrev pub FromGiven : List ℕ → ℕ → ℕ → List ℕ → List ℤ → Re
 FromGiven t size rank shape bytes r =
     OfStrides t rank (λ ts. (es : List ℕ) → length es ≡ rank → (rank ≤ 64 → take rank shape ≡ es) → (rank ≤ 64 → take rank bytes ≡ ts)
     → r ≡ described (saying size rank es (Some ts)))
+
+-- size and rank, which are answered, with the arrays beside them
+abbrev pub joined : Result (ℕ × ℕ) Refusal → List ℕ → List ℤ → Result Described Refusal
+joined (Ok t) es ss = Ok (record { size = t.0; rank = t.1; extents = es; strides = ss })
+joined (Err e) es ss = Err e

@@ -3,6 +3,8 @@
 use Rattle.std.specs.Prelude.{◌≡◌, refl, ◌⊎◌, Bool, true, false, ◌||◌, List, [], ◌∷◌, ◌++◌, map, ℕ, zero, suc, ◌-◌, ◌*◌, ◌≤◌, ◌<◌, length, get_or}
 use Rattle.std.proofs.Common.{sym, ap, ◌∙◌, inl, inr, append_assoc, append-nil, mul-one, one-mul, mul_assoc, eq-or-lt_of_le, arith, length-append}
 use Rattle.std.proofs.Math.ListN.{get_or-append}
+use mathlib.Core.List.{reverse}
+use Rattle.std.proofs.lemmas.Grind.{reverse_onto}
 use Rattle.std.proofs.lemmas.List.{get_or_at}
 use Rattle.strided.specs.Layout.{total}
 use Rattle.strided.specs.Text.{Each}
@@ -23,6 +25,11 @@ module _ {A : Type 0} where
   pub reversed_twice : (xs : List A) → reversed (reversed xs) ≡ xs
   reversed_twice [] = refl
   reversed_twice (x ∷ xs) = reversed-append (reversed xs) (x ∷ []) ∙ ap (λ (l : List A). x ∷ l) (reversed_twice xs)
+
+  -- the library's word for it
+  pub reverse-reversed : (xs : List A) → reverse xs ≡ reversed xs
+  reverse-reversed [] = refl
+  reverse-reversed (x ∷ xs) = reverse_onto xs x [] ∙ ap (λ (l : List A). l ++ (x ∷ [])) (reverse-reversed xs)
 
   -- element i is the i-th from the end
   pub get_d_reversed : (xs : List A) (d : A) (i : ℕ) → i < length xs → get_or (reversed xs) i d ≡ get_or xs (length xs - 1 - i) d

@@ -2,16 +2,16 @@
 // strides, and the reverse. NumPy's last axis is our axis 0. A text is read and judged before anything is handed out.
 #![tactic(auto)]
 
-ghost use Rattle.std.specs.Prelude.{◌≡◌, length};
+ghost use Rattle.std.specs.Prelude.{◌≡◌, pos, length, replicate};
 ghost use Rattle.numpy.specs.Numpy.{FromNumpy, to_numpy};
-ghost use Rattle.numpy.specs.Readers.{ShapeAt, StridesAt, FromPacked, FromGiven};
+ghost use Rattle.numpy.specs.Readers.{ShapeAt, StridesAt, ZerosBehind, FromPacked, FromGiven, joined};
 
 use back::{Spelling, list, strides_out};
 use layout::{Row, rank_over, strides_wrong};
 use lines::{Said, read_description};
 use rows::{given_wrong, packed_wrong};
 use strided::Refusal;
-use units::{Unit, packed_strides, reversed};
+use units::{Unit, packed_strides_into, reversed};
 
 pub mod back;
 pub mod lines;
@@ -29,13 +29,21 @@ pub struct Described {
 
 // Kept: here and below, `rank` beside the arrays. Row 19 comes before row 1 and is asked of all numbers, so a rank travels on that the arrays
 // have no places for, and no slice of them says it.
-// Kept: two ends that are alike. Row 1 stands between what differs, row 19 and the strides; a function for the last line would be handed each of
-// the numbers that it puts together.
+// Kept: two ends that are alike. Row 1 stands between what differs, row 19 and the strides.
+// Kept: arrays that are lent, and answers with none in them. An `Err` beside arrays has them cleared and copied wherever the two meet.
 
-// A description without T, whose shape stands in front of `row` and, as far as there are places, in `shape`.
-fn from_packed(row: &[u8], size: u64, rank: usize, shape: &[u64; 64]) -> Result<Described, Refusal>
-    requires { ShapeAt row.now rank shape.now }
-    ensures { FromPacked row.now size rank shape.now result }
+// A description without T, whose shape stands in front of `row` and, as far as there are places, in `extents`. There it is reversed, and the
+// strides are written into zeros.
+fn from_packed(
+    row: &[u8],
+    size: u64,
+    rank: usize,
+    extents: &mut [u64; 64],
+    strides: &mut [i64; 64],
+) -> Result<(u64, usize), Refusal>
+    requires shape { ShapeAt row.now rank extents.old }
+    requires zeros { ZerosBehind 0 rank extents.old × (strides.old ≡ replicate 64 (pos 0)) }
+    ensures { FromPacked row.now size rank extents.old (joined result extents.new strides.new) }
 {
     if packed_wrong(row, rank, size) {
         return Err(Refusal::ByteStrides);
@@ -43,26 +51,23 @@ fn from_packed(row: &[u8], size: u64, rank: usize, shape: &[u64; 64]) -> Result<
     if rank_over(rank) {
         return Err(Refusal::Rank);
     }
-    let extents = reversed(&shape[..rank]);
-    let strides = packed_strides(&extents[..rank]);
-    Ok(Described {
-        size,
-        rank,
-        extents,
-        strides,
-    })
+    extents[..rank].reverse();
+    packed_strides_into(&extents[..rank], strides);
+    Ok((size, rank))
 }
 
-// A description with T, whose byte strides stand in front of `row` and, as far as there are places, in `bytes`.
+// A description with T, whose byte strides stand in front of `row` and, as far as there are places, in `strides`, with the shape in `extents`.
+// There both are reversed.
 fn from_given(
     row: &[u8],
     size: u64,
     rank: usize,
-    shape: &[u64; 64],
-    bytes: &[i64; 64],
-) -> Result<Described, Refusal>
-    requires { StridesAt row.now rank bytes.now }
-    ensures { FromGiven row.now size rank shape.now bytes.now result }
+    extents: &mut [u64; 64],
+    strides: &mut [i64; 64],
+) -> Result<(u64, usize), Refusal>
+    requires strides { StridesAt row.now rank strides.old }
+    requires zeros { ZerosBehind 0 rank extents.old × ZerosBehind (pos 0) rank strides.old }
+    ensures { FromGiven row.now size rank extents.old strides.old (joined result extents.new strides.new) }
 {
     if given_wrong(row, rank, size) {
         return Err(Refusal::ByteStrides);
@@ -70,31 +75,42 @@ fn from_given(
     if rank_over(rank) {
         return Err(Refusal::Rank);
     }
-    let extents = reversed(&shape[..rank]);
+    extents[..rank].reverse();
     let unit = Unit { size };
-    let strides = unit.element_strides(Row {
-        strides: &bytes[..rank],
-    });
+    unit.turn_to_elements(&mut strides[..rank]);
+    Ok((size, rank))
+}
+
+// FROM NUMPY, into arrays of zeros: rows 12, 19 and 1, then the numbers. Size and rank are answered. Where it refuses, the arrays may hold what was
+// read so far.
+pub fn from_numpy_into(
+    text: &[u8],
+    extents: &mut [u64; 64],
+    strides: &mut [i64; 64],
+) -> Result<(u64, usize), Refusal>
+    requires zeros { (extents.old ≡ replicate 64 0) × (strides.old ≡ replicate 64 (pos 0)) }
+    ensures { FromNumpy text.now (joined result extents.new strides.new) }
+{
+    match read_description(text, extents, strides) {
+        None => Err(Refusal::Form),
+        Some(Said::Packed(size, rank, row)) => from_packed(row, size, rank, extents, strides),
+        Some(Said::Given(size, rank, row)) => from_given(row, size, rank, extents, strides),
+    }
+}
+
+// FROM NUMPY: the same, handed out.
+pub fn from_numpy(text: &[u8]) -> Result<Described, Refusal>
+    ensures { FromNumpy text.now result }
+{
+    let mut extents = [0u64; 64];
+    let mut strides = [0i64; 64];
+    let (size, rank) = from_numpy_into(text, &mut extents, &mut strides)?;
     Ok(Described {
         size,
         rank,
         extents,
         strides,
     })
-}
-
-// FROM NUMPY: rows 12, 19 and 1, then the numbers.
-pub fn from_numpy(text: &[u8]) -> Result<Described, Refusal>
-    ensures { FromNumpy text.now result }
-{
-    let mut shape = [0u64; 64];
-    let mut bytes = [0i64; 64];
-    // One match, and no `?`: an early return would have arrays of its own cleared and copied.
-    match read_description(text, &mut shape, &mut bytes) {
-        None => Err(Refusal::Form),
-        Some(Said::Packed(size, rank, row)) => from_packed(row, size, rank, &shape),
-        Some(Said::Given(size, rank, row)) => from_given(row, size, rank, &shape, &bytes),
-    }
 }
 
 // TO NUMPY: rows 19, 1, 3 and 14, then the text, of which it answers the length. It is measured before it is written, so a refusal leaves

@@ -1,5 +1,5 @@
-// Bytes and elements: a stride in one and in the other, and the arrays that are handed out, with the axes reversed.
-ghost use Rattle.std.specs.Prelude.{◌≡◌, false, map, ◌≤◌, ◌<◌, pos, length};
+// Bytes and elements: a stride in one and in the other, and the numbers of a description with the axes reversed, handed out or where they stand.
+ghost use Rattle.std.specs.Prelude.{◌≡◌, false, map, ◌≤◌, ◌<◌, pos, length, replicate};
 ghost use Rattle.strided.specs.Base.{padded};
 ghost use Rattle.numpy.specs.Numpy.{reversed, no_multiple, element_stride, stride_out, byte_stride};
 ghost use Rattle.std.specs.List.{All, list_any};
@@ -23,7 +23,7 @@ pub fn stride_out(size: u64, stride: i64) -> bool
 }
 
 // What f makes of the numbers, from the last to the first, with zeros behind.
-// Kept: that a slice has at most 64 places, here and in the two functions on extents below. Of strides `Row` says it; a type for extents would
+// Kept: that a slice has at most 64 places, here and in the three functions on extents below. Of strides `Row` says it; a type for extents would
 // be made and taken apart at each call.
 fn turned<T: Copy, F: Fn(T) -> T>(numbers: &[T], zero: T, f: F) -> [T; 64]
     requires len { length numbers.now ≤ 64 }
@@ -47,18 +47,28 @@ pub fn reversed(numbers: &[u64]) -> [u64; 64]
     turned(numbers, 0, |e| e)
 }
 
-// The element strides of a packed array in our order: 1 on axis 0, and on each axis the product of the extents before it.
-pub fn packed_strides(extents: &[u64]) -> [i64; 64]
-    requires { (length extents.now ≤ 64) × (Near extents.now) }
-    ensures { result ≡ padded 64 (pos 0) (map pos (firsts 1 extents.now)) }
+// The element strides of a packed array in our order, written into an array of zeros: 1 on axis 0, and on each axis the product of the extents
+// before it.
+pub fn packed_strides_into(extents: &[u64], out: &mut [i64; 64])
+    requires near { (length extents.now ≤ 64) × (Near extents.now) }
+    requires zeros { out.old ≡ replicate 64 (pos 0) }
+    ensures { out.new ≡ padded 64 (pos 0) (map pos (firsts 1 extents.now)) }
 {
     let n = extents.len();
-    let mut out = [0i64; 64];
     let mut step: u64 = 1;
     for i in 0..n {
         out[i] = positive(step);
         step = mul_cap(step, extents[i], 1 << 63);
     }
+}
+
+// The same strides, handed out.
+pub fn packed_strides(extents: &[u64]) -> [i64; 64]
+    requires { (length extents.now ≤ 64) × (Near extents.now) }
+    ensures { result ≡ padded 64 (pos 0) (map pos (firsts 1 extents.now)) }
+{
+    let mut out = [0i64; 64];
+    packed_strides_into(extents, &mut out);
     out
 }
 
@@ -99,6 +109,17 @@ impl Unit {
             return negative(bytes);
         }
         positive(bytes)
+    }
+
+    // Byte strides in elements, where they stand, with the axes reversed.
+    pub fn turn_to_elements(self, strides: &mut [i64])
+        requires { list_any (no_multiple self.size) strides.old ≡ false }
+        ensures { strides.new ≡ reversed (map (element_stride self.size) strides.old) }
+    {
+        for place in strides.iter_mut() {
+            *place = self.element_stride(*place);
+        }
+        strides.reverse();
     }
 
     // Byte strides in elements, with the axes reversed.

@@ -23,6 +23,9 @@ use Rattle.std.specs.Prelude.{Option, Some, None}
 digit_low : (b : ℕ) → is_digit b ≡ true → 48 ≤ b
 digit_low b d = let f = digit_of b d in omega arith
 
+pub digit_one : {t : List ℕ} {d : ℕ} {rest : List ℕ} → DigitHere t d rest → d < 10
+digit_one h = let f = digit_of h.byte h.is in let e = h.says in omega arith
+
 pub digit_short : {t : List ℕ} {d : ℕ} {rest : List ℕ} → DigitHere t d rest → length rest < length t
 digit_short h = let l = ap length h.form in omega arith
 

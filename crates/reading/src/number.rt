@@ -17,7 +17,11 @@ fn read_more(s: &[u8], first: u64) -> Option<(u64, &[u8])>
     let mut n = first;
     let mut rest = s;
     while let Some((d, behind)) = digit(rest) {
-        n = n.checked_mul(10)?.checked_add(d)?;
+        // Kept: a test, and nothing checked. `checked_mul` is a multiplication of 128 bits, and each `?` clears its answer, at each digit.
+        if n > (u64::MAX - d) / 10 {
+            return None;
+        }
+        n = n * 10 + d;
         rest = behind;
     }
     Some((n, rest))

@@ -3,13 +3,15 @@
 use mathlib.Core.Path.{sym, ap, ◌∙◌}
 use mathlib.Core.List.{List, [], map}
 use Rattle.std.specs.Prelude.{Some}
-use Prim.Native.Nat.{ℕ, ◌≤◌}
+use Prim.Native.Nat.{◌≤◌}
 use lib.IntN.{ℤ, pos}
-use Rattle.strided.specs.Base.{padded}
+use lib.ListN.{take}
 use Rattle.laws.specs.Refusals.Rows.{few-axes}
 use Rattle.numpy.specs.Numpy.{reversed, element_stride}
 use Rattle.numpy.specs.Readers.{saying}
-use Rattle.numpy.proofs.Telling.{told_19, told_1, told-all, some_size}
+use Rattle.numpy.specs.Reversing.{length-reversed, reverse-reversed}
+use Rattle.numpy.proofs.Fills.{turned-length}
+use Rattle.numpy.proofs.Telling.{front_turned, told_19, told_1, told-all, some_size}
 use Rattle.numpy.proofs.from_given.Goals as goal
 
 pub returns-then-given_wrong : goal.returns-then-given_wrong
@@ -24,14 +26,15 @@ returns-then-rank_over c = λ vs rest l r es m laid laid₂.
 
 pub invariant_of-unit : goal.invariant_of-unit
 invariant_of-unit c =
-    let n = c.requires in
+    let n = c.requires.strides in
     record { some = (some_size c.args.size _ (sym (c.given_wrong.ensures n.ts [] n.count n.row) ∙ c.if-given_wrong.false)).0 }
 
 pub returns : goal.returns
-returns c =
-    let few : c.args.rank ≤ 64 = few-axes _ c.rank_over.ensures c.if-rank_over.false in
-    λ vs rest l r es m laid laid₂.
+returns c = λ vs rest l r es m laid laid₂.
     let a = c.args in
+    let few : a.rank ≤ 64 = few-axes _ c.rank_over.ensures c.if-rank_over.false in
     told-all (saying a.size a.rank es (Some vs)) (sym (c.given_wrong.ensures vs rest l r) ∙ c.if-given_wrong.false) (sym c.rank_over.ensures ∙ c.if-rank_over.false)
-    (c.reversed-extents.ensures ∙ ap (λ (u : List ℕ). padded 64 0 (reversed u)) (laid few))
-    (c.element_strides-strides.ensures ∙ ap (λ (u : List ℤ). padded 64 (pos 0) (reversed (map (element_stride a.size) u))) (laid₂ few))
+    (front_turned 0 a.extents.now c.reverse.new.self (reversed es) a.rank
+    (c.reverse.ensures.after ∙ reverse-reversed (take a.rank a.extents.now) ∙ ap reversed (laid few)) (length-reversed es ∙ m) few (c.requires.zeros.0 few))
+    (front_turned (pos 0) a.strides.now c.turn_to_elements.new.strides (reversed (map (element_stride a.size) vs)) a.rank
+    (c.turn_to_elements.ensures ∙ ap (λ (u : List ℤ). reversed (map (element_stride a.size) u)) (laid₂ few)) (turned-length (element_stride a.size) vs ∙ l) few (c.requires.zeros.1 few))

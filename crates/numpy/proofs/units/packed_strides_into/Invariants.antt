@@ -1,4 +1,4 @@
--- The invariants of `units::packed_strides`.
+-- The invariants of `units::packed_strides_into`.
 use mathlib.Core.Path.{◌≡◌}
 use mathlib.Core.List.{map}
 use Prim.Native.Nat.{◌^◌, ◌≤◌, min}
@@ -7,7 +7,7 @@ use lib.ListN.{length, take}
 use Rattle.strided.specs.Base.{padded}
 use Rattle.strided.specs.Layout.{total}
 use Rattle.numpy.specs.Units.{firsts}
-use Rattle.numpy.proofs.units.packed_strides.Given as goal
+use Rattle.numpy.proofs.units.packed_strides_into.Given as goal
 
 abbrev pub invariant-loop-i : goal.invariant-loop-i
 invariant-loop-i l =

@@ -1,4 +1,4 @@
--- `numpy::units::packed_strides` meets its contract: the step is the product of the extents so far, which fits wherever it is stored.
+-- `numpy::units::packed_strides_into` meets its contract: the step is the product of the extents so far, which fits wherever it is stored.
 -- Assumes nothing.
 use mathlib.Core.Path.{◌≡◌, ◌∙◌}
 use mathlib.Core.List.{map}
@@ -10,15 +10,15 @@ use mir.Facts.{to_z-of_z}
 use Rattle.strided.specs.Layout.{total}
 use Rattle.numpy.specs.Units.{firsts}
 use Rattle.numpy.proofs.Fills.{filling_turn, filling_end, packed-length, packed-at, step-near, step_turn}
-use Rattle.numpy.proofs.units.packed_strides.Goals as goal
+use Rattle.numpy.proofs.units.packed_strides_into.Goals as goal
 use mir.Syntax.{w64}
 
 pub loop-i-preserved : goal.loop-i-preserved
 loop-i-preserved c =
     let whole : let es = c.args.extents.now in (c.loop-i.step ≡ total (take c.loop-i.i es)) × (c.loop-i.step < 2 ^ 63) = let es = c.args.extents.now in
     let h = c.loop-i-test.true in
-    let n = c.requires.1 c.loop-i.i h in
-    let e = step-near es c.loop-i.i c.loop-i.step c.requires.1 h c.loop-i.invariant.2 in
+    let n = c.requires.near.1 c.loop-i.i h in
+    let e = step-near es c.loop-i.i c.loop-i.step c.requires.near.1 h c.loop-i.invariant.2 in
     (e, omega (arith, e, n)) in
     let es = c.args.extents.now in
     let i = c.loop-i.i in
@@ -27,7 +27,7 @@ loop-i-preserved c =
     let more : i + 1 ≤ length es = omega (arith, h) in
     let q = to_z-of_z {w = w64} (record { sfits = c.positive.type_inv }) ∙ c.positive.ensures ∙ packed-at es i c.loop-i.step h w.0 in (
       more,
-      filling_turn (pos 0) (map pos (firsts 1 es)) (length es) i (packed-length es) c.requires.0 h c.loop-i.invariant.1 q,
+      filling_turn (pos 0) (map pos (firsts 1 es)) (length es) i (packed-length es) c.requires.near.0 h c.loop-i.invariant.1 q,
       step_turn es i c.loop-i.step _ h w.0 c.mul_cap-step.ensures,
     )
 
